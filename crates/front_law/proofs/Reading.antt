@@ -24,52 +24,83 @@ use Rattle.front_law.specs.Written.{WrittenIsRead}
 
 -- A line that says something behind a front is no line of one.
 
-apart : (line more verb rest : List ℕ) → drop_spaces line ≡ verb ++ rest → ((x : List ℕ) → goes_on (verb ++ x) ≡ false) → goes_on (line ++ 10 ∷ more) ≡ false
-apart [] more verb rest is none = refl
-apart (b ∷ line) more verb rest is none = by (b == 32) refl
-  where
-    by : (space : Bool) → (b == 32) ≡ space → goes_on ((b ∷ line) ++ 10 ∷ more) ≡ false
-    by true same = subst (λ n. goes_on ((n ∷ line) ++ 10 ∷ more) ≡ false) (sym (eqb-true b 32 same)) refl
-    by false other =
-        let whole : b ∷ line ≡ verb ++ rest = sym (ap (λ (space : Bool). if space then drop_spaces line else b ∷ line) other) ∙ is in
-        ap goes_on (ap (λ (l : List ℕ). l ++ 10 ∷ more) whole ∙ append_assoc verb rest (10 ∷ more)) ∙ none (rest ++ 10 ∷ more)
+-- Some lines are told by how they begin: an empty one, one that begins with a space, and what says something are none of these.
+pub record IsApart (G : List ℕ → Bool) : Type 0 where
+  pub nothing : G [] ≡ false
+  pub empty : (x : List ℕ) → G (10 ∷ x) ≡ false
+  pub space : (x : List ℕ) → G (32 ∷ x) ≡ false
+  pub start : (x : List ℕ) → G (codes "start" ++ x) ≡ false
+  pub end : (x : List ℕ) → G (codes "end" ++ x) ≡ false
+  pub cancel : (x : List ℕ) → G (codes "cancel" ++ x) ≡ false
+  pub name : (x : List ℕ) → G (codes "name" ++ x) ≡ false
+
+-- lines of a front are
+pub fronts_apart : IsApart goes_on
+fronts_apart = record {
+  nothing = refl;
+  empty = λ x. refl;
+  space = λ x. refl;
+  start = λ x. refl;
+  end = λ x. refl;
+  cancel = λ x. refl;
+  name = λ x. refl;
+}
 
 some_none : {X : Type 0} {x : X} → ◌≡◌ {A = Option X} None (Some x) → ⊥
 some_none is = cc
 
--- the first word of what is said
-verb_of : (verb : List ℕ) (words : List Word) (said : Said) → said_by verb words ≡ Some said → (x : List ℕ) → goes_on (verb ++ x) ≡ false
-verb_of verb words said is x = one (bytes_eq verb (codes "start")) refl
-  where
-    same : (v : List ℕ) → bytes_eq verb v ≡ true → verb ≡ v
-    same v eq = (bytes_eq-Decides verb v).0 eq
+module _ (G : List ℕ → Bool) (g : IsApart G) where
+  apart : (line more verb rest : List ℕ) → drop_spaces line ≡ verb ++ rest → ((x : List ℕ) → G (verb ++ x) ≡ false) → G (line ++ 10 ∷ more) ≡ false
+  apart [] more verb rest is none = g.empty more
+  apart (b ∷ line) more verb rest is none = by (b == 32) refl
+    where
+      by : (space : Bool) → (b == 32) ≡ space → G ((b ∷ line) ++ 10 ∷ more) ≡ false
+      by true same = subst (λ n. G ((n ∷ line) ++ 10 ∷ more) ≡ false) (sym (eqb-true b 32 same)) (g.space (line ++ 10 ∷ more))
+      by false other =
+          let whole : b ∷ line ≡ verb ++ rest = sym (ap (λ (space : Bool). if space then drop_spaces line else b ∷ line) other) ∙ is in
+          ap G (ap (λ (l : List ℕ). l ++ 10 ∷ more) whole ∙ append_assoc verb rest (10 ∷ more)) ∙ none (rest ++ 10 ∷ more)
 
-    four : (b : Bool) → bytes_eq verb (codes "name") ≡ b → (if bytes_eq verb (codes "name") then name_of words else None) ≡ Some said → goes_on (verb ++ x) ≡ false
-    four true eq now = subst (λ (v : List ℕ). goes_on (v ++ x) ≡ false) (sym (same (codes "name") eq)) refl
-    four false eq now = absurd (some_none (sym (ap (λ (b : Bool). if b then name_of words else None) eq) ∙ now))
+  -- the first word of what is said
+  verb_of : (verb : List ℕ) (words : List Word) (said : Said) → said_by verb words ≡ Some said → (x : List ℕ) → G (verb ++ x) ≡ false
+  verb_of verb words said is x = one (bytes_eq verb (codes "start")) refl
+    where
+      same : (v : List ℕ) → bytes_eq verb v ≡ true → verb ≡ v
+      same v eq = (bytes_eq-Decides verb v).0 eq
 
-    three : (b : Bool) → bytes_eq verb (codes "cancel") ≡ b →
-        (if bytes_eq verb (codes "cancel") then cancel_of words else if bytes_eq verb (codes "name") then name_of words else None) ≡ Some said → goes_on (verb ++ x) ≡ false
-    three true eq now = subst (λ (v : List ℕ). goes_on (v ++ x) ≡ false) (sym (same (codes "cancel") eq)) refl
-    three false eq now = four (bytes_eq verb (codes "name")) refl
-        (sym (ap (λ (b : Bool). if b then cancel_of words else if bytes_eq verb (codes "name") then name_of words else None) eq) ∙ now)
+      four : (b : Bool) → bytes_eq verb (codes "name") ≡ b → (if bytes_eq verb (codes "name") then name_of words else None) ≡ Some said → G (verb ++ x) ≡ false
+      four true eq now = subst (λ (v : List ℕ). G (v ++ x) ≡ false) (sym (same (codes "name") eq)) (g.name x)
+      four false eq now = absurd (some_none (sym (ap (λ (b : Bool). if b then name_of words else None) eq) ∙ now))
 
-    two : (b : Bool) → bytes_eq verb (codes "end") ≡ b →
-        (if bytes_eq verb (codes "end") then end_of words else if bytes_eq verb (codes "cancel") then cancel_of words else if bytes_eq verb (codes "name") then name_of words else None) ≡ Some said
-        → goes_on (verb ++ x) ≡ false
-    two true eq now = subst (λ (v : List ℕ). goes_on (v ++ x) ≡ false) (sym (same (codes "end") eq)) refl
-    two false eq now = three (bytes_eq verb (codes "cancel")) refl
-        (sym (ap (λ (b : Bool). if b then end_of words else if bytes_eq verb (codes "cancel") then cancel_of words else if bytes_eq verb (codes "name") then name_of words else None) eq) ∙ now)
+      three : (b : Bool) → bytes_eq verb (codes "cancel") ≡ b →
+          (if bytes_eq verb (codes "cancel") then cancel_of words else if bytes_eq verb (codes "name") then name_of words else None) ≡ Some said → G (verb ++ x) ≡ false
+      three true eq now = subst (λ (v : List ℕ). G (v ++ x) ≡ false) (sym (same (codes "cancel") eq)) (g.cancel x)
+      three false eq now = four (bytes_eq verb (codes "name")) refl
+          (sym (ap (λ (b : Bool). if b then cancel_of words else if bytes_eq verb (codes "name") then name_of words else None) eq) ∙ now)
 
-    one : (b : Bool) → bytes_eq verb (codes "start") ≡ b → goes_on (verb ++ x) ≡ false
-    one true eq = subst (λ (v : List ℕ). goes_on (v ++ x) ≡ false) (sym (same (codes "start") eq)) refl
-    one false eq = two (bytes_eq verb (codes "end")) refl
-        (sym (ap (λ (b : Bool). if b then start_of words else if bytes_eq verb (codes "end") then end_of words else if bytes_eq verb (codes "cancel") then cancel_of words else if bytes_eq verb (codes "name") then name_of words else None) eq) ∙ is)
+      two : (b : Bool) → bytes_eq verb (codes "end") ≡ b →
+          (if bytes_eq verb (codes "end") then end_of words else if bytes_eq verb (codes "cancel") then cancel_of words else if bytes_eq verb (codes "name") then name_of words else None) ≡ Some said
+          → G (verb ++ x) ≡ false
+      two true eq now = subst (λ (v : List ℕ). G (v ++ x) ≡ false) (sym (same (codes "end") eq)) (g.end x)
+      two false eq now = three (bytes_eq verb (codes "cancel")) refl
+          (sym (ap (λ (b : Bool). if b then end_of words else if bytes_eq verb (codes "cancel") then cancel_of words else if bytes_eq verb (codes "name") then name_of words else None) eq) ∙ now)
 
-says_apart : (line more : List ℕ) (said : Said) → Says line said → goes_on (line ++ 10 ∷ more) ≡ false
-says_apart line more said ([], are, is) = absurd (some_none is)
-says_apart line more said (bare verb ∷ words, (rest, first, after), is) = apart line more verb rest first.stands (verb_of verb words said is)
-says_apart line more said (quoted text ∷ words, are, is) = absurd (some_none is)
+      one : (b : Bool) → bytes_eq verb (codes "start") ≡ b → G (verb ++ x) ≡ false
+      one true eq = subst (λ (v : List ℕ). G (v ++ x) ≡ false) (sym (same (codes "start") eq)) (g.start x)
+      one false eq = two (bytes_eq verb (codes "end")) refl
+          (sym (ap (λ (b : Bool). if b then start_of words else if bytes_eq verb (codes "end") then end_of words else if bytes_eq verb (codes "cancel") then cancel_of words else if bytes_eq verb (codes "name") then name_of words else None) eq) ∙ is)
+
+  says_apart : (line more : List ℕ) (said : Said) → Says line said → G (line ++ 10 ∷ more) ≡ false
+  says_apart line more said ([], are, is) = absurd (some_none is)
+  says_apart line more said (bare verb ∷ words, (rest, first, after), is) = apart line more verb rest first.stands (verb_of verb words said is)
+  says_apart line more said (quoted text ∷ words, are, is) = absurd (some_none is)
+
+  -- lines that say something, or none
+  joined_apart : (lines : List (List ℕ)) (rest : List ℕ) → ((line : List ℕ) (more : List (List ℕ)) → lines ≡ line ∷ more → (said : Said) × Says line said) → G rest ≡ false →
+      G (joined lines ++ rest) ≡ false
+  joined_apart [] rest each none = none
+  joined_apart (line ∷ lines) rest each none =
+      let s = each line lines refl in
+      ap G (append_assoc (line ++ 10 ∷ []) (joined lines) rest ∙ append_assoc line (10 ∷ []) (joined lines ++ rest)) ∙ says_apart line (joined lines ++ rest) s.0 s.1
 
 -- what a line tells it says
 said_in : (o : ObjectForm) (e : Begun) (heard : Heard) (line : List ℕ) (after : Heard) → Tells o e heard line after → (said : Said) × Says line said
@@ -77,14 +108,6 @@ said_in o e heard line after (start_told says is few) = (_, says)
 said_in o e heard line after (end_told says runs is) = (_, says)
 said_in o e heard line after (cancel_told says is) = (_, says)
 said_in o e heard line after (name_told says rests is spelled) = (_, says)
-
--- lines that say something, or none
-joined_apart : (lines : List (List ℕ)) (rest : List ℕ) → ((line : List ℕ) (more : List (List ℕ)) → lines ≡ line ∷ more → (said : Said) × Says line said) → goes_on rest ≡ false →
-    goes_on (joined lines ++ rest) ≡ false
-joined_apart [] rest each none = none
-joined_apart (line ∷ lines) rest each none =
-    let s = each line lines refl in
-    ap goes_on (append_assoc (line ++ 10 ∷ []) (joined lines) rest ∙ append_assoc line (10 ∷ []) (joined lines ++ rest)) ∙ says_apart line (joined lines ++ rest) s.0 s.1
 
 heads : (a b : List ℕ) (xs ys : List (List ℕ)) → a ∷ xs ≡ b ∷ ys → a ≡ b
 heads a b xs ys is = cc
@@ -116,7 +139,7 @@ and_parts : (a b c : Bool) → (a && b) ≡ false → (b ≡ false → c ≡ fal
 and_parts true b c is on = on is
 and_parts false b c is on = refl
 
-front_begins : (text more verb : List ℕ) → begins (text ++ more) verb ≡ false → begins text verb ≡ false
+pub front_begins : (text more verb : List ℕ) → begins (text ++ more) verb ≡ false → begins text verb ≡ false
 front_begins text more [] is = is
 front_begins [] more (v ∷ verb) is = refl
 front_begins (b ∷ text) more (v ∷ verb) is = and_parts (b == v) (begins (text ++ more) verb) (begins text verb) is (front_begins text more verb)
@@ -128,7 +151,7 @@ or_parts false b is = (refl, is)
 or_both : (a b : Bool) → a ≡ false → b ≡ false → (a || b) ≡ false
 or_both a b x y = ap (λ (z : Bool). z || b) x ∙ y
 
-front_apart : (text more : List ℕ) → goes_on (text ++ more) ≡ false → goes_on text ≡ false
+pub front_apart : (text more : List ℕ) → goes_on (text ++ more) ≡ false → goes_on text ≡ false
 front_apart text more is =
     let all = text ++ more in
     let a = or_parts (begins all (codes "object ")) (begins all (codes "source ") || (begins all (codes "part ") || goes_on_behind_parts all)) is in
@@ -147,19 +170,19 @@ front_apart text more is =
     (or_both (begins text (codes "carried ")) _ (not (codes "carried ") f.0)
     (or_both (begins text (codes "client ")) _ (not (codes "client ") g.0) (not (codes "kept ") g.1)))))))
 
--- what steps add goes on with no line of a front
-adds_apart : (o : ObjectForm) (f : Opening) (lines : List ℕ) → Adds o f lines → goes_on lines ≡ false
-adds_apart o f lines a =
+-- what steps add goes on with no such line
+pub adds_apart : (G : List ℕ → Bool) → IsApart G → (o : ObjectForm) (f : Opening) (lines : List ℕ) → Adds o f lines → G lines ≡ false
+adds_apart G g o f lines a =
     let told = steps_are_told o (begun_by f) nothing_heard a.old a.new lines a.all a.names a.stands in
-    ap goes_on (told.cut ∙ sym (append-nil (joined told.lines))) ∙ joined_apart told.lines [] (first_told o (begun_by f) nothing_heard _ told.lines told.told) refl
+    ap G (told.cut ∙ sym (append-nil (joined told.lines))) ∙ joined_apart G g told.lines [] (first_told o (begun_by f) nothing_heard _ told.lines told.told) g.nothing
 
 read_apart : (o : ObjectForm) (h : House) (text : List ℕ) (g : Opening) (came : Recovered) (read : IsRead o h text g came) → goes_on read.behind ≡ false
 read_apart o h text g came read =
     let is = read.is in
-    ap goes_on is.cut ∙ joined_apart is.lines is.rest (first_played o (begun_by g) _ is.lines is.played) (ap goes_on read.whole)
+    ap goes_on is.cut ∙ joined_apart goes_on fronts_apart is.lines is.rest (first_played o (begun_by g) _ is.lines is.played) (ap goes_on read.whole)
 
 pub written_is_read : WrittenIsRead
 written_is_read o h f g text lines found lost came named rows adds cut text_is read =
-    let ends = front_apart found lost (ap goes_on (sym cut) ∙ adds_apart o f lines adds) in
+    let ends = front_apart found lost (ap goes_on (sym cut) ∙ adds_apart goes_on fronts_apart o f lines adds) in
     let on = front_there o text read.behind g read.rows (read_apart o h text g came read) read.text_is in
     (found_of o text read.behind g named on f found rows ends text_is).0

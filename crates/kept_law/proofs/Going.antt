@@ -5,6 +5,7 @@ use Rattle.std.proofs.lemmas.Bool.{eqb-false}
 use Rattle.std.proofs.lemmas.List.{append_cancel_left}
 use Rattle.std.proofs.lemmas.Option.{same_Some, slice_get_within}
 use Rattle.decl_core.specs.ObjectForm.{ObjectForm}
+use Rattle.decl_core.specs.ObjectMap.{object_of}
 use Rattle.front_core.specs.Front.{Opening}
 use Rattle.live_core.specs.Epochs.{numbered_from}
 use Rattle.recover_core.specs.Playing.{begun_by}
@@ -27,7 +28,8 @@ use Rattle.keep_loop.specs.Seen.{Happened}
 use Rattle.keep_loop.specs.Stands.{SurvivesSince}
 use Rattle.keep_loop.proofs.Crashed.{survives_since}
 use Rattle.told_core.specs.Deeds.{Texts}
-use Rattle.told_core.specs.Moves.{Moves, IsFrontAt}
+use Rattle.told_core.specs.Custody.{Custodies, held_lines, held_lines_in}
+use Rattle.told_core.specs.Moves.{Moves, FrontsHeld}
 use Rattle.told_core.specs.State.{State}
 use Rattle.told_core.proofs.Turning.{turns_move}
 use Rattle.table_core.specs.Moves.{Gives, Fronts}
@@ -77,7 +79,7 @@ one_went old new (Noted note) said added j h gives never there =
     moves_went old.objects.items new.objects.items added j h (turns_move (seen old) (seen new) (Noted note) said added gives) there
 one_went old new (Changes journal front true) said added j h gives never there =
     stays_went old.objects.items new.objects.items added j h
-    (ap (λ (l : List Scene). slice_get l j) gives.2.left ∙ set_other old.objects.items journal j gives.2.after never) gives.1 there
+    (ap (λ (l : List Scene). slice_get l j) gives.2.begins.left ∙ set_other old.objects.items journal j gives.2.begins.after never) gives.1 there
 one_went old new (Changes journal front false) said added j h gives never there =
     stays_went old.objects.items new.objects.items added j h (ap (λ (s : State). slice_get s.objects j) gives.left) gives.lines there
 
@@ -110,7 +112,7 @@ stood_changes old new journal front said added j o gives s = by (journal == j) r
     by false other = stood_went old new j o s (to j added)
         (one_went old new (Changes journal front true) said added j s.scene gives (λ e. absurd (let apart = eqb-false journal j other in omega (arith, apart, e))) s.there)
     by true same =
-        let begins = gives.2 in
+        let begins = gives.2.begins in
         let at : journal ≡ j = eqb-true journal j same in
         let there : slice_get old.objects.items j ≡ Some begins.before = subst (λ n. slice_get old.objects.items n ≡ Some begins.before) at begins.there in
         let is : s.scene ≡ begins.before = same_Some s.scene begins.before (sym s.there ∙ there) in
@@ -194,7 +196,8 @@ next_is_served first last j o earlier since front runs stood none =
     let change = parts.2 in
     let mid : Table = change.0 in
     let gave = change.1 in
-    let begins = gave.2 in
+    let begins = gave.2.begins in
+    let text = gave.2.fronts in
     let s = objects_stand first at earlier j o parts.1 stood in
     let same : begins.before ≡ s.scene = same_Some begins.before s.scene (sym begins.there ∙ s.there) in
     record {
@@ -202,6 +205,9 @@ next_is_served first last j o earlier since front runs stood none =
       runs = change.2;
       before = begins.before;
       after = begins.after;
+      front = text.front;
+      told = text.told ∙ ap (λ (x : Option Scene). text.front ++ held_lines_in at.custody j x) begins.there
+          ∙ ap (λ (c : Custodies). text.front ++ held_lines (object_of begins.before.hall.object) (slice_get c j)) (sym gave.2.custody);
       begun = begins.begun;
       served = record {
         scene = begins.after;
@@ -295,10 +301,12 @@ reads_in first last j o stood (Some front) before found answered later runs b al
     read_behind first last j o stood front before found answered later runs b all only
 
 -- what is found of one that has just begun anew, of which the object was not told
-read_ahead : (last : Table) (j : ℕ) (o : ObjectForm) (front found : List ℕ) → Stood last j o → IsFrontAt last.objects.items j front → found ≡ [] → IsReadAhead j o front last found
+read_ahead : (last : Table) (j : ℕ) (o : ObjectForm) (front found : List ℕ) → Stood last j o → FrontsHeld (seen last) j front → found ≡ [] → IsReadAhead j o front last found
 read_ahead last j o front found s at none = record {
   stood = s;
-  written = subst (λ (x : Scene). IsNextFront x front) (same_Some at.object s.scene (sym at.there ∙ s.there)) at.stands;
+  front = at.front;
+  told = at.told ∙ ap (λ (x : Option Scene). at.front ++ held_lines_in last.custody j x) s.there;
+  written = subst (λ (x : Scene). IsNextFront x at.front) (same_Some at.stands.object s.scene (sym at.stands.there ∙ s.there)) at.stands.stands;
   nothing = none;
   recovered = λ h f bytes r b. nothing_played o (begun_by f) b.lines (record { steps = b.steps; running = None }) (no_lines b.lines b.rest (sym none ∙ b.cut)) b.played;
   readable = λ h f before line fault refused.

@@ -1,6 +1,6 @@
 -- Keys over turns.
-use Rattle.std.proofs.Common.{◌≡◌, ◌≢◌, inl, inr, ◌∙◌, ap, sym, subst, refl, arith, ℕ, ◌<◌, List, [], ◌∷◌, length, eqb-true}
-use Rattle.std.specs.Prelude.{Bool, true, false, ◌==◌, Some, map, slice_get, slice_set}
+use Rattle.std.proofs.Common.{◌≡◌, ◌≢◌, inl, inr, ◌∙◌, ap, sym, subst, refl, arith, ℕ, ◌<◌, List, [], ◌∷◌, ◌++◌, length, eqb-true}
+use Rattle.std.specs.Prelude.{Bool, true, false, ◌==◌, Option, Some, map, slice_get, slice_set}
 use Rattle.std.proofs.lemmas.Bool.{eqb-false}
 use Rattle.std.proofs.lemmas.Option.{same_Some, slice_get_within}
 use Rattle.decl_core.specs.ObjectMap.{object_of}
@@ -20,7 +20,8 @@ use Rattle.post_core.specs.Turns.Asked.{Heard, Noted, Changes}
 use Rattle.post_core.specs.declared.served.LineEnd.{LineEnd}
 use Rattle.post_core.specs.declared.served.Note.{Note}
 use Rattle.told_core.specs.Deeds.{Texts}
-use Rattle.told_core.specs.Moves.{Begins}
+use Rattle.told_core.specs.Custody.{held_lines, held_lines_in}
+use Rattle.told_core.specs.Moves.{BeginsHeld}
 use Rattle.told_core.specs.State.{State}
 use Rattle.said_law.specs.Said.{Account, AllWent, SaysIn}
 use Rattle.table_core.specs.Moves.{Gives}
@@ -31,11 +32,11 @@ use Rattle.kept_law.proofs.Going.{get_at, set_at, set_other}
 use Rattle.kept_law.proofs.Starting.{behind_stands}
 
 -- one turn
-record Keeps (new : Table) (j : ℕ) (f : Opening) (asked : Asked) (added : Texts) (account : Account) (old : Scene) (told : List KeyEvent) : Type 0 where
+record Keeps (old_table new : Table) (j : ℕ) (f : Opening) (asked : Asked) (added : Texts) (account : Account) (old : Scene) (told : List KeyEvent) : Type 0 where
   scene : Scene
   there : slice_get new.objects.items j ≡ Some scene
   events : List KeyEvent
-  names : NamesIn j asked old told added (account j) scene events
+  names : NamesIn j (slice_get old_table.custody j) asked old told added (account j) scene events
   keys : HaveKeys f events scene.guests
 
 module _ (old new : Table) (j : ℕ) (f : Opening) (h : Scene) (told : List KeyEvent) (there : slice_get old.objects.items j ≡ Some h) (keys : HaveKeys f told h.guests) where
@@ -45,50 +46,53 @@ module _ (old new : Table) (j : ℕ) (f : Opening) (h : Scene) (told : List KeyE
       let within : j < length new.objects.items = let at = slice_get_within old.objects.items j h there in let long = went.count in omega (arith, at, long) in
       get_at new.objects.items j within
 
-  heard : (who : ℕ) (line : List ℕ) (end : LineEnd) (added : Texts) (account : Account) → AllWent old.objects.items added account new.objects.items → Keeps new j f (Heard who line end) added account h told
+  heard : (who : ℕ) (line : List ℕ) (end : LineEnd) (added : Texts) (account : Account) → AllWent old.objects.items added account new.objects.items → Keeps old new j f (Heard who line end) added account h told
   heard who line end added account went =
       let k = at_end added account went in
       let by = went.each j h k.0 there k.1 in
       record { scene = k.0; there = k.1; events = with_steps by.0 told; names = (by, refl); keys = steps_keep_keys f told h k.0 (to j added) by.0 keys }
 
-  noted : (note : Note) (added : Texts) (account : Account) → AllWent old.objects.items added account new.objects.items → Keeps new j f (Noted note) added account h told
+  noted : (note : Note) (added : Texts) (account : Account) → AllWent old.objects.items added account new.objects.items → Keeps old new j f (Noted note) added account h told
   noted note added account went =
       let k = at_end added account went in
       let by = went.each j h k.0 there k.1 in
       record { scene = k.0; there = k.1; events = with_steps by.0 told; names = (by, refl); keys = steps_keep_keys f told h k.0 (to j added) by.0 keys }
 
-  begins : (journal : ℕ) (front : List ℕ) (added : Texts) (account : Account) → Begins old.objects.items journal front new.objects.items → Keeps new j f (Changes journal front true) added account h told
-  begins journal front added account begun = by (journal == j) refl
+  begins : (journal : ℕ) (text : List ℕ) (added : Texts) (account : Account) → BeginsHeld (seen old) journal text (seen new) → Keeps old new j f (Changes journal text true) added account h told
+  begins journal text added account held = by (journal == j) refl
     where
-      by : (is : Bool) → (journal == j) ≡ is → Keeps new j f (Changes journal front true) added account h told
+      by : (is : Bool) → (journal == j) ≡ is → Keeps old new j f (Changes journal text true) added account h told
       by false other =
           let apart : journal ≢ j = λ e. absurd (let no = eqb-false journal j other in omega (arith, no, e)) in
           record {
             scene = h;
-            there = ap (λ (l : List Scene). slice_get l j) begun.left ∙ set_other old.objects.items journal j begun.after apart ∙ there;
+            there = ap (λ (l : List Scene). slice_get l j) held.begins.left ∙ set_other old.objects.items journal j held.begins.after apart ∙ there;
             events = told;
             names = inr (apart, refl, refl);
             keys = keys;
           }
       by true same =
           let at : journal ≡ j = eqb-true journal j same in
-          let here : slice_get old.objects.items j ≡ Some begun.before = subst (λ n. slice_get old.objects.items n ≡ Some begun.before) at begun.there in
-          let is : begun.before ≡ h = same_Some begun.before h (sym here ∙ there) in
-          let next : BeginsBy h front begun.after = subst (λ (x : Scene). BeginsBy x front begun.after) is begun.begun in
+          let here : slice_get old.objects.items j ≡ Some held.begins.before = subst (λ n. slice_get old.objects.items n ≡ Some held.begins.before) at held.begins.there in
+          let is : held.begins.before ≡ h = same_Some held.begins.before h (sym here ∙ there) in
+          let next : BeginsBy h held.fronts.front held.begins.after = subst (λ (x : Scene). BeginsBy x held.fronts.front held.begins.after) is held.begins.begun in
+          let told_so : text ≡ held.fronts.front ++ held_lines (object_of h.hall.object) (slice_get old.custody j) =
+          subst (λ n. text ≡ held.fronts.front ++ held_lines_in old.custody n (slice_get old.objects.items n)) at held.fronts.told
+          ∙ ap (λ (x : Option Scene). held.fronts.front ++ held_lines_in old.custody j x) there in
           record {
-            scene = begun.after;
-            there = ap (λ (l : List Scene). slice_get l j) begun.left ∙ ap (λ n. slice_get (slice_set old.objects.items n begun.after) j) at
-                ∙ set_at old.objects.items j begun.after begun.before here;
+            scene = held.begins.after;
+            there = ap (λ (l : List Scene). slice_get l j) held.begins.left ∙ ap (λ n. slice_get (slice_set old.objects.items n held.begins.after) j) at
+                ∙ set_at old.objects.items j held.begins.after held.begins.before here;
             events = epoch_began (map client_of h.guests.guests) ∷ told;
-            names = inl (at, next, refl);
-            keys = epoch_keeps_keys f told h.guests begun.after.guests keys (ap (λ (v : Guests). v.guests) next.followed.guests)
+            names = inl (at, record { front = held.fronts.front; told = told_so; begun = next }, refl);
+            keys = epoch_keeps_keys f told h.guests held.begins.after.guests keys (ap (λ (v : Guests). v.guests) next.followed.guests)
                 (subst (λ (v : Guests). IsSound v) (sym next.followed.guests) (sound_renewed h.guests keys.sound));
           }
 
-  keeps : (asked : Asked) (said added : Texts) (account : Account) → Gives old asked said added new → SaysIn (seen old) asked said added account (seen new) → Keeps new j f asked added account h told
+  keeps : (asked : Asked) (said added : Texts) (account : Account) → Gives old asked said added new → SaysIn (seen old) asked said added account (seen new) → Keeps old new j f asked added account h told
   keeps (Heard who line end) said added account gives says = heard who line end added account says.went
   keeps (Noted note) said added account gives says = noted note added account says.went
-  keeps (Changes journal front true) said added account gives says = begins journal front added account gives.2
+  keeps (Changes journal text true) said added account gives says = begins journal text added account gives.2
   keeps (Changes journal front false) said added account gives says = record {
     scene = h;
     there = ap (λ (x : State). slice_get x.objects j) gives.left ∙ there;

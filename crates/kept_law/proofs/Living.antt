@@ -1,6 +1,6 @@
 -- Objects over all their epochs and lives.
 use Rattle.std.proofs.Common.{◌≡◌, inl, inr, ◌∙◌, ap, sym, subst, refl, arith, ℕ, ◌<◌, List, [], ◌∷◌, ◌++◌, length, append_assoc, eqb-true}
-use Rattle.std.specs.Prelude.{Bool, true, false, ◌==◌, Some, slice_get}
+use Rattle.std.specs.Prelude.{Bool, true, false, ◌==◌, Option, Some, slice_get}
 use Rattle.std.proofs.lemmas.Bool.{eqb-false}
 use Rattle.std.proofs.lemmas.List.{append-nil, length-map}
 use Rattle.std.proofs.lemmas.Option.{same_Some, slice_get_within}
@@ -32,7 +32,8 @@ use Rattle.post_core.specs.Turns.{Asked, Turn, Runs}
 use Rattle.post_core.specs.Turns.Asked.{Heard, Noted, Changes}
 use Rattle.keep_loop.specs.Epochs.{BeginsNot, BeginsNone, change_to}
 use Rattle.told_core.specs.Deeds.{Texts}
-use Rattle.told_core.specs.Moves.{Begins}
+use Rattle.told_core.specs.Custody.{held_lines, held_lines_in}
+use Rattle.told_core.specs.Moves.{BeginsHeld}
 use Rattle.told_core.specs.State.{State}
 use Rattle.said_law.specs.Said.{Account, Went, AllWent, SaysIn}
 use Rattle.said_law.proofs.Going.{all_more}
@@ -114,12 +115,14 @@ module _ (old new : Table) (j : ℕ) (o : ObjectForm) (b : Begun) (earlier : Lis
   lives_still turn none lines quiet same = lives_in turn none lines [] l.scene (same ∙ l.there) (subst (λ (x : List ℕ). Went l.scene x [] l.scene) (sym quiet) (rests, refl))
 
   -- where it begins the next one
-  lives_changed : (front : List ℕ) (said added : Texts) → said ≡ [] → added ≡ [] → Begins old.objects.items j front new.objects.items → LivesBy (Changes j front true) said added []
-  lives_changed front said added quiet nothing begins =
+  lives_changed : (front : List ℕ) (said added : Texts) → said ≡ [] → added ≡ [] → BeginsHeld (seen old) j front (seen new) → LivesBy (Changes j front true) said added []
+  lives_changed front said added quiet nothing held =
+      let begins = held.begins in
+      let bare : List ℕ = held.fronts.front in
       let s = l.scene in
       let s' = begins.after in
       let same : begins.before ≡ s = same_Some begins.before s (sym begins.there ∙ l.there) in
-      let by : BeginsBy s front s' = subst (λ (x : Scene). BeginsBy x front s') same begins.begun in
+      let by : BeginsBy s bare s' = subst (λ (x : Scene). BeginsBy x bare s') same begins.begun in
       let w = by.written in
       let f = front_of s (next_epoch s) w.runs (next_base s) in
       let stands = followed_stands o b l.heard s s' s'.past w.runs (next_epoch s) (next_base s) l.stands by.followed w.events in
@@ -131,10 +134,14 @@ module _ (old new : Table) (j : ℕ) (o : ObjectForm) (b : Begun) (earlier : Lis
       subst (λ x. Follows x d now) l.stands.object
       (begun_follows s.hall s'.hall (told_by b l.heard.steps) l.base now s'.past by.followed.begun (by.followed.held (told_by b l.heard.steps) l.stands.held).kept
       (ap events_of w.events) refl) in
-      let text : front ≡ front_text o f = w.added ∙ ap (λ x. front_text x f) l.stands.object in
+      let text : front ≡ front_text o f ++ held_lines o (slice_get old.custody j) =
+      held.fronts.told ∙ ap (λ (x : Option Scene). bare ++ held_lines_in old.custody j x) l.there
+      ∙ ap (λ (x : ObjectForm). bare ++ held_lines x (slice_get old.custody j)) l.stands.object
+      ∙ ap (λ (x : List ℕ). x ++ held_lines o (slice_get old.custody j)) (w.added ∙ ap (λ x. front_text x f) l.stands.object) in
       lived_on new j o (record { asked = Changes j front true; said = said; added = added } ∷ []) b (first_opening d earlier) (all_ends o d earlier) (begun_by f)
       (inr (record {
         front = f;
+        held = slice_get old.custody j;
         before = [];
         since = [];
         cut = ap (λ (x : Texts). record { asked = Changes j front true; said = x; added = added } ∷ []) quiet
@@ -172,11 +179,10 @@ module _ (old new : Table) (j : ℕ) (o : ObjectForm) (b : Begun) (earlier : Lis
       by false other =
           let apart : journal ≡ j → ⊥ = λ e. absurd (let no = eqb-false journal j other in omega (arith, no, e)) in
           lives_still (record { asked = Changes journal front true; said = said; added = added }) (apart, tt) (to j added) (ap (to j) gives.1)
-          (ap (λ (x : List Scene). slice_get x j) gives.2.left ∙ set_other old.objects.items journal j gives.2.after apart)
+          (ap (λ (x : List Scene). slice_get x j) gives.2.begins.left ∙ set_other old.objects.items journal j gives.2.begins.after apart)
       by true same =
           let at : journal ≡ j = eqb-true journal j same in
-          let begins : Begins old.objects.items j front new.objects.items =
-          subst (λ n. Begins old.objects.items n front new.objects.items) at gives.2 in
+          let begins : BeginsHeld (seen old) j front (seen new) = subst (λ n. BeginsHeld (seen old) n front (seen new)) at gives.2 in
           subst (λ n. LivesBy (Changes n front true) said added []) (sym at) (lives_changed front said added gives.0 gives.1 begins)
   lives_one (Changes journal front false) said added account gives says =
       none_happened (Changes journal front false) said added account (says.1 j)
@@ -191,6 +197,7 @@ none_both j (t ∷ ts) us none more = (none.0, none_both j ts us none.1 more)
 begun_then : (o : ObjectForm) (j : ℕ) (t : Turn) (turns : List Turn) (was mid now : Begun) → IsBegunIn o j (t ∷ []) was mid → IsBegunIn o j turns mid now → IsBegunIn o j (t ∷ turns) was now
 begun_then o j t turns was mid now first (inr m) = inr (record {
   front = m.front;
+  held = m.held;
   before = t ∷ m.before;
   since = m.since;
   cut = ap (λ (l : List Turn). t ∷ l) m.cut;
@@ -200,9 +207,10 @@ begun_then o j t turns was mid now first (inr m) = inr (record {
 begun_then o j t turns was mid now (inl (none, same)) (inl (more, on)) = inl ((none.0, more), on ∙ same)
 begun_then o j t turns was mid now (inr m) (inl (more, on)) = inr (record {
   front = m.front;
+  held = m.held;
   before = m.before;
   since = m.since ++ turns;
-  cut = ap (λ (l : List Turn). l ++ turns) m.cut ∙ append_assoc m.before (change_to j (front_text o m.front) ∷ m.since) turns;
+  cut = ap (λ (l : List Turn). l ++ turns) m.cut ∙ append_assoc m.before (change_to j (front_text o m.front ++ held_lines o m.held) ∷ m.since) turns;
   none = none_both j m.since turns m.none more;
   is = on ∙ m.is;
 })

@@ -1,6 +1,7 @@
 -- What a crash leaves of the objects of a table that a loop serves.
 use Rattle.std.specs.Prelude.{◌≡◌, ◌⊎◌, ◌<◌, ℕ, true, Option, Some, None, List, [], ◌∷◌, ◌++◌, slice_get}
 use Rattle.decl_core.specs.ObjectForm.{ObjectForm}
+use Rattle.decl_core.specs.ObjectMap.{object_of}
 use Rattle.front_core.specs.Front.{Opening}
 use Rattle.audit_core.specs.declared.verdict.Fault.{Fault}
 use Rattle.replay_core.specs.Steps.{Step, Begun, Heard, nothing_heard}
@@ -21,6 +22,7 @@ use Rattle.keep_loop.specs.declared.keep.Limits.{Limits}
 use Rattle.keep_loop.specs.Seen.{Happened}
 use Rattle.keep_loop.specs.Epochs.{rules_of, front_in, since_in, stored_since, BeginsNone, change_to}
 use Rattle.keep_loop.specs.Stands.{IsHonest, IsBetween, SurvivesSince}
+use Rattle.told_core.specs.Custody.{held_lines}
 use Rattle.table_core.specs.Moves.{Gives, Fronts}
 use Rattle.table_core.specs.declared.table.Table.{Table}
 
@@ -71,13 +73,15 @@ LinesAreRead =
     (first last : Table) (j : ℕ) (ts us : List Turn) (found : List ℕ) → Runs Gives first (ts ++ us) last →
     Begins (added_by j ts) found → Begins found (added_by j (ts ++ us)) → AreRead first j ts us found
 
--- An object has begun its next epoch by this front, which tells it as it then was, and stands behind it; and turns go on
--- from there.
-pub record GoesOnBehind (j : ℕ) (o : ObjectForm) (front : List ℕ) (since : List Turn) (last : Table) : Type 0 where
+-- An object has begun its next epoch by this text: a front, which tells it as it then was, and behind that the lines of what
+-- is held of it. It stands behind it; and turns go on from there.
+pub record GoesOnBehind (j : ℕ) (o : ObjectForm) (text : List ℕ) (since : List Turn) (last : Table) : Type 0 where
   pub mid : Table
   pub runs : Runs Gives mid since last
   pub before : Scene
   pub after : Scene
+  pub front : List ℕ
+  pub told : text ≡ front ++ held_lines (object_of before.hall.object) (slice_get mid.custody j)
   pub begun : BeginsBy before front after
   pub served : IsServed mid j o (front_of before (next_epoch before) begun.written.runs (next_base before)) since
 
@@ -103,10 +107,12 @@ abbrev pub ReadsIn : Table → ℕ → ObjectForm → Option (List ℕ) → List
 ReadsIn first j o None answered later last found = AreRead first j answered later found
 ReadsIn first j o (Some front) answered later last found = AreReadBehind j o front answered later last found
 
--- What is found of an object whose journal has just begun anew, which it was not told: the front tells the object as all turns
--- leave it, and nothing stands behind that.
-pub record IsReadAhead (j : ℕ) (o : ObjectForm) (front : List ℕ) (last : Table) (found : List ℕ) : Type 0 where
+-- What is found of an object whose journal has just begun anew, which it was not told: the text has a front that tells the
+-- object as all turns leave it, and behind that the lines of what is held of it, and nothing stands behind that.
+pub record IsReadAhead (j : ℕ) (o : ObjectForm) (text : List ℕ) (last : Table) (found : List ℕ) : Type 0 where
   pub stood : Stood last j o
+  pub front : List ℕ
+  pub told : text ≡ front ++ held_lines (object_of stood.scene.hall.object) (slice_get last.custody j)
   pub written : IsNextFront stood.scene front
   pub nothing : found ≡ []
   pub recovered : (h : House) (f : Opening) (bytes : ℕ) (r : Recovered) → (b : IsBehind o h f bytes found r) → b.steps ≡ []

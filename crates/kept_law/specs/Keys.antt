@@ -1,5 +1,5 @@
 -- Each key of a name stands once in the one history.
-use Rattle.std.specs.Prelude.{◌≡◌, ◌≢◌, ◌⊎◌, ℕ, true, false, List, [], ◌∷◌, Some, map, slice_get}
+use Rattle.std.specs.Prelude.{◌≡◌, ◌≢◌, ◌⊎◌, ℕ, true, false, List, [], ◌∷◌, ◌++◌, Option, Some, map, slice_get}
 use Rattle.decl_core.specs.declared.object.Object.{Object}
 use Rattle.decl_core.specs.ObjectMap.{object_of}
 use Rattle.live_core.specs.declared.call.Limits.{Limits}
@@ -14,6 +14,7 @@ use Rattle.keyed_law.specs.Keyed.{HaveKeys, IsTheCall, with_steps}
 use Rattle.post_core.specs.Texts.{to}
 use Rattle.post_core.specs.Turns.{Asked, Turn}
 use Rattle.post_core.specs.Turns.Asked.{Heard, Noted, Changes}
+use Rattle.told_core.specs.Custody.{Custody, held_lines}
 use Rattle.said_law.specs.Said.{Account, SaysIn, Went}
 use Rattle.table_core.specs.Moves.{Gives}
 use Rattle.table_core.specs.Seen.{seen}
@@ -25,14 +26,21 @@ use Rattle.kept_law.specs.Replied.{AreTold, HaveOneHistory, IsRepeated}
 abbrev pub NamesWent : ℕ → Scene → List KeyEvent → List (ℕ × List ℕ) → List Step → Scene → List KeyEvent → Type 0
 NamesWent j old told added steps new now = (went : Went old (to j added) steps new) × (now ≡ with_steps went.0 told)
 
--- what a turn tells of the names of one object; where its journal begins anew, that an epoch began with its clients
-abbrev pub NamesIn : ℕ → Asked → Scene → List KeyEvent → List (ℕ × List ℕ) → List Step → Scene → List KeyEvent → Type 0
-NamesIn j (Heard who line end) old told added steps new now = NamesWent j old told added steps new now
-NamesIn j (Noted note) old told added steps new now = NamesWent j old told added steps new now
-NamesIn j (Changes journal front true) old told added steps new now =
-    ((journal ≡ j) × BeginsBy old front new × (now ≡ epoch_began (map client_of old.guests.guests) ∷ told))
+-- an object of which this is held begins its next epoch by a text: a front, and behind that the lines of what is held
+pub record BeginsWithHeld (held : Option Custody) (old : Scene) (text : List ℕ) (new : Scene) : Type 0 where
+  pub front : List ℕ
+  pub told : text ≡ front ++ held_lines (object_of old.hall.object) held
+  pub begun : BeginsBy old front new
+
+-- what a turn tells of the names of one object, of which this is held; where its journal begins anew, that an epoch began
+-- with its clients
+abbrev pub NamesIn : ℕ → Option Custody → Asked → Scene → List KeyEvent → List (ℕ × List ℕ) → List Step → Scene → List KeyEvent → Type 0
+NamesIn j held (Heard who line end) old told added steps new now = NamesWent j old told added steps new now
+NamesIn j held (Noted note) old told added steps new now = NamesWent j old told added steps new now
+NamesIn j held (Changes journal text true) old told added steps new now =
+    ((journal ≡ j) × BeginsWithHeld held old text new × (now ≡ epoch_began (map client_of old.guests.guests) ∷ told))
     ⊎ ((journal ≢ j) × (new ≡ old) × (now ≡ told))
-NamesIn j (Changes journal front false) old told added steps new now = (new ≡ old) × (now ≡ told)
+NamesIn j held (Changes journal text false) old told added steps new now = (new ≡ old) × (now ≡ told)
 
 -- these turns lead from old to new, this happened in each of them, and this is what they tell of the names of one object
 abbrev pub NamesOver : ℕ → Table → List Turn → List Account → Table → List KeyEvent → List KeyEvent → Type 0
@@ -42,7 +50,7 @@ NamesOver j old (t ∷ turns) [] new told now = ⊥
 NamesOver j old (t ∷ turns) (a ∷ accounts) new told now =
     (mid : Table) × Gives old t.asked t.said t.added mid × SaysIn (seen old) t.asked t.said t.added a (seen mid)
     × (before : Scene) × (slice_get old.objects.items j ≡ Some before) × (after : Scene) × (slice_get mid.objects.items j ≡ Some after)
-    × (so_far : List KeyEvent) × NamesIn j t.asked before told t.added (a j) after so_far × NamesOver j mid turns accounts new so_far now
+    × (so_far : List KeyEvent) × NamesIn j (slice_get old.custody j) t.asked before told t.added (a j) after so_far × NamesOver j mid turns accounts new so_far now
 
 -- An object stands at a place, these turns have led there and told this of names, and each key stands once in it.
 pub record HasKeysAt (first last : Table) (j : ℕ) (f : Opening) (turns : List Turn) (accounts : List Account) (told : List KeyEvent) : Type 0 where

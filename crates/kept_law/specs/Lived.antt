@@ -1,5 +1,5 @@
 -- An object of a table over all its epochs, and over all its lives.
-use Rattle.std.specs.Prelude.{◌≡◌, ◌⊎◌, ◌<◌, ◌≤◌, ℕ, true, List, [], ◌∷◌, ◌++◌, Some, slice_get}
+use Rattle.std.specs.Prelude.{◌≡◌, ◌⊎◌, ◌<◌, ◌≤◌, ℕ, true, List, [], ◌∷◌, ◌++◌, Option, Some, slice_get}
 use Rattle.value_core.specs.Contents.{Contents}
 use Rattle.decl_core.specs.declared.object.Object.{Object}
 use Rattle.decl_core.specs.ObjectForm.{ObjectForm}
@@ -25,6 +25,7 @@ use Rattle.keep_loop.specs.declared.keep.Limits.{Limits as LoopLimits}
 use Rattle.keep_loop.specs.Seen.{Happened}
 use Rattle.keep_loop.specs.Epochs.{rules_of, since_in, stored_since, BeginsNone, change_to}
 use Rattle.keep_loop.specs.Stands.{IsHonest, IsBetween}
+use Rattle.told_core.specs.Custody.{Custody, held_lines}
 use Rattle.table_core.specs.Moves.{Gives, Fronts}
 use Rattle.table_core.specs.declared.table.Table.{Table}
 use Rattle.kept_law.specs.Kept.{Stood, LeavesAnswered}
@@ -48,12 +49,13 @@ epoch_in {begun = begun} l = epoch_of l.scene.hall (told_by begun l.heard.steps)
 abbrev pub StoodHasLived : Type 0
 StoodHasLived = (t : Table) (j : ℕ) (o : ObjectForm) (s : Stood t j o) → HasLived t j o s.begun []
 
--- the last change of its epochs among these turns was by a front that tells of this beginning
+-- the last change of its epochs among these turns was by a front that tells of this beginning, and lines of what is held
 pub record BeganBy (o : ObjectForm) (j : ℕ) (turns : List Turn) (now : Begun) : Type 0 where
   pub front : Opening
+  pub held : Option Custody
   pub before : List Turn
   pub since : List Turn
-  pub cut : turns ≡ before ++ change_to j (front_text o front) ∷ since
+  pub cut : turns ≡ before ++ change_to j (front_text o front ++ held_lines o held) ∷ since
   pub none : BeginsNone j since
   pub is : now ≡ begun_by front
 
@@ -81,14 +83,15 @@ TurnsLiveOn =
     (l : HasLived first j o begun earlier) → LivesOn last j o turns begun (first_opening (epoch_in l) earlier) (all_ends o (epoch_in l) earlier)
 
 -- What is read of a text whose front tells the beginning of its last epoch, however much of the lines behind that a crash has
--- left, is an epoch behind the same ones.
+-- left, is an epoch behind the same ones. Where lines of what is held stood behind the front, it is the text without these.
 abbrev pub ReadLivesOn : Type 0
 ReadLivesOn =
     (t : Table) (j : ℕ) (o : ObjectForm) (begun : Begun) (earlier : List Epoch) (h : House) (front : Opening) (text : List ℕ) (came : Recovered)
     (l : HasLived t j o begun earlier) → begun ≡ begun_by front → IsRead o h text front came →
     (e : Epoch) × IsReadOf o text came e × AreEpochs o e earlier × IsSound o e earlier
 
--- An object of a new life has begun behind the lines of its journal, and has added the front of its epoch.
+-- An object of a new life has begun behind the lines of its journal, without those of what was held, and has added the front
+-- of its epoch.
 pub record BeginsAt (t : Table) (j : ℕ) (object : Object) (h : House) (lines : List ℕ) (limits : Limits) : Type 0 where
   pub scene : Scene
   pub there : slice_get t.objects.items j ≡ Some scene

@@ -1,5 +1,6 @@
 //! `pathserve keep`: objects in memory, over journals in a folder.
 
+use crate::custody::{AllRules, add_held, begin_held};
 use crate::ending::{Ended, KeepEnd, say, serve_table};
 use crate::status::{StatusFile, seconds_now};
 use crate::stuck::stuck_lines;
@@ -8,9 +9,12 @@ use audit_core::verdict::Fault as TraceFault;
 use command_line::past::Past;
 use command_line::request::{Address, Keeping, Sync, past_error};
 use command_line::watching::{LogForm, Watching};
+use custody_core::all::AllHeld;
 use decl_core::object::Object;
 use device_core::dir_shelf::DirShelf;
 use exclude_core::analyse::Accepted;
+use hold_core::held::Holds;
+use hold_form::hold::Rules;
 use hosted_core::hosted::{Hosted, MOST_LINES};
 use journal_core::device::DeviceError;
 use journal_core::folder::FolderFile;
@@ -20,7 +24,7 @@ use keep_log::log::Log;
 use keep_log::logged::Logged;
 use keep_log::shown::Showing;
 use keep_loop::Limits as LoopLimits;
-use keep_start::start::{NotBegun, begin_behind, begin_first, opening_of, push_calls};
+use keep_start::start::{NotBegun, begin_first, opening_of, push_calls};
 use line_core::write_whole;
 use live_core::call::Limits;
 use log_core::line::LineForm;
@@ -31,7 +35,7 @@ use mio_core::traces::epoch_of;
 use mio_core::wires::{Serving, Wires};
 use past_core::past::PastEvent;
 use path_tree::node::OpId;
-use recover_core::recover::{House, RecoverFault};
+use recover_core::recover::RecoverFault;
 use status_text::numbers::{Server, Stored};
 use std::alloc::{AllocError, Global};
 use std::fs;
@@ -40,10 +44,10 @@ use std::rt::Stderr;
 use table_core::table::Table;
 
 /// So many names an object knows before a new one takes the place of another.
-const NAMES: u16 = 4_096;
+pub(crate) const NAMES: u16 = 4_096;
 
 /// Sessions have the numbers from 1 to this one, and so many calls wait at most.
-const LIMITS: Limits = Limits {
+pub(crate) const LIMITS: Limits = Limits {
     sessions: 65_535,
     waiting: 10_000,
 };
@@ -57,17 +61,18 @@ const MEGABYTE: u64 = 1_000_000;
 /// So often, in milliseconds, objects are told the time, and lines are done that wait for their client to read.
 const TICK: u64 = 20;
 
-// The objects of a server, with their names and the fronts with which their journals begin.
+// The objects of a server, with their names, the fronts with which their journals begin, and what is held of them.
 #[derive(Drop)]
 struct Kept {
     objects: Vec<Hosted>,
     names: Vec<String>,
     fronts: Vec<Vec<u8>>,
+    custody: AllHeld,
 }
 
-// One object, or the line that says why it is not kept.
+// One object with what is held of it, or the line that says why it is not kept.
 enum Begun {
-    Ready(Hosted),
+    Ready(Hosted, Holds),
     Told(Vec<u8>),
 }
 
@@ -226,6 +231,7 @@ fn begin_one<E: Write>(
     name: &str,
     folder: &str,
     pasts: &[Past<'_>],
+    rules: &Rules,
     shelf: &mut DirShelf<HostRuntime>,
     log: &mut Log<HostRuntime, E>,
 ) -> Result<Begun, Failure> {
@@ -233,7 +239,7 @@ fn begin_one<E: Write>(
     let lines = journal_lines(rt, folder, name)?;
     if lines.is_empty() {
         let begun = begin_new(alloc, object, name, pasts, shelf)?;
-        if let Begun::Ready(_) = &begun {
+        if let Begun::Ready(_, _) = &begun {
             log.begun(name.as_bytes());
         }
         return Ok(begun);
@@ -241,15 +247,10 @@ fn begin_one<E: Write>(
     if let Some(past) = first_past(&object, pasts) {
         return Err(told_twice(alloc, name, past)?);
     }
-    let house = House {
-        sessions: LIMITS.sessions,
-        names: NAMES,
-        now: 0,
-    };
-    match begin_behind(alloc, object, &lines, house, LIMITS) {
-        Ok(hosted) => {
+    match begin_held(alloc, object, rules, &lines)? {
+        Ok((hosted, held)) => {
             log.recovered(name.as_bytes(), lines.len() as u64, count_lines(&lines));
-            Ok(Begun::Ready(hosted))
+            Ok(Begun::Ready(hosted, held))
         }
         Err(NotBegun::Refused(fault)) => Ok(Begun::Told(refused_line(alloc, name, fault)?)),
         Err(NotBegun::Memory) => Err(Failure::Memory),
@@ -274,7 +275,7 @@ fn begin_new(
         Err(why) => return Ok(Begun::Told(told_line(alloc, &object, name, why)?)),
     };
     match begin_first(alloc, object, &done, values, NAMES, LIMITS) {
-        Ok(hosted) => Ok(Begun::Ready(hosted)),
+        Ok(hosted) => Ok(Begun::Ready(hosted, Holds::new(alloc))),
         Err(NotBegun::Memory) => Err(Failure::Memory),
         Err(_) => Ok(Begun::Told(object_line(alloc, name, b" past does not fit\n")?)),
     }
@@ -287,12 +288,14 @@ fn name_of(alloc: Global, object: &Object) -> Result<String, Failure> {
     }
 }
 
-// Begins the objects, in order, or gives the lines of those that are not.
+// Begins the objects, in order, by these rules, or gives the lines of those that are not.
 fn begin_all<E: Write>(
     rt: &HostRuntime,
     accepted: Vec<Accepted>,
+    mut rules: AllRules,
     folder: &str,
     pasts: &[Past<'_>],
+    away: u64,
     log: &mut Log<HostRuntime, E>,
 ) -> Result<Result<Kept, Vec<u8>>, Failure> {
     let alloc = rt.alloc();
@@ -305,15 +308,27 @@ fn begin_all<E: Write>(
         objects: Vec::new(alloc),
         names: Vec::new(alloc),
         fronts: Vec::new(alloc),
+        custody: AllHeld::new(alloc),
     };
     let mut told = Vec::new(alloc);
     for one in accepted {
         let object = one.into_object();
         let name = name_of(alloc, &object)?;
-        match begin_one(rt, object, name.as_str(), folder, pasts, &mut shelf, log)? {
+        let own = rules.next(alloc);
+        match begin_one(
+            rt,
+            object,
+            name.as_str(),
+            folder,
+            pasts,
+            &own,
+            &mut shelf,
+            log,
+        )? {
             Begun::Told(line) => told.extend_from_slice(&line)?,
-            Begun::Ready(hosted) => {
-                if let Some(line) = add(alloc, &mut kept, hosted, name)? {
+            Begun::Ready(hosted, held) => {
+                let ruled = if rules.any { Some((own, held)) } else { None };
+                if let Some(line) = add(alloc, &mut kept, hosted, name, ruled, away)? {
                     told.extend_from_slice(&line)?;
                 }
             }
@@ -325,17 +340,31 @@ fn begin_all<E: Write>(
     Ok(Err(told))
 }
 
-// Adds an object, or gives the line that says why it is not kept.
+// Adds an object with its rules and what is held of it, where any object has rules; or gives the line that says why it is
+// not kept.
 fn add(
     alloc: Global,
     kept: &mut Kept,
-    hosted: Hosted,
+    mut hosted: Hosted,
     name: String,
+    ruled: Option<(Rules, Holds)>,
+    away: u64,
 ) -> Result<Option<Vec<u8>>, AllocError> {
     let mut front = Vec::new(alloc);
     if !hosted.push_first(&mut front)? {
         let line = object_line(alloc, name.as_str(), b" past does not fit\n")?;
         return Ok(Some(line));
+    }
+    if let Some((rules, held)) = ruled {
+        add_held(
+            alloc,
+            &mut kept.custody,
+            &mut hosted,
+            rules,
+            held,
+            away,
+            &mut front,
+        )?;
     }
     kept.fronts.push(front)?;
     kept.names.push(name)?;
@@ -437,7 +466,7 @@ fn limits_of(asked: Keeping<'_>, journals: usize) -> LoopLimits {
 }
 
 // What is outside of the objects of a server.
-type KeepOutside = Showing<
+type AllOutside = Showing<
     Logged<Wires<HostRuntime, Stderr>, HostRuntime, Stderr>,
     StatusFile<Stderr>,
 >;
@@ -451,7 +480,7 @@ fn outside_of(
     watching: Watching,
     listener: Listener,
     start: u64,
-) -> Result<KeepOutside, Failure> {
+) -> Result<AllOutside, Failure> {
     let alloc = rt.alloc();
     let traces = u64::from(asked.traces).saturating_mul(MEGABYTE);
     let begun = Journals::begin(*rt, asked.folder, names, fronts, ROOM, traces);
@@ -484,10 +513,11 @@ fn serve_kept<W: Write, E: Write, L: Write>(
         objects,
         names,
         fronts,
+        custody,
     } = kept;
     let count = objects.len();
     let mut shelf = DirShelf::new(*rt, asked.folder)?;
-    let table = Table::new(alloc, objects, asked.at_once, 0)?;
+    let table = Table::with_held(alloc, objects, custody, asked.at_once, 0)?;
     let start = seconds_now(rt);
     let mut outside = outside_of(rt, &names, &fronts, asked, watching, listener, start)?;
     tell_place(alloc, asked, writer)?;
@@ -543,7 +573,7 @@ fn is_begun(rt: &HostRuntime, folder: &str, name: &str) -> io::Result<bool> {
 }
 
 /// `pathserve keep`: serves these objects, which nobody else serves from the folder, to who connects at the listener, until
-/// the server is to end; and says how that ended: each was kept, or lines say why one is not begun with. `pasts` are what
+/// the server is to end, by these rules, of each object in their order, or none; and says how that ended: each was kept, or lines say why one is not begun with. `pasts` are what
 /// was done before parts were made, where an object begins with parts. Before it serves, `error` gets a line of each object
 /// that is known to get stuck. At its end the parts of each are saved.
 ///
@@ -553,6 +583,7 @@ fn is_begun(rt: &HostRuntime, folder: &str, name: &str) -> io::Result<bool> {
 pub fn keep_objects<W: Write, E: Write>(
     rt: &HostRuntime,
     accepted: Vec<Accepted>,
+    rules: Vec<Rules>,
     asked: Keeping<'_>,
     watching: Watching,
     pasts: &[Past<'_>],
@@ -562,7 +593,15 @@ pub fn keep_objects<W: Write, E: Write>(
 ) -> Result<KeepEnd, Failure> {
     let stuck = stuck_lines(rt.alloc(), &accepted)?;
     let mut log = Log::new(rt.alloc(), form_of(watching.log), *rt, rt.stderr());
-    match begin_all(rt, accepted, asked.folder, pasts, &mut log)? {
+    match begin_all(
+        rt,
+        accepted,
+        AllRules::new(rules),
+        asked.folder,
+        pasts,
+        u64::from(watching.away),
+        &mut log,
+    )? {
         Ok(kept) => {
             let _ = write_whole(error, &stuck);
             let ended = serve_kept(rt, kept, asked, watching, listener, writer, error, &mut log)?;

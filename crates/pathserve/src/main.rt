@@ -22,6 +22,7 @@ ghost use Rattle.std.specs.Process.{exit_status as code};
 ghost use Rattle.answer_core.specs.Status.{exit_status_of};
 
 mod attempt;
+mod custody;
 mod ending;
 mod holds;
 mod keep;
@@ -511,10 +512,11 @@ fn path_at(rt: &HostRuntime, path: &str) -> io::Result<(PathListener, Socket)> {
     Ok((PathListener::from_std(listener), socket))
 }
 
-// Keeps the objects of a source, where each is accepted.
+// Keeps the objects of a source by these rules, where each is accepted.
 fn keep_source(
     rt: &HostRuntime,
     source: &[u8],
+    rules: Vec<Rules>,
     asked: Keeping<'_>,
     watching: Watching,
     pasts: &[Past<'_>],
@@ -524,6 +526,7 @@ fn keep_source(
         Judged::Ready(objects) => keep_objects(
             rt,
             objects,
+            rules,
             asked,
             watching,
             pasts,
@@ -565,15 +568,9 @@ fn run_keep(rt: &HostRuntime, asked: Keeping<'_>, words: &Apart<'_>) -> Result<K
         Err(lacking) => return Err(told(rt, lacking, asked.file)),
     };
     let telling = telling_of(rt, asked.explain);
-    let source = match plain_source(
-        rt,
-        source,
-        telling,
-        asked.file,
-        b"keep does not follow them yet",
-    )? {
-        WithoutHolds::Plain(source) => source,
-        WithoutHolds::Told(_) => return Ok(KeepEnd::Refused),
+    let (source, rules) = match ruled_source(rt, source, telling, asked.file)? {
+        Ruled::By(source, rules) => (source, rules),
+        Ruled::Told(_) => return Ok(KeepEnd::Refused),
     };
     let lock = match lock_folder(rt, asked.folder) {
         Ok(lock) => lock,
@@ -583,7 +580,7 @@ fn run_keep(rt: &HostRuntime, asked: Keeping<'_>, words: &Apart<'_>) -> Result<K
         Ok(found) => found,
         Err(lacking) => return Err(told(rt, lacking, path_of(asked.address))),
     };
-    let ended = keep_source(rt, &source, asked, watching, &pasts, ears);
+    let ended = keep_source(rt, &source, rules, asked, watching, &pasts, ears);
     if let Some(socket) = socket {
         socket.remove(rt);
     }

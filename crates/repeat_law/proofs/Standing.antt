@@ -20,6 +20,7 @@ use Rattle.keyed_law.specs.Keyed.{ended_as, ended_by, with_ran, with_came, with_
 use Rattle.post_core.specs.Texts.{to}
 use Rattle.post_core.specs.Turns.{Asked, Turn}
 use Rattle.post_core.specs.Turns.Asked.{Heard, Noted, Changes}
+use Rattle.told_core.specs.Custody.{Custody}
 use Rattle.said_law.specs.Said.{Account}
 use Rattle.said_law.proofs.Going.{ran_more, all_more, TellsAlike, all_alike, told_alike}
 use Rattle.table_core.specs.declared.table.Table.{Table}
@@ -128,15 +129,15 @@ module _ (P : ℕ → Reply → Type 0) where
       (ts : List Turn) (earlier : List Account) (a : Account) (behind : List Account) (mid : Table) (s : Scene) → AreTold first ts earlier mid → accounts ≡ earlier ++ a ∷ behind →
       slice_get mid.objects.items j ≡ Some s → AllRan s (a j)
 
-  turn_each : (j : ℕ) (asked : Asked) (old : Scene) (told : List KeyEvent) (added : List (ℕ × List ℕ)) (steps : List Step) (new : Scene) (now : List KeyEvent) → NamesIn j asked old told added steps new now →
+  turn_each : (j : ℕ) (held : Option Custody) (asked : Asked) (old : Scene) (told : List KeyEvent) (added : List (ℕ × List ℕ)) (steps : List Step) (new : Scene) (now : List KeyEvent) → NamesIn j held asked old told added steps new now →
       AllRan old steps → Each P told → Each P now
-  turn_each j (Heard who line end) old told added steps new now (went, is) each so =
+  turn_each j held (Heard who line end) old told added steps new now (went, is) each so =
       subst (Each P) (sym is) (steps_each old new (to j added) went.0 told (subst (AllRan old) went.1 each) so)
-  turn_each j (Noted note) old told added steps new now (went, is) each so =
+  turn_each j held (Noted note) old told added steps new now (went, is) each so =
       subst (Each P) (sym is) (steps_each old new (to j added) went.0 told (subst (AllRan old) went.1 each) so)
-  turn_each j (Changes journal front true) old told added steps new now (inl (same, begins, is)) each so = subst (Each P) (sym is) so
-  turn_each j (Changes journal front true) old told added steps new now (inr (other, same, is)) each so = subst (Each P) (sym is) so
-  turn_each j (Changes journal front false) old told added steps new now (same, is) each so = subst (Each P) (sym is) so
+  turn_each j held (Changes journal front true) old told added steps new now (inl (same, begins, is)) each so = subst (Each P) (sym is) so
+  turn_each j held (Changes journal front true) old told added steps new now (inr (other, same, is)) each so = subst (Each P) (sym is) so
+  turn_each j held (Changes journal front false) old told added steps new now (same, is) each so = subst (Each P) (sym is) so
 
   turns_each : (j : ℕ) (first last : Table) (turns : List Turn) (accounts : List Account) (told now : List KeyEvent) → NamesOver j first turns accounts last told now → AllIn j first accounts → Each P told → Each P now
   turns_each j first last [] [] told now (same, is) each so = subst (Each P) (sym is) so
@@ -145,7 +146,7 @@ module _ (P : ℕ → Reply → Type 0) where
   turns_each j first last (t ∷ turns) (a ∷ accounts) told now (mid, gives, says, before, there, after, at, so_far, names, more) each so =
       turns_each j mid last turns accounts so_far now more
       (λ ts earlier b behind m s led cut is. each (t ∷ ts) (a ∷ earlier) b behind m s (mid, gives, says, led) (ap (λ (l : List Account). a ∷ l) cut) is)
-      (turn_each j t.asked before told t.added (a j) after so_far names (each [] [] a accounts first before refl refl there) so)
+      (turn_each j (slice_get first.custody j) t.asked before told t.added (a j) after so_far names (each [] [] a accounts first before refl refl there) so)
 
 -- it stands in the history, or it was told before
 abbrev Stood : (first last : Table) (turns : List Turn) → HaveOneHistory first last turns → ℕ → List KeyEvent → ℕ → Reply → Type 0

@@ -6,6 +6,7 @@ use Rattle.value_core.specs.declared.datum.Datum.{Datum}
 use Rattle.apply_core.specs.declared.reply.Reply.{Reply}
 use Rattle.decl_core.specs.ObjectMap.{object_of}
 use Rattle.live_core.specs.declared.call.Ran.{Ran}
+use Rattle.live_core.specs.declared.live.Taken.{Taken}
 use Rattle.live_core.specs.Hall.{Every}
 use Rattle.live_core.specs.Lines.{all_lines}
 use Rattle.guest_core.specs.Keys.{asks as asks_for}
@@ -17,6 +18,7 @@ use Rattle.session_text.specs.Lines.{accepted_text, bye_text, cancel_name, ended
 use Rattle.script_text.specs.Answers.{cancelled_line}
 use Rattle.hosted_core.specs.declared.hosted.Keyed.{Keyed}
 use Rattle.hosted_core.specs.declared.hosted.Keyed.TheVariants as keys
+use Rattle.hosted_core.specs.Calls.{Does}
 use Rattle.hosted_core.specs.Keys.{Says as SaysOf, Repeats as IsRepeat, operation_or}
 use Rattle.hosted_core.specs.Lines.{entered_lines}
 use Rattle.hosted_core.specs.Scene.{Scene, told_of, is_given}
@@ -29,11 +31,13 @@ use Rattle.client_core.specs.declared.client.Opened.{Opened}
 use Rattle.written_law.specs.Happens.{with_ran, all_happen}
 use Rattle.told_core.specs.State.{Peer, State, one_text, opened_at, told_to, who_in, session_by}
 use Rattle.told_core.specs.Deeds.{Texts, Deed, Nothing, OnlyTold, Then}
-use Rattle.told_core.specs.Asked.{IsRefused, OpensBare, OpensAs, Opens, Ends, AllEnd, Submits, GetsNumber, Sits, Calls, Repeats, RepeatsUnder, IsTurnedAway, AnswersCall, LetsGo, AnswersCancel, AnswersInside, LeavesObject, Goes, Quits, Acts, Heeds, keyed_text}
+use Rattle.told_core.specs.Asked.{IsRefused, OpensBare, OpensAs, Opens, Ends, AllEnd, Submits, IsUnheld, GetsNumber, Sits, Calls, Repeats, RepeatsUnder, IsTurnedAway, AnswersCall, LetsGo, AnswersCancel, AnswersInside, LeavesObject, Goes, Quits, Acts, Heeds, keyed_text}
+use Rattle.told_core.specs.Custody.{not_held_text}
+use Rattle.told_core.specs.Gone.{CallsFor, SeatsOne, Frees}
 use Rattle.told_core.specs.Inside.{Sees, IsWhy, state_by, form_at, object_in}
-use Rattle.told_core.proofs.Doing.{ends_keeps, all_end_keeps}
+use Rattle.told_core.proofs.Doing.{ends_keeps, all_end_keeps, follows_keeps}
 use Rattle.said_law.specs.Said.{Account, AllWent, SaysNoReply, IsTrue, Says}
-use Rattle.said_law.proofs.Plain.{refusal_plain, opened_plain, accepted_plain, withdrawn_plain, cancelled_plain, bye_plain, waiting_plain, gone_plain, why_plain, state_plain, who_plain, list_plain}
+use Rattle.said_law.proofs.Plain.{refusal_plain, opened_plain, accepted_plain, withdrawn_plain, cancelled_plain, bye_plain, waiting_plain, gone_plain, not_held_plain, why_plain, state_plain, who_plain, list_plain}
 use Rattle.said_law.proofs.Going.{ran_more, all_alike, told_alike, no_account, both, went_none, went_then, at_one, at_own, went_one, went_quiet, true_before, true_behind, every_map, every_both}
 
 -- it says what happened
@@ -169,44 +173,71 @@ each_among : (all : List Ran) (steps : List Step) → Every (Among (with_ran all
 each_among [] steps = tt
 each_among (r ∷ all) steps = ((with_ran all [], steps, ran_more all (ran r.call r.reply ∷ steps)), each_among all (ran r.call r.reply ∷ steps))
 
-submits : (place : ℕ) (seat : Opened) (operation : ℕ) (arguments : List Datum) → TellsBy (Submits place seat operation arguments)
-submits place seat operation arguments old new said added is =
-    let items = is.taken.ran.items in
-    let goes : Steps is.before (all_lines (object_of is.before.hall.object) items) is.after = does (calls seat.session operation arguments is.taken is.does) in
-    let at = seat.object in
+-- a call of an object was made, by which all these ran; what is told is true, where it is something that says no reply, and
+-- behind that the end of each call that ran
+pub runs_tell : (old start mid new : State) (at session operation : ℕ) (arguments : List Datum) (before after : Scene) (taken : Taken) → slice_get old.objects at ≡ Some before →
+    Does before session operation arguments taken after → start.objects ≡ slice_set old.objects at after → (ended : Texts) → AllEnd at after taken.ran.items start ended [] mid →
+    new.objects ≡ mid.objects → (first said added : Texts) → Every (λ (s : ℕ × List ℕ). SaysNoReply s.1) first → said ≡ first ++ ended →
+    added ≡ (at, all_lines (object_of before.hall.object) taken.ran.items) ∷ [] → Tells old said added new
+runs_tell old start mid new at session operation arguments before after taken there done begins ended ends left first said added none told lines =
+    let items = taken.ran.items in
+    let goes : Steps before (all_lines (object_of before.hall.object) items) after = does (calls session operation arguments taken done) in
     let account = at_one at (all_happen goes []) in
-    let same = (all_end_keeps at is.after items _ new is.ended [] is.ends).0 in
-    let alike = all_alike is.before is.after (all_lines (object_of is.before.hall.object) items) goes in
-    let ended : Every (λ (s : ℕ × List ℕ). IsTrue old.objects account s.1) is.ended =
-    all_said (IsTrue old.objects account) at is.after items _ new is.ended []
-    (every_map (Among (with_ran items [])) (λ (r : Ran). IsTrue old.objects account (ended_text (told_of is.after r.call.number) r.reply)) items
+    let same : new.objects ≡ slice_set old.objects at after = left ∙ (all_end_keeps at after items start mid ended [] ends).0 ∙ begins in
+    let alike = all_alike before after (all_lines (object_of before.hall.object) items) goes in
+    let all : Every (λ (s : ℕ × List ℕ). IsTrue old.objects account s.1) ended =
+    all_said (IsTrue old.objects account) at after items start mid ended []
+    (every_map (Among (with_ran items [])) (λ (r : Ran). IsTrue old.objects account (ended_text (told_of after r.call.number) r.reply)) items
     (λ r among. inl (
-      told_of is.after r.call.number,
+      told_of after r.call.number,
       r.reply,
       inl (
         refl,
         record {
           object = at;
-          scene = is.before;
-          there = is.there;
+          scene = before;
+          there = there;
           call = r.call;
           later = among.0;
           before = among.1;
           ran_so = at_own at (all_happen goes []) ∙ among.2;
-          told_is = told_alike is.before is.after r.call.number alike;
+          told_is = told_alike before after r.call.number alike;
         },
       ),
-    )) (each_among items [])) is.ends in (
+    )) (each_among items [])) ends in (
       account,
       record {
-        went = subst (λ (a : Texts). AllWent old.objects a account new.objects) (sym is.lines)
-            (subst (λ (l : List Scene). AllWent old.objects ((at, all_lines (object_of is.before.hall.object) items) ∷ []) account l) (sym same)
-            (went_one old.objects at is.before is.after (all_lines (object_of is.before.hall.object) items) is.there goes));
-        true_all = subst (λ (s : Texts). AreTrue old account s) (sym is.told)
-            (every_both (λ (s : ℕ × List ℕ). IsTrue old.objects account s.1) (told_to old.peers place (accepted_text (told_of is.after is.taken.number))) is.ended
-            (to_true (IsTrue old.objects account) old.peers place (accepted_text (told_of is.after is.taken.number)) (inr (accepted_plain (told_of is.after is.taken.number)))) ended);
+        went = subst (λ (a : Texts). AllWent old.objects a account new.objects) (sym lines)
+            (subst (λ (l : List Scene). AllWent old.objects ((at, all_lines (object_of before.hall.object) items) ∷ []) account l) (sym same)
+            (went_one old.objects at before after (all_lines (object_of before.hall.object) items) there goes));
+        true_all = subst (λ (s : Texts). AreTrue old account s) (sym told)
+            (every_both (λ (s : ℕ × List ℕ). IsTrue old.objects account s.1) first ended
+            (every_map (λ (s : ℕ × List ℕ). SaysNoReply s.1) (λ (s : ℕ × List ℕ). IsTrue old.objects account s.1) first (λ s is. inr is) none) all);
       },
     )
+
+submits : (place : ℕ) (seat : Opened) (operation : ℕ) (arguments : List Datum) → TellsBy (Submits place seat operation arguments)
+submits place seat operation arguments old new said added is =
+    let text = accepted_text (told_of is.after is.taken.number) in
+    runs_tell old _ is.mid new seat.object seat.session operation arguments is.before is.after is.taken is.there is.does refl is.ended is.ends
+    (follows_keeps seat.object is.after is.taken.ran.items is.mid new is.follows) (told_to old.peers place text) said added
+    (to_true SaysNoReply old.peers place text (accepted_plain (told_of is.after is.taken.number))) is.told is.lines
+
+-- what is called for one that is gone: nobody is told its number
+pub calls_for : (at session operation : ℕ) (arguments : List Datum) → TellsBy (CallsFor at session operation arguments)
+calls_for at session operation arguments old new said added is =
+    runs_tell old _ is.mid new at session operation arguments is.before is.after is.taken is.there is.does refl said is.ends
+    (follows_keeps at is.after is.taken.ran.items is.mid new is.follows) [] said added tt refl is.lines
+
+pub seats_one : (at session : ℕ) → TellsBy (SeatsOne at session)
+seats_one at session old new said added is =
+    tells_as old new new said [] added [] is.told is.lines refl
+    (tells_quiet old new at is.object _ is.there (does (gets_number session is.free)) (ap (λ (s : State). s.objects) is.left))
+
+pub frees : (at session : ℕ) → TellsBy (Frees at session)
+frees at session old new said added is =
+    tells_as old new new said [] added [] is.told is.lines refl
+    (tells_quiet old new at is.object _ is.there (does (leaves session is.now is.was_here is.guests is.leaves)) (ap (λ (s : State). s.objects) is.left))
 
 gets : (place : ℕ) (old : State) (opened seat : Opened) (new : State) → GetsNumber place old opened seat new → Tells old [] [] new
 gets place old opened seat new is =
@@ -271,11 +302,16 @@ turned : (place : ℕ) → TellsBy (IsTurnedAway place)
 turned place old new said added is =
     tells_two old is.mid new [] said [] added (gets place old is.opened is.seat is.mid is.gets) (tells_refused place is.mid new said added is.refused)
 
+-- it may not make the call
+unheld : (place : ℕ) (key : Option ℕ) (name : List ℕ) (arguments : List Datum) → TellsBy (IsUnheld place key name arguments)
+unheld place key name arguments old new said added is = tells_only place not_held_text not_held_plain old new said added is.only
+
 call : (place : ℕ) (key : Option ℕ) (name : List ℕ) (arguments : List Datum) → TellsBy (AnswersCall place key name arguments)
 call place key name arguments old new said added (inl is) = makes place key name arguments old new said added is
 call place key name arguments old new said added (inr (inl is)) = repeats place key name arguments old new said added is
 call place key name arguments old new said added (inr (inr (inl is))) = tells_refused place old new said added is
-call place key name arguments old new said added (inr (inr (inr is))) = turned place old new said added is
+call place key name arguments old new said added (inr (inr (inr (inl is)))) = turned place old new said added is
+call place key name arguments old new said added (inr (inr (inr (inr is)))) = unheld place key name arguments old new said added is
 
 pub lets_go : (at session number : ℕ) → TellsBy (LetsGo at session number)
 lets_go at session number old new said added is =

@@ -14,6 +14,7 @@ use Rattle.session_text.specs.Lines.{accepted_text, bye_text, ended_text, line_t
 use Rattle.session_text.specs.declared.line.Line.{Line}
 use Rattle.session_text.specs.declared.line.Line.TheVariants as lines
 use Rattle.told_core.specs.Asked.{IsRefusal}
+use Rattle.told_core.specs.Custody.{not_held_text}
 use Rattle.said_law.specs.Said.{SaysNoReply}
 
 -- a text that begins with this byte
@@ -115,6 +116,9 @@ refusal_plain (lines.Kept n state) is = absurd is
 refusal_plain (lines.Withdrawn n) is = absurd is
 refusal_plain (lines.Cancel n answer) is = absurd is
 refusal_plain lines.Bye is = absurd is
+
+pub not_held_plain : SaysNoReply not_held_text
+not_held_plain = says_none 110 not_held_text of_n (_, refl)
 
 pub opened_plain : (name : List ℕ) (key : Option ℕ) → SaysNoReply (opened_text name key)
 opened_plain name None = says_none 111 (opened_text name None) of_o (_, refl)

@@ -20,10 +20,12 @@ use Rattle.told_core.specs.Turns.HearsLine.{does, cancels, sees, puts_off, holds
 use Rattle.told_core.specs.Turns.GoesOn.{rests, does as does_more}
 use Rattle.told_core.specs.Turns.EndsHeld.{all, quits, goes_on}
 use Rattle.told_core.specs.Turns.{HearsLine, HearsLast, HearsAt, TakesLine, GoesOn, EndsAsk, EndsHeld, Withdraws, WithdrawsAt, Leaves, LeavesIf, Comes, IfHere, AllLeave, Notes, place_of}
+use Rattle.told_core.specs.Gone.{Settles}
+use Rattle.told_core.specs.Gone.Settles.{rests as settled, goes_on as settles_on, calls as calls_one, seats as seats_two, frees as frees_one}
 use Rattle.said_law.specs.Said.{TurnsSay}
 use Rattle.said_law.proofs.Plain.{refusal_plain, bye_plain}
 use Rattle.said_law.proofs.Going.{no_account}
-use Rattle.said_law.proofs.Doing.{Tells, TellsBy, tells_nothing, tells_only, tells_still, tells_two, tells_then, heeds, cancel, inside, lets_go, goes}
+use Rattle.said_law.proofs.Doing.{Tells, TellsBy, tells_nothing, tells_only, tells_still, tells_two, tells_then, heeds, cancel, inside, lets_go, goes, calls_for, seats_one, frees}
 
 -- objects that are the same
 from_same : (old mid new : State) (said added : Texts) → mid.objects ≡ old.objects → Tells mid said added new → Tells old said added new
@@ -60,6 +62,17 @@ on old new said added rests = tells_still old old [] [] [] refl refl refl tt
 on old new said added (does_more mid after one first two further place asked idle takes done later) =
     tells_two old after new one two first further (from_same old mid after one first (takes_same place asked old mid takes) (heeds place asked mid after one first done))
     (on after new two further later)
+
+-- what is done for those that are gone too
+settles : TellsBy Settles
+settles old new said added settled = tells_still old old [] [] [] refl refl refl tt
+settles old new said added (settles_on mid one first two further is later) = tells_two old mid new one two first further (on old mid one first is) (settles mid new two further later)
+settles old new said added (calls_one mid one first two further object session operation arguments is later) =
+    tells_two old mid new one two first further (calls_for object session operation arguments old mid one first is) (settles mid new two further later)
+settles old new said added (seats_two mid one first two further object session is later) =
+    tells_two old mid new one two first further (seats_one object session old mid one first is) (settles mid new two further later)
+settles old new said added (frees_one mid one first two further object session is later) =
+    tells_two old mid new one two first further (frees object session old mid one first is) (settles mid new two further later)
 
 ends_ask : (place : ℕ) (asked : Result Ask AllocError) → TellsBy (EndsAsk place asked)
 ends_ask place (Ok (asks.Open name client)) = refused place refusals.Opened
@@ -114,7 +127,7 @@ noted notes.Ends old new said added is = all_leave (length old.peers) old new sa
 
 pub turns_say : TurnsSay
 turns_say old new (Heard who text end) said added is =
-    if_here who (λ place. Then (HearsAt place text end) GoesOn) (λ place. tells_then (HearsAt place text end) GoesOn (at place text end) on) old new said added is
-turns_say old new (Noted note) said added is = tells_then (Notes note) GoesOn (noted note) on old new said added is
+    if_here who (λ place. Then (HearsAt place text end) Settles) (λ place. tells_then (HearsAt place text end) Settles (at place text end) settles) old new said added is
+turns_say old new (Noted note) said added is = tells_then (Notes note) Settles (noted note) settles old new said added is
 turns_say old new (Changes journal front true) said added is = (no_account, (is.0, λ j. refl))
 turns_say old new (Changes journal front false) said added is = (no_account, (is.told, λ j. refl))

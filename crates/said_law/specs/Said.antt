@@ -15,7 +15,7 @@ use Rattle.post_core.specs.Turns.{Asked}
 use Rattle.post_core.specs.Turns.Asked.{Heard, Noted, Changes}
 use Rattle.told_core.specs.Deeds.{Texts}
 use Rattle.told_core.specs.State.{State}
-use Rattle.told_core.specs.Turns.{Gives}
+use Rattle.told_core.specs.Given.{Gives}
 
 -- what happened to the object at each place, the newest first
 abbrev pub Account : Type 0

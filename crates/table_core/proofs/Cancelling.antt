@@ -11,6 +11,7 @@ use Rattle.ask_core.specs.declared.answer.Cancelled.TheVariants as answers
 use Rattle.client_core.specs.declared.client.Opened.{Opened}
 use Rattle.hosted_core.specs.Keys.{WaitsAs}
 use Rattle.hosted_core.specs.Scene.{Scene}
+use Rattle.told_core.specs.Custody.{Custodies}
 use Rattle.told_core.specs.State.{Peer, State, opened_at, told_to, with_object}
 use Rattle.told_core.specs.Deeds.{Texts, OnlyTold}
 use Rattle.told_core.specs.Asked.{IsRefusal, Ends, LetsGo, AnswersCancel}
@@ -168,13 +169,13 @@ withdraws_one a b c old mid new at session number go ends =
       is = inl (number, lets_go_by old mid new at session number a b ends.said ends.added go ends.is);
     }
 
-pub lets_go_none : (a : Post) (old new : List Scene) (peers : List Peer) (at session : ℕ) → (new ≡ old) × NoneWaitsAt old at session →
-    NoneWaits at session (of old peers) × Stays a (of old peers) a (of new peers)
-lets_go_none a old new peers at session is = (is.1, record { tells = tells_none a; left = objects_are old new peers is.0 })
+pub lets_go_none : (custody : Custodies) (a : Post) (old new : List Scene) (peers : List Peer) (at session : ℕ) → (new ≡ old) × NoneWaitsAt old at session →
+    NoneWaits at session (of custody old peers) × Stays a (of custody old peers) a (of custody new peers)
+lets_go_none custody a old new peers at session is = (is.1, record { tells = tells_none a; left = objects_are custody old new peers is.0 })
 
-pub lets_go_some : (a b : Post) (old new : List Scene) (peers : List Peer) (at session number : ℕ) (line bytes : List ℕ) →
-    HasCancelled old at session number line new → bytes ≡ line → Tells a b [] ((at, bytes) ∷ []) → HasLetGo at session number a (of old peers) b (of new peers)
-lets_go_some a b old new peers at session number line bytes has is tells = record {
+pub lets_go_some : (custody : Custodies) (a b : Post) (old new : List Scene) (peers : List Peer) (at session number : ℕ) (line bytes : List ℕ) →
+    HasCancelled old at session number line new → bytes ≡ line → Tells a b [] ((at, bytes) ∷ []) → HasLetGo at session number a (of custody old peers) b (of custody new peers)
+lets_go_some custody a b old new peers at session number line bytes has is tells = record {
   object = has.object;
   there = has.there;
   after = has.after;
@@ -182,6 +183,6 @@ lets_go_some a b old new peers at session number line bytes has is tells = recor
   cancels = has.cancels;
   adds = record {
     tells = subst (λ (l : List ℕ). Tells a b [] ((at, l) ∷ [])) is tells;
-    left = objects_are (slice_set old at has.after) new peers has.left;
+    left = objects_are custody (slice_set old at has.after) new peers has.left;
   };
 }

@@ -12,6 +12,7 @@ use Rattle.client_core.specs.Held.{is_some}
 use Rattle.guest_core.specs.declared.guests.Entered.{Entered}
 use Rattle.hosted_core.specs.Lines.{entered_lines}
 use Rattle.hosted_core.specs.Scene.{Scene, with_guests}
+use Rattle.told_core.specs.Custody.{Custodies, IsFreeOf}
 use Rattle.told_core.specs.State.{Peer, State, change, changed, nobody, opening, opened_at, peers_of, told_to}
 use Rattle.told_core.specs.Deeds.{Texts, OnlyTold}
 use Rattle.told_core.specs.Asked.{IsRefusal, IsRefused, OpensBare, Opens, HasNoSession, Goes, Quits}
@@ -23,24 +24,24 @@ use Rattle.table_core.proofs.Bringing.{brings_as, refuses}
 use Rattle.table_core.proofs.Telling.{tells_none, tells_then}
 
 -- a state of these objects and places
-abbrev pub of : List Scene → List Peer → State
-of objects peers = record { objects = objects; peers = peers }
+abbrev pub of : Custodies → List Scene → List Peer → State
+of custody objects peers = record { objects = objects; peers = peers; custody = custody }
 
-pub peers_are : (objects : List Scene) (clients : Clients) (peers : List Peer) → peers_of clients ≡ peers → state_of objects clients ≡ of objects peers
-peers_are objects clients peers is = ap (λ ps. of objects ps) is
+pub peers_are : (custody : Custodies) (objects : List Scene) (clients : Clients) (peers : List Peer) → peers_of clients ≡ peers → state_of custody objects clients ≡ of custody objects peers
+peers_are custody objects clients peers is = ap (λ ps. of custody objects ps) is
 
-pub objects_are : (old new : List Scene) (peers : List Peer) → new ≡ old → of new peers ≡ of old peers
-objects_are old new peers is = ap (λ os. of os peers) is
+pub objects_are : (custody : Custodies) (old new : List Scene) (peers : List Peer) → new ≡ old → of custody new peers ≡ of custody old peers
+objects_are custody old new peers is = ap (λ os. of custody os peers) is
 
 -- the one at a place is told that an object is opened for it
-pub opened_for : (a b : Post) (objects : List Scene) (old new : Clients) (place : ℕ) (text : List ℕ) (opened : Opened) →
+pub opened_for : (custody : Custodies) (a b : Post) (objects : List Scene) (old new : Clients) (place : ℕ) (text : List ℕ) (opened : Opened) →
     Tells a b (told_to (peers_of old) place text) [] → peers_of new ≡ change (peers_of old) place (opening opened) →
-    Brings (TellsOpened place text opened) a (state_of objects old) b (state_of objects new)
-opened_for a b objects old new place text opened tells is = record {
+    Brings (TellsOpened place text opened) a (state_of custody objects old) b (state_of custody objects new)
+opened_for custody a b objects old new place text opened tells is = record {
   said = told_to (peers_of old) place text;
   added = [];
   tells = tells;
-  is = record { told = refl; lines = refl; left = peers_are objects new (change (peers_of old) place (opening opened)) is };
+  is = record { told = refl; lines = refl; left = peers_are custody objects new (change (peers_of old) place (opening opened)) is };
 }
 
 abbrev bare : ℕ → Opened
@@ -107,12 +108,12 @@ opens_as a b c old mid new place at name client entered named come brings =
     seat : ℕ → Entered → Opened
     seat at entered = record { object = at; session = entered.session; is_named = true; waits = false; calls = 0; told = 0 }
 
-pub comes_none : (a : Post) (old new : List Scene) (peers : List Peer) → new ≡ old → Stays a (of old peers) a (of new peers)
-comes_none a old new peers is = record { tells = tells_none a; left = objects_are old new peers is }
+pub comes_none : (custody : Custodies) (a : Post) (old new : List Scene) (peers : List Peer) → new ≡ old → Stays a (of custody old peers) a (of custody new peers)
+comes_none custody a old new peers is = record { tells = tells_none a; left = objects_are custody old new peers is }
 
-pub comes_in : (a b : Post) (old new : List Scene) (peers : List Peer) (at now : ℕ) (client line bytes : List ℕ) (entered : Entered) →
-    HasEntered old at client now entered line new → bytes ≡ line → Tells a b [] ((at, bytes) ∷ []) → HasCome at client entered a (of old peers) b (of new peers)
-comes_in a b old new peers at now client line bytes entered has is tells = record {
+pub comes_in : (custody : Custodies) (a b : Post) (old new : List Scene) (peers : List Peer) (at now : ℕ) (client line bytes : List ℕ) (entered : Entered) →
+    HasEntered old at client now entered line new → bytes ≡ line → Tells a b [] ((at, bytes) ∷ []) → HasCome at client entered a (of custody old peers) b (of custody new peers)
+comes_in custody a b old new peers at now client line bytes entered has is tells = record {
   object = has.object;
   there = has.there;
   now = now;
@@ -121,7 +122,7 @@ comes_in a b old new peers at now client line bytes entered has is tells = recor
   enters = has.enters;
   adds = record {
     tells = subst (λ (l : List ℕ). Tells a b [] ((at, l) ∷ [])) (is ∙ has.told) tells;
-    left = objects_are (slice_set old at (with_guests has.object has.guests)) new peers has.left;
+    left = objects_are custody (slice_set old at (with_guests has.object has.guests)) new peers has.left;
   };
 }
 
@@ -135,25 +136,35 @@ no_session s place none opened is ne = absurd (none_some opened (none ∙ is))
 pub zero_session : (s : State) (place : ℕ) (opened : Opened) → Some opened ≡ opened_at s place → opened.session ≡ 0 → HasNoSession s place
 zero_session s place opened by zero other is ne = absurd (ne (ap (λ (o : Opened). o.session) (sym (same_Some opened other (by ∙ is))) ∙ zero))
 
-pub leaves_of : (old new : List Scene) (peers : List Peer) (place session now : ℕ) (opened : Opened) → Some opened ≡ opened_at (of old peers) place →
-    LeavesAt old opened.object opened.session now new → LeavesOf place (of old peers) (of new peers)
-leaves_of old new peers place session now opened by (inl has) = inl (record {
+pub leaves_of : (custody kept : Custodies) (old new : List Scene) (peers : List Peer) (place session now : ℕ) (opened : Opened) → Some opened ≡ opened_at (of custody old peers) place →
+    kept ≡ custody → IsFreeOf (slice_get custody opened.object) opened.is_named opened.session →
+    LeavesAt old opened.object opened.session now new → LeavesOf place (of custody old peers) (of kept new peers)
+leaves_of custody kept old new peers place session now opened by same free (inl has) = inl (record {
   opened = opened;
   by = sym by;
   object = has.object;
   there = has.there;
+  free = free;
   now = now;
   was_here = has.was_here;
   guests = has.guests;
   leaves = has.leaves;
-  left = objects_are (slice_set old opened.object (with_guests has.object has.guests)) new peers has.left;
+  left = ap (λ (c : Custodies). of c new peers) same
+      ∙ objects_are custody (slice_set old opened.object (with_guests has.object has.guests)) new peers has.left;
 })
-leaves_of old new peers place session now opened by (inr none) =
-    inr ((λ other is ne. subst (λ (o : Opened). slice_get old o.object ≡ None) (same_Some opened other (by ∙ is)) none.0), objects_are old new peers none.1)
+leaves_of custody kept old new peers place session now opened by same free (inr none) =
+    inr (
+      inl (λ other is ne. subst (λ (o : Opened). slice_get old o.object ≡ None) (same_Some opened other (by ∙ is)) none.0),
+      ap (λ (c : Custodies). of c new peers) same ∙ objects_are custody old new peers none.1,
+    )
+
+-- it stays as it is
+pub leaves_none : (s : State) (place : ℕ) → HasNoSession s place → LeavesOf place s s
+leaves_none s place none = inr (inl none, refl)
 
 pub goes_from : (old mid : State) (clients : Clients) (place : ℕ) → LeavesOf place old mid →
-    peers_of clients ≡ change mid.peers place (λ p. nobody) → Goes place old [] [] (state_of mid.objects clients)
-goes_from old mid clients place leaves is = (refl, refl, (mid, leaves, peers_are mid.objects clients (change mid.peers place (λ p. nobody)) is))
+    peers_of clients ≡ change mid.peers place (λ p. nobody) → Goes place old [] [] (state_of mid.custody mid.objects clients)
+goes_from old mid clients place leaves is = (refl, refl, (mid, leaves, peers_are mid.custody mid.objects clients (change mid.peers place (λ p. nobody)) is))
 
 pub quits_by : (a b c : Post) (old mid new : State) (place : ℕ) → Brings (OnlyTold place bye_text) a old b mid → Tells b c [] [] → Goes place mid [] [] new →
     Brings (Quits place) a old c new

@@ -3,6 +3,7 @@ pub mod Cancelling
 pub mod Entering
 pub mod Placing
 pub mod Seating
+pub mod Settling
 pub mod Showing
 pub mod Submitting
 pub mod Telling

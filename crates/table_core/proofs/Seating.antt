@@ -14,6 +14,7 @@ use Rattle.client_core.specs.Held.{waits_of, waits_in, is_not, is_some, rest_in,
 use Rattle.client_core.specs.People.{Person}
 use Rattle.client_core.specs.Places.{has_in, is_here_in, opened_in as has_opened, held_in as all_held, place_at, place_for, Elsewhere}
 use Rattle.client_core.specs.Asks.{Asks}
+use Rattle.told_core.specs.Custody.{Custodies}
 use Rattle.told_core.specs.State.{Peer, State, cut_of, peer_of, peers_of, change, nobody, comer, opening, waiting, holding, left_with, who_in, opened_in, held_in}
 use Rattle.told_core.specs.Asked.{IsFor, Waits}
 use Rattle.told_core.specs.Turns.{TakesLine}
@@ -324,15 +325,15 @@ nothing_first (c ∷ line) behind is = true≢false (sym (ap has is))
     has [] = false
     has (b ∷ l) = true
 
-abbrev made_of : List Scene → List Peer → State
-made_of os ps = record { objects = os; peers = ps }
+abbrev made_of : Custodies → List Scene → List Peer → State
+made_of custody os ps = record { objects = os; peers = ps; custody = custody }
 
 -- the first held line was taken
 pub takes : (old new : Clients) (place : ℕ) (asked : Result Ask AllocError) → Elsewhere old new place →
-    IsTaken (place_at old place) (place_at new place) asked → (objects : List Scene) → TakesLine place asked (state_of objects old) (state_of objects new)
-takes old new place asked elsewhere taken objects = by (place_at old place) refl taken
+    IsTaken (place_at old place) (place_at new place) asked → (custody : Custodies) (objects : List Scene) → TakesLine place asked (state_of custody objects old) (state_of custody objects new)
+takes old new place asked elsewhere taken custody objects = by (place_at old place) refl taken
   where
-    by : (c : Option Client) → place_at old place ≡ c → IsTaken c (place_at new place) asked → TakesLine place asked (state_of objects old) (state_of objects new)
+    by : (c : Option Client) → place_at old place ≡ c → IsTaken c (place_at new place) asked → TakesLine place asked (state_of custody objects old) (state_of custody objects new)
     by None is t = absurd (nothing_first t.asks.line t.asks.behind t.asks.first.1)
     by (Some x) is t = record {
       peer = peer_of x;
@@ -342,7 +343,7 @@ takes old new place asked elsewhere taken objects = by (place_at old place) refl
       first = t.asks.first;
       asks = subst (λ b. IfOk asked (Asks (is_some x.opened) (is_whole_before b t.asks.behind) t.asks.line))
           (sym (ap (λ l. cut_of l x.is_cut) t.asks.first.1 ∙ cut_line t.asks.line t.asks.behind x.is_cut)) t.asks.asks;
-      left = ap (λ (ps : List Peer). made_of objects ps) (changes old new place (left_with t.asks.behind) elsewhere (λ w y one two.
+      left = ap (λ (ps : List Peer). made_of custody objects ps) (changes old new place (left_with t.asks.behind) elsewhere (λ w y one two.
           passed_peer t.count t.asks.line t.asks.behind w y (ap rest_in (sym one ∙ is) ∙ t.asks.first.1) t.asks.counted
           (at_some (IsPassed t.count) (Some x) (place_at new place) w y (sym is ∙ one) two t.passed)));
     }
@@ -352,23 +353,23 @@ none_opened opened is = true≢false (sym (ap (λ (o : Option Opened). is_some o
 
 -- who waits for a call
 pub waits_by : (clients : Clients) (place at session number : ℕ) (opened : Opened) → Some opened ≡ opened_in (slice_get (peers_of clients) place) →
-    IsFor at session number opened → (objects : List Scene) → Waits at session number (state_of objects clients) place
-waits_by clients place at session number opened by is objects = record { opened = opened; by = sym by; is = is }
+    IsFor at session number opened → (custody : Custodies) (objects : List Scene) → Waits at session number (state_of custody objects clients) place
+waits_by clients place at session number opened by is custody objects = record { opened = opened; by = sym by; is = is }
 
 pub waits_not : (clients : Clients) (place at session number : ℕ) (opened : Opened) → Some opened ≡ opened_in (slice_get (peers_of clients) place) →
-    (IsFor at session number opened → ⊥) → (objects : List Scene) → Waits at session number (state_of objects clients) place → ⊥
-waits_not clients place at session number opened by not objects waits =
+    (IsFor at session number opened → ⊥) → (custody : Custodies) (objects : List Scene) → Waits at session number (state_of custody objects clients) place → ⊥
+waits_not clients place at session number opened by not custody objects waits =
     not (subst (λ (o : Opened). IsFor at session number o) (sym (same_Some opened waits.opened (by ∙ waits.by))) waits.is)
 
 pub nobody_waits : (clients : Clients) (place at session number : ℕ) → None ≡ opened_in (slice_get (peers_of clients) place) →
-    (objects : List Scene) → Waits at session number (state_of objects clients) place → ⊥
-nobody_waits clients place at session number none objects waits = none_opened waits.opened (none ∙ waits.by)
+    (custody : Custodies) (objects : List Scene) → Waits at session number (state_of custody objects clients) place → ⊥
+nobody_waits clients place at session number none custody objects waits = none_opened waits.opened (none ∙ waits.by)
 
 -- none at the places that there are, so none at all
 pub none_waits : (clients : Clients) (at session number : ℕ) →
-    ((place : ℕ) → place < length (peers_of clients) → (objects : List Scene) → Waits at session number (state_of objects clients) place → ⊥) →
-    (objects : List Scene) (place : ℕ) → Waits at session number (state_of objects clients) place → ⊥
-none_waits clients at session number none objects place waits = none place (inside (peers_of clients) place waits.opened waits.by) objects waits
+    ((place : ℕ) → place < length (peers_of clients) → (custody : Custodies) (objects : List Scene) → Waits at session number (state_of custody objects clients) place → ⊥) →
+    (custody : Custodies) (objects : List Scene) (place : ℕ) → Waits at session number (state_of custody objects clients) place → ⊥
+none_waits clients at session number none custody objects place waits = none place (inside (peers_of clients) place waits.opened waits.by) custody objects waits
   where
     inside : (ps : List Peer) (k : ℕ) (o : Opened) → opened_in (slice_get ps k) ≡ Some o → k < length ps
     inside [] k o is = absurd (none_opened o is)
@@ -389,11 +390,16 @@ away_if clients who r h = if_none r h (λ a. away_is clients who a)
 
 -- none at the places up to one, and none there
 pub none_more : (clients : Clients) (at session number place : ℕ) →
-    ((k : ℕ) → k < place → (objects : List Scene) → Waits at session number (state_of objects clients) k → ⊥) →
-    ((objects : List Scene) → Waits at session number (state_of objects clients) place → ⊥) →
-    (k : ℕ) → k < place + 1 → (objects : List Scene) → Waits at session number (state_of objects clients) k → ⊥
-none_more clients at session number place before none k less objects waits = by (eqb_tells k place)
+    ((k : ℕ) → k < place → (custody : Custodies) (objects : List Scene) → Waits at session number (state_of custody objects clients) k → ⊥) →
+    ((custody : Custodies) (objects : List Scene) → Waits at session number (state_of custody objects clients) place → ⊥) →
+    (k : ℕ) → k < place + 1 → (custody : Custodies) (objects : List Scene) → Waits at session number (state_of custody objects clients) k → ⊥
+none_more clients at session number place before none k less custody objects waits = by (eqb_tells k place)
   where
     by : ((eqb k place ≡ true) × (k ≡ place)) ⊎ ((eqb k place ≡ false) × (k ≢ place)) → ⊥
-    by (inl same) = none objects (subst (λ n. Waits at session number (state_of objects clients) n) same.1 waits)
-    by (inr other) = before k (let ne = other.1 in omega (arith, less, ne)) objects waits
+    by (inl same) = none custody objects (subst (λ n. Waits at session number (state_of custody objects clients) n) same.1 waits)
+    by (inr other) = before k (let ne = other.1 in omega (arith, less, ne)) custody objects waits
+
+-- the one at a place has not this session of the object at a place
+abbrev pub HasNot : Clients → ℕ → ℕ → ℕ → Type 0
+HasNot clients at session place =
+    (o : Opened) → opened_in (slice_get (peers_of clients) place) ≡ Some o → o.object ≡ at → o.session ≡ session → ⊥

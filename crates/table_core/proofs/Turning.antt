@@ -22,9 +22,11 @@ use Rattle.client_core.specs.declared.ask.Sight.{Sight}
 use Rattle.client_core.specs.Inside.{inside_in}
 use Rattle.client_core.specs.Numbers.{cancel_in}
 use Rattle.hosted_core.specs.Scene.{Scene}
+use Rattle.told_core.specs.Custody.{Custodies}
 use Rattle.told_core.specs.State.{State, change, comer, holding, held_at, opened_at, waits_at, who_at, peers_of}
 use Rattle.told_core.specs.Deeds.{Texts, Deed, Nothing, OnlyTold, Then}
 use Rattle.told_core.specs.Asked.{AnswersCancel, AnswersInside, Heeds, Goes}
+use Rattle.told_core.specs.Gone.{Settles}
 use Rattle.told_core.specs.Turns.{IsIdle, HearsLine, HearsLast, HearsAt, TakesLine, GoesOn, EndsAsk, EndsHeld, Withdraws, WithdrawsAt, Leaves, LeavesIf, Comes, IfHere, AllLeave, Notes, place_of}
 use Rattle.told_core.specs.Turns.HearsLine.{does, cancels, sees, puts_off, holds, refuses}
 use Rattle.told_core.specs.Turns.GoesOn.{rests, does as does_more}
@@ -33,7 +35,7 @@ use Rattle.table_core.specs.Brings.{Brings, Continues, EndsSome}
 use Rattle.table_core.specs.Moves.{Gives}
 use Rattle.table_core.specs.Seen.{seen, state_of}
 use Rattle.table_core.specs.declared.table.Table.{Table}
-use Rattle.table_core.proofs.Bringing.{brings_as, brings_none, brings_then, continues_by, continued}
+use Rattle.table_core.proofs.Bringing.{brings_as, brings_none, brings_then, continues_by}
 use Rattle.table_core.proofs.Entering.{peers_are}
 use Rattle.table_core.proofs.Telling.{tells_none, tells_then}
 
@@ -50,43 +52,43 @@ pub line_cancels : (a b : Post) (old new : State) (place told : ℕ) (text : Lis
 line_cancels a b old new place told text is_whole busy whole reads brings =
     brings_as (AnswersCancel place told) (HearsLine place text is_whole) a b old new (λ said added is. cancels busy whole told reads is) brings
 
-pub line_held : (a : Post) (objects : List Scene) (old new : Clients) (place : ℕ) (text : List ℕ) (is_whole : Bool) → (IsIdle (state_of objects old) place → ⊥) →
-    peers_of new ≡ change (peers_of old) place (holding text is_whole) → Brings (HearsLine place text is_whole) a (state_of objects old) a (state_of objects new)
-line_held a objects old new place text is_whole busy peers =
-    subst (λ (s : State). Brings (HearsLine place text is_whole) a (state_of objects old) a s)
-    (sym (peers_are objects new (change (peers_of old) place (holding text is_whole)) peers))
+pub line_held : (custody : Custodies) (a : Post) (objects : List Scene) (old new : Clients) (place : ℕ) (text : List ℕ) (is_whole : Bool) → (IsIdle (state_of custody objects old) place → ⊥) →
+    peers_of new ≡ change (peers_of old) place (holding text is_whole) → Brings (HearsLine place text is_whole) a (state_of custody objects old) a (state_of custody objects new)
+line_held custody a objects old new place text is_whole busy peers =
+    subst (λ (s : State). Brings (HearsLine place text is_whole) a (state_of custody objects old) a s)
+    (sym (peers_are custody objects new (change (peers_of old) place (holding text is_whole)) peers))
     (record { said = []; added = []; tells = tells_none a; is = holds busy })
 
-pub line_refused : (a b : Post) (objects : List Scene) (old mid : Clients) (new : State) (place : ℕ) (text : List ℕ) (is_whole : Bool) →
-    (IsIdle (state_of objects old) place → ⊥) → peers_of mid ≡ peers_of old →
-    Brings (OnlyTold place (line_text (lines.Unsubmitted faults.Memory))) a (state_of objects mid) b new →
-    Brings (HearsLine place text is_whole) a (state_of objects old) b new
-line_refused a b objects old mid new place text is_whole busy same brings =
-    brings_as (OnlyTold place (line_text (lines.Unsubmitted faults.Memory))) (HearsLine place text is_whole) a b (state_of objects old) new
+pub line_refused : (custody : Custodies) (a b : Post) (objects : List Scene) (old mid : Clients) (new : State) (place : ℕ) (text : List ℕ) (is_whole : Bool) →
+    (IsIdle (state_of custody objects old) place → ⊥) → peers_of mid ≡ peers_of old →
+    Brings (OnlyTold place (line_text (lines.Unsubmitted faults.Memory))) a (state_of custody objects mid) b new →
+    Brings (HearsLine place text is_whole) a (state_of custody objects old) b new
+line_refused custody a b objects old mid new place text is_whole busy same brings =
+    brings_as (OnlyTold place (line_text (lines.Unsubmitted faults.Memory))) (HearsLine place text is_whole) a b (state_of custody objects old) new
     (λ said added is. refuses busy is)
-    (subst (λ (s : State). Brings (OnlyTold place (line_text (lines.Unsubmitted faults.Memory))) a s b new) (peers_are objects mid (peers_of old) same) brings)
+    (subst (λ (s : State). Brings (OnlyTold place (line_text (lines.Unsubmitted faults.Memory))) a s b new) (peers_are custody objects mid (peers_of old) same) brings)
 
 pub line_sees : (a b : Post) (old new : State) (place : ℕ) (inside : Sight) (text : List ℕ) (is_whole : Bool) → (IsIdle old place → ⊥) → is_whole ≡ true →
     Reads inside_in (λ i. i) text (Some inside) → Brings (AnswersInside place inside) a old b new → Brings (HearsLine place text is_whole) a old b new
 line_sees a b old new place inside text is_whole busy whole reads brings =
     brings_as (AnswersInside place inside) (HearsLine place text is_whole) a b old new (λ said added is. sees busy whole inside reads is) brings
 
-pub line_put_off : (a : Post) (objects : List Scene) (old new : Clients) (place : ℕ) (text : List ℕ) (is_whole : Bool) (inside : Sight) →
-    Asks (is_some (opened_at (state_of objects old) place)) is_whole text (asks.Inside inside) →
-    peers_of new ≡ change (peers_of old) place (holding text is_whole) → Brings (HearsLine place text is_whole) a (state_of objects old) a (state_of objects new)
-line_put_off a objects old new place text is_whole inside ask peers =
-    subst (λ (s : State). Brings (HearsLine place text is_whole) a (state_of objects old) a s)
-    (sym (peers_are objects new (change (peers_of old) place (holding text is_whole)) peers))
+pub line_put_off : (custody : Custodies) (a : Post) (objects : List Scene) (old new : Clients) (place : ℕ) (text : List ℕ) (is_whole : Bool) (inside : Sight) →
+    Asks (is_some (opened_at (state_of custody objects old) place)) is_whole text (asks.Inside inside) →
+    peers_of new ≡ change (peers_of old) place (holding text is_whole) → Brings (HearsLine place text is_whole) a (state_of custody objects old) a (state_of custody objects new)
+line_put_off custody a objects old new place text is_whole inside ask peers =
+    subst (λ (s : State). Brings (HearsLine place text is_whole) a (state_of custody objects old) a s)
+    (sym (peers_are custody objects new (change (peers_of old) place (holding text is_whole)) peers))
     (record { said = []; added = []; tells = tells_none a; is = puts_off inside ask })
 
-pub line_off_refused : (a b : Post) (objects : List Scene) (old mid : Clients) (new : State) (place : ℕ) (text : List ℕ) (is_whole : Bool) (inside : Sight) →
-    IsIdle (state_of objects old) place → Asks (is_some (opened_at (state_of objects old) place)) is_whole text (asks.Inside inside) →
-    peers_of mid ≡ peers_of old → Brings (OnlyTold place (line_text (lines.Unsubmitted faults.Memory))) a (state_of objects mid) b new →
-    Brings (HearsLine place text is_whole) a (state_of objects old) b new
-line_off_refused a b objects old mid new place text is_whole inside idle ask same brings =
-    brings_as (OnlyTold place (line_text (lines.Unsubmitted faults.Memory))) (HearsLine place text is_whole) a b (state_of objects old) new
+pub line_off_refused : (custody : Custodies) (a b : Post) (objects : List Scene) (old mid : Clients) (new : State) (place : ℕ) (text : List ℕ) (is_whole : Bool) (inside : Sight) →
+    IsIdle (state_of custody objects old) place → Asks (is_some (opened_at (state_of custody objects old) place)) is_whole text (asks.Inside inside) →
+    peers_of mid ≡ peers_of old → Brings (OnlyTold place (line_text (lines.Unsubmitted faults.Memory))) a (state_of custody objects mid) b new →
+    Brings (HearsLine place text is_whole) a (state_of custody objects old) b new
+line_off_refused custody a b objects old mid new place text is_whole inside idle ask same brings =
+    brings_as (OnlyTold place (line_text (lines.Unsubmitted faults.Memory))) (HearsLine place text is_whole) a b (state_of custody objects old) new
     (λ said added is. does idle (Ok (asks.Inside inside)) ask (inr (lines.Unsubmitted faults.Memory, tt, is)))
-    (subst (λ (s : State). Brings (OnlyTold place (line_text (lines.Unsubmitted faults.Memory))) a s b new) (peers_are objects mid (peers_of old) same) brings)
+    (subst (λ (s : State). Brings (OnlyTold place (line_text (lines.Unsubmitted faults.Memory))) a s b new) (peers_are custody objects mid (peers_of old) same) brings)
 
 -- the next held line is done
 pub goes_by : (a b : Post) (old mid new : State) (place : ℕ) (asked : Result Ask AllocError) → waits_at old place ≡ false → TakesLine place asked old mid →
@@ -100,13 +102,13 @@ goes_by a b old mid new place asked idle takes brings = continues_by a b old new
 })
 
 -- the same is seen
-pub goes_same : (a b : Post) (objects : List Scene) (old mid : Clients) (new : State) → peers_of mid ≡ peers_of old → Continues a (state_of objects mid) b new →
-    Continues a (state_of objects old) b new
-goes_same a b objects old mid new same goes = subst (λ (s : State). Continues a s b new) (peers_are objects mid (peers_of old) same) goes
+pub goes_same : (custody : Custodies) (a b : Post) (objects : List Scene) (old mid : Clients) (new : State) → peers_of mid ≡ peers_of old → Continues a (state_of custody objects mid) b new →
+    Continues a (state_of custody objects old) b new
+goes_same custody a b objects old mid new same goes = subst (λ (s : State). Continues a s b new) (peers_are custody objects mid (peers_of old) same) goes
 
-pub goes_still : (a : Post) (objects : List Scene) (old new : Clients) → peers_of new ≡ peers_of old → Continues a (state_of objects old) a (state_of objects new)
-goes_still a objects old new same p first so =
-    subst (λ (s : State). Brings GoesOn p first a s) (sym (peers_are objects new (peers_of old) same)) so
+pub goes_still : (custody : Custodies) (a : Post) (objects : List Scene) (old new : Clients) → peers_of new ≡ peers_of old → Continues a (state_of custody objects old) a (state_of custody objects new)
+goes_still custody a objects old new same p first so =
+    subst (λ (s : State). Brings GoesOn p first a s) (sym (peers_are custody objects new (peers_of old) same)) so
 
 -- held lines of one that has left
 pub ends_more : (a b : Post) (old mid new : State) (place : ℕ) (asked : Result Ask AllocError) → (asked ≡ Ok asks.Quit → ⊥) → TakesLine place asked old mid →
@@ -128,10 +130,10 @@ ends_last a b old mid new place asked is takes brings =
     brings_from : (said added : Texts) → Tells a b said added → EndsHeld place old said added new → Brings (EndsHeld place) a old b new
     brings_from said added tells is = record { said = said; added = added; tells = tells; is = is }
 
-pub ends_none : (a : Post) (objects : List Scene) (old new : Clients) (place : ℕ) → NoLineFeed (held_at (state_of objects old) place) → peers_of new ≡ peers_of old →
-    Brings (EndsHeld place) a (state_of objects old) a (state_of objects new)
-ends_none a objects old new place none same =
-    subst (λ (s : State). Brings (EndsHeld place) a (state_of objects old) a s) (sym (peers_are objects new (peers_of old) same))
+pub ends_none : (custody : Custodies) (a : Post) (objects : List Scene) (old new : Clients) (place : ℕ) → NoLineFeed (held_at (state_of custody objects old) place) → peers_of new ≡ peers_of old →
+    Brings (EndsHeld place) a (state_of custody objects old) a (state_of custody objects new)
+ends_none custody a objects old new place none same =
+    subst (λ (s : State). Brings (EndsHeld place) a (state_of custody objects old) a s) (sym (peers_are custody objects new (peers_of old) same))
     (record { said = []; added = []; tells = tells_none a; is = all none })
 
 pub some_then_all : (a b c : Post) (old mid new : State) (place : ℕ) → EndsSome place a old b mid → Brings (EndsHeld place) b mid c new → Brings (EndsHeld place) a old c new
@@ -213,8 +215,8 @@ is_here a b old new who place deed is here brings =
     brings_as (deed place) (IfHere who deed) a b old new
     (λ said added d. inl (subst (λ p. who_at old p ≡ Some who) is here, subst (λ p. deed p old said added new) is d)) brings
 
-pub hears_then : (a b c : Post) (old mid new : State) (first : Deed) → Brings first a old b mid → Continues b mid c new → Brings (Then first GoesOn) a old c new
-hears_then a b c old mid new first one goes = brings_then first GoesOn a b c old mid new one (continued b c mid new goes)
+pub hears_then : (a b c : Post) (old mid new : State) (first : Deed) → Brings first a old b mid → Brings Settles b mid c new → Brings (Then first Settles) a old c new
+hears_then a b c old mid new first one goes = brings_then first Settles a b c old mid new one goes
 
 pub way_is_free : (a : Post) (s : State) (who : ℕ) → who_at s (place_of s who) ≡ None → Brings (LeavesIf (place_of s who)) a s a s
 way_is_free a s who none = nobody_leaves a s (place_of s who) (sym none)
@@ -224,15 +226,15 @@ pub way_is_made : (a b : Post) (old new : State) (who place : ℕ) → place ≡
 way_is_made a b old new who place is here brings =
     subst (λ p. Brings (LeavesIf p) a old b new) is (one_leaves a b old new place here.0 (sym here.1) brings)
 
-pub joins_by : (a b : Post) (old : State) (objects : List Scene) (mid new : Clients) (who : ℕ) → Brings (LeavesIf (place_of old who)) a old b (state_of objects mid) →
-    peers_of new ≡ change (peers_of mid) (place_of (state_of objects mid) who) (λ p. comer who) →
-    Brings (Then (LeavesIf (place_of old who)) (Comes who)) a old b (state_of objects new)
-joins_by a b old objects mid new who way peers =
-    brings_then (LeavesIf (place_of old who)) (Comes who) a b b old (state_of objects mid) (state_of objects new) way (record {
+pub joins_by : (custody : Custodies) (a b : Post) (old : State) (objects : List Scene) (mid new : Clients) (who : ℕ) → Brings (LeavesIf (place_of old who)) a old b (state_of custody objects mid) →
+    peers_of new ≡ change (peers_of mid) (place_of (state_of custody objects mid) who) (λ p. comer who) →
+    Brings (Then (LeavesIf (place_of old who)) (Comes who)) a old b (state_of custody objects new)
+joins_by custody a b old objects mid new who way peers =
+    brings_then (LeavesIf (place_of old who)) (Comes who) a b b old (state_of custody objects mid) (state_of custody objects new) way (record {
       said = [];
       added = [];
       tells = tells_none b;
-      is = (refl, refl, peers_are objects new (change (peers_of mid) (place_of (state_of objects mid) who) (λ p. comer who)) peers);
+      is = (refl, refl, peers_are custody objects new (change (peers_of mid) (place_of (state_of custody objects mid) who) (λ p. comer who)) peers);
     })
 
 pub nothing_by : (a : Post) (old new : State) → new ≡ old → Brings Nothing a old a new
@@ -267,8 +269,8 @@ not_false false is = absurd (true≢false is)
 
 -- what a turn came to
 pub heard : (old new : Table) (a b : Post) (who : ℕ) (text : List ℕ) (end : LineEnd) →
-    Brings (IfHere who (λ (place : ℕ). Then (HearsAt place text end) GoesOn)) a (seen old) b (seen new) → Does Gives old (Heard who text end) new a b
+    Brings (IfHere who (λ (place : ℕ). Then (HearsAt place text end) Settles)) a (seen old) b (seen new) → Does Gives old (Heard who text end) new a b
 heard old new a b who text end brings = record { said = brings.said; added = brings.added; step = brings.is; tells = brings.tells }
 
-pub noted : (old new : Table) (a b : Post) (note : Note) → Brings (Then (Notes note) GoesOn) a (seen old) b (seen new) → Does Gives old (Noted note) new a b
+pub noted : (old new : Table) (a b : Post) (note : Note) → Brings (Then (Notes note) Settles) a (seen old) b (seen new) → Does Gives old (Noted note) new a b
 noted old new a b note brings = record { said = brings.said; added = brings.added; step = brings.is; tells = brings.tells }

@@ -1,15 +1,15 @@
 -- What a turn of a table gives.
 use Rattle.std.specs.Prelude.{ℕ, List}
 use Rattle.post_core.specs.Turns.{Asked}
-use Rattle.told_core.specs.Moves.{IsFrontAt}
-use Rattle.told_core.specs.Turns as told
+use Rattle.told_core.specs.Moves.{FrontsHeld}
+use Rattle.told_core.specs.Given as told
 use Rattle.watch_core.specs.Looks.{IsStatus}
 use Rattle.table_core.specs.Seen.{seen}
 use Rattle.table_core.specs.declared.table.Table.{Table}
 
--- a text is a front that stands for the next epoch of the object at this place of a table
+-- a text stands for the next epoch of the object at this place of a table, and for what is held of it
 abbrev pub Fronts : Table → ℕ → List ℕ → Type 0
-Fronts t journal front = IsFrontAt t.objects.items journal front
+Fronts t journal front = FrontsHeld (seen t) journal front
 
 -- what is asked of a table gives this
 abbrev pub Gives : Table → Asked → List (ℕ × List ℕ) → List (ℕ × List ℕ) → Table → Type 0

@@ -1,5 +1,5 @@
 -- Parts of what is done for one that asks.
-use Rattle.std.specs.Prelude.{◌≡◌, ◌⊎◌, ℕ, List, [], ◌∷◌, ◌++◌, Option, Some, None, Result, Ok, Err, slice_get}
+use Rattle.std.specs.Prelude.{◌≡◌, ◌⊎◌, ℕ, false, List, [], ◌∷◌, ◌++◌, Option, Some, None, Result, Ok, Err, slice_get}
 use Rattle.std.specs.Global.{Vec}
 use Rattle.std.specs.declared.alloc.AllocError.{AllocError}
 use Rattle.path_tree.specs.Identifier.{IsName}
@@ -9,6 +9,7 @@ use Rattle.script_text.specs.Answers.{cancelled_line}
 use Rattle.session_text.specs.Lines.{accepted_text, cancel_name, withdrawn_text}
 use Rattle.ask_core.specs.declared.answer.Cancelled.TheVariants as answers
 use Rattle.ask_core.specs.declared.answer.SubmitFault.{SubmitFault}
+use Rattle.live_core.specs.declared.call.Ran.{Ran}
 use Rattle.live_core.specs.declared.live.Taken.{Taken}
 use Rattle.live_core.specs.Lines.{all_lines}
 use Rattle.guest_core.specs.declared.guests.Entered.{Entered}
@@ -26,7 +27,9 @@ use Rattle.post_core.specs.Posts.{Tells}
 use Rattle.post_core.specs.declared.post.Post.{Post}
 use Rattle.told_core.specs.State.{State, opening, changed, with_object, told_to, counted, session_by}
 use Rattle.told_core.specs.Deeds.{Texts, Deed, OnlyTold}
-use Rattle.told_core.specs.Asked.{IsRefused, Sits, Submits, AllEnd, Ends, LetsGo, IsNotCancelled, LeavesObject, HasNoSession, keyed_text}
+use Rattle.told_core.specs.Custody.{Custody, IsOwed, not_held_text}
+use Rattle.told_core.specs.Asked.{IsRefused, Sits, Submits, AllEnd, Ends, Follows, LetsGo, IsNotCancelled, LeavesObject, MayCall, NoneLeaves, keyed_text}
+use Rattle.told_core.specs.Gone.{Frees, SeatsOne}
 use Rattle.told_core.specs.Turns.{NoneWaits}
 
 -- the one at a place is told this, and has opened that
@@ -62,7 +65,7 @@ ComesAt at client None before old after new = Stays before old after new
 
 -- a session leaves, or there is none
 abbrev pub LeavesOf : ℕ → State → State → Type 0
-LeavesOf place old new = LeavesObject place old new ⊎ (HasNoSession old place × (new ≡ old))
+LeavesOf place old new = LeavesObject place old new ⊎ (NoneLeaves old place × (new ≡ old))
 
 -- a call was made of an object
 pub record HasMade (seat : Opened) (operation : ℕ) (arguments : List Datum) (taken : Taken) (before : Post) (old : State) (behind : Post) (new : State) : Type 0 where
@@ -82,6 +85,12 @@ pub record TellsTaken (place : ℕ) (seat : Opened) (taken : Taken) (object : Sc
   pub told : said ≡ told_to old.peers place (accepted_text (told_of object taken.number)) ++ ended
   pub lines : added ≡ []
   pub ends : AllEnd seat.object object taken.ran.items (changed old place (opening (counted (told_of object taken.number) seat))) ended [] new
+
+-- and what is held follows
+pub record TellsAll (place : ℕ) (seat : Opened) (taken : Taken) (object : Scene) (old : State) (said added : Texts) (new : State) : Type 0 where
+  pub mid : State
+  pub tells : TellsTaken place seat taken object old said added mid
+  pub follows : Follows seat.object object taken.ran.items mid new
 
 -- a call is made, or refused
 abbrev pub SubmitsOr : ℕ → Opened → ℕ → List Datum → Deed
@@ -107,6 +116,53 @@ abbrev pub MakesCall : ℕ → Opened → Option ℕ → List Datum → Deed
 MakesCall place opened operation arguments old said added new =
     MakesOne place opened operation arguments old said added new ⊎ RefusesOne place opened old said added new
 
+-- it is told that it does not hold what a call would end, or why the call is refused otherwise
+abbrev pub TellsUnheld : ℕ → Deed
+TellsUnheld place old said added new = OnlyTold place not_held_text old said added new ⊎ IsRefused place old said added new
+
+-- it may make a call, by what is held, where that is of an operation
+abbrev pub MayAsk : State → Opened → Option ℕ → List Datum → Type 0
+MayAsk s opened operation arguments = (asked : ℕ) → operation ≡ Some asked → MayCall s opened asked arguments
+
+-- it may not
+abbrev pub MayNotAsk : State → Opened → Option ℕ → List Datum → Type 0
+MayNotAsk s opened operation arguments = (asked : ℕ) × (operation ≡ Some asked) × (MayCall s opened asked arguments → ⊥)
+
+-- the call of one that has opened an object is made, or refused, for what is held too
+abbrev pub AsksCall : ℕ → Opened → Option ℕ → List Datum → Deed
+AsksCall place opened operation arguments old said added new =
+    (MayAsk old opened operation arguments × MakesCall place opened operation arguments old said added new)
+    ⊎ (MayNotAsk old opened operation arguments × TellsUnheld place old said added new)
+
+-- a session of the object at a place, which no connection has
+abbrev pub bare_seat : ℕ → ℕ → Opened
+bare_seat at session = record { object = at; session = session; is_named = false; waits = false; calls = 0; told = 0 }
+
+-- a call is owed for a session, where there is such an object
+abbrev pub IsOwedAt : State → ℕ → ℕ → ℕ → List Datum → Type 0
+IsOwedAt s at session operation arguments =
+    (object : Scene) → slice_get s.objects at ≡ Some object →
+    (c : Custody) × (slice_get s.custody at ≡ Some c) × IsOwed (object_of object.hall.object) c session operation arguments
+
+-- each that waits for one that ran is told its end, and what is held follows
+pub record EndsAll (at : ℕ) (object : Scene) (ran : List Ran) (old : State) (said added : Texts) (new : State) : Type 0 where
+  pub mid : State
+  pub ends : AllEnd at object ran old said [] mid
+  pub lines : added ≡ []
+  pub follows : Follows at object ran mid new
+
+-- something is known of what is held of the object at a place
+abbrev pub HasCustody : State → ℕ → Type 0
+HasCustody s at = (c : Custody) × (slice_get s.custody at ≡ Some c)
+
+-- a session that no connection has gets a number, or nothing is done
+abbrev pub SeatsOr : ℕ → State → State → Type 0
+SeatsOr at old new = ((session : ℕ) × SeatsOne at session old [] [] new) ⊎ (new ≡ old)
+
+-- a session that no connection has leaves, or nothing is done
+abbrev pub FreesOr : ℕ → ℕ → State → State → Type 0
+FreesOr at session old new = Frees at session old [] [] new ⊎ (new ≡ old)
+
 -- what a key says of a call of the object that was opened
 abbrev pub SaysOf : Opened → ℕ → Option ℕ → List Datum → Keyed → State → Type 0
 SaysOf opened key operation arguments keyed s =
@@ -114,7 +170,7 @@ SaysOf opened key operation arguments keyed s =
 
 abbrev pub UnderKey : ℕ → Opened → ℕ → Option ℕ → List Datum → Deed
 UnderKey place opened key operation arguments old said added new =
-    (SaysOf opened key operation arguments keys.New old × MakesCall place opened operation arguments old said added new)
+    (SaysOf opened key operation arguments keys.New old × AsksCall place opened operation arguments old said added new)
     ⊎ (((keyed : Keyed) × SaysOf opened key operation arguments keyed old × (keyed ≡ keys.New → ⊥)
     × OnlyTold place (keyed_text keyed) old said added new)
     ⊎ IsRefused place old said added new)

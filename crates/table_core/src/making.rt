@@ -14,7 +14,7 @@ ghost use Rattle.told_core.specs.Deeds.{OnlyTold};
 ghost use Rattle.told_core.specs.State.{counted, opened_at, session_by};
 ghost use Rattle.told_core.specs.Turns.{Withdraws};
 ghost use Rattle.table_core.specs.Brings.{Brings};
-ghost use Rattle.table_core.specs.Parts.{MakesCall, UnderKey, SubmitsOr, MakesAt, TellsTaken, TellsCancelled, CancelsOne, LetsGoAt};
+ghost use Rattle.table_core.specs.Parts.{MakesCall, TellsAll, UnderKey, SubmitsOr, MakesAt, TellsTaken, TellsCancelled, CancelsOne, LetsGoAt};
 ghost use Rattle.table_core.specs.Seen.{seen};
 
 use crate::objects::{
@@ -40,16 +40,16 @@ use value_core::datum::Datum;
 
 // Who asks for a call.
 #[derive(Clone, Copy)]
-struct Asker {
-    place: usize,
-    opened: Opened,
+pub(crate) struct Asker {
+    pub(crate) place: usize,
+    pub(crate) opened: Opened,
 }
 
 // A call that may be submitted: by which session, and of which operation.
 #[derive(Clone, Copy)]
-struct Ready {
-    seat: Opened,
-    operation: OpId,
+pub(crate) struct Ready {
+    pub(crate) seat: Opened,
+    pub(crate) operation: OpId,
 }
 
 // The session of one that has a name.
@@ -108,7 +108,7 @@ impl Table {
         };
         match key {
             None => {
-                self.call_new(asker, operation, arguments, post)?;
+                self.ask_new(asker, operation, arguments, post)?;
                 Ok(())
             }
             Some(key) => {
@@ -143,7 +143,7 @@ impl Table {
             return Ok(());
         };
         if is_new(&keyed) {
-            self.call_new(asker, operation, arguments, post)?;
+            self.ask_new(asker, operation, arguments, post)?;
             return Ok(());
         }
         self.answer_key(asker.place, keyed, post)?;
@@ -190,8 +190,8 @@ impl Table {
         }
     }
 
-    // A call that is to be made, where it may be.
-    fn call_new(
+    // A call that is to be made, where it may be, by what is held.
+    pub(crate) fn call_new(
         &mut self,
         asker: Asker,
         operation: Option<OpId>,
@@ -275,14 +275,14 @@ impl Table {
                 Ok(())
             }
             Ok(taken) => {
-                self.taken(place, ready.seat, &taken, post)?;
+                self.taken_all(place, ready.seat, &taken, post)?;
                 Ok(())
             }
         }
     }
 
     // Submits a call. The lines of all that ran join the journal.
-    fn make_call(
+    pub(crate) fn make_call(
         &mut self,
         ready: Ready,
         arguments: Vec<Datum>,
@@ -304,6 +304,22 @@ impl Table {
                 Ok(Ok(taken))
             }
         }
+    }
+
+    // A call was taken: it is told, and what is held follows.
+    fn taken_all(
+        &mut self,
+        place: usize,
+        seat: Opened,
+        taken: &Taken,
+        post: &mut Post,
+    ) -> Result<(), AllocError>
+        ensures { OnOk result ((object : Scene) → slice_get self.old.objects.items seat.object ≡ Some object
+            → Brings (TellsAll place seat taken.now object) post.old (seen self.old) post.new (seen self.new)) }
+    {
+        self.taken(place, seat, taken, post)?;
+        self.follow(seat.object, taken)?;
+        Ok(())
     }
 
     // A call was taken: its client is told so, and each client of those that ran the last line of its call. All that is
@@ -330,7 +346,12 @@ impl Table {
     }
 
     // Calls ran: the last line of each is told to the connection that made it.
-    fn all_ended(&mut self, at: usize, all: &[Ran], post: &mut Post) -> Result<(), AllocError>
+    pub(crate) fn all_ended(
+        &mut self,
+        at: usize,
+        all: &[Ran],
+        post: &mut Post,
+    ) -> Result<(), AllocError>
         ensures brings { OnOk result ((object : Scene) → slice_get self.old.objects.items at ≡ Some object
             → Brings (AllEnd at object all.now) post.old (seen self.old) post.new (seen self.new)) }
         ensures uncounted { self.new.tallies ≡ self.old.tallies }

@@ -5,6 +5,9 @@ ghost use Rattle.line_core.specs.Runs.{NoLineFeed};
 ghost use Rattle.hosted_core.specs.Scene.{Scene};
 ghost use Rattle.client_core.specs.Held.{waits_of};
 ghost use Rattle.told_core.specs.Asked.{IsFor, Waits};
+ghost use Rattle.told_core.specs.Custody.{Custodies};
+ghost use Rattle.client_core.specs.declared.client.Opened.{Opened as AnOpened};
+ghost use Rattle.told_core.specs.Gone.{NoneHas};
 ghost use Rattle.told_core.specs.State.{peers_of, change, nobody, comer, opening, waiting, holding, who_in, opened_in, held_in};
 ghost use Rattle.told_core.specs.Turns.{TakesLine};
 ghost use Rattle.table_core.specs.Seen.{state_of};
@@ -147,8 +150,8 @@ pub(crate) fn hold(
 
 /// Takes what the next held line of the one at a place asks for: it is held no more. `None`: no line is held.
 pub(crate) fn take(clients: &mut Clients, place: usize) -> Option<Result<Ask, AllocError>>
-    ensures some { IfSome result (λ asked. (objects : List Scene)
-        → TakesLine place asked (state_of objects clients.old) (state_of objects clients.new)) }
+    ensures some { IfSome result (λ asked. (custody : Custodies) (objects : List Scene)
+        → TakesLine place asked (state_of custody objects clients.old) (state_of custody objects clients.new)) }
     ensures none { IfNone result (NoLineFeed (held_in (slice_get (peers_of clients.old) place))) }
     ensures same { IfNone result (peers_of clients.new ≡ peers_of clients.old) }
 {
@@ -186,8 +189,8 @@ pub(crate) struct ToldCall {
 
 // Whether the one at a place waits for a call.
 fn is_waiter(clients: &Clients, place: usize, call: ToldCall) -> bool
-    ensures yes { result ≡ true → (objects : List Scene) → Waits call.at call.session call.told (state_of objects clients.now) place }
-    ensures no { result ≡ false → (objects : List Scene) → Waits call.at call.session call.told (state_of objects clients.now) place → ⊥ }
+    ensures yes { result ≡ true → (custody : Custodies) (objects : List Scene) → Waits call.at call.session call.told (state_of custody objects clients.now) place }
+    ensures no { result ≡ false → (custody : Custodies) (objects : List Scene) → Waits call.at call.session call.told (state_of custody objects clients.now) place → ⊥ }
 {
     match opened_at(clients, place) {
         None => false,
@@ -213,8 +216,8 @@ fn is_its(opened: Opened, call: ToldCall) -> bool
 
 /// The place of one that waits for a call: the one that is thought to be it, or the first one.
 pub(crate) fn waiter(clients: &Clients, thought: Option<usize>, call: ToldCall) -> Option<usize>
-    ensures some { IfSome result (λ place. (objects : List Scene) → Waits call.at call.session call.told (state_of objects clients.now) place) }
-    ensures none { IfNone result ((objects : List Scene) (place : ℕ) → Waits call.at call.session call.told (state_of objects clients.now) place → ⊥) }
+    ensures some { IfSome result (λ place. (custody : Custodies) (objects : List Scene) → Waits call.at call.session call.told (state_of custody objects clients.now) place) }
+    ensures none { IfNone result ((custody : Custodies) (objects : List Scene) (place : ℕ) → Waits call.at call.session call.told (state_of custody objects clients.now) place → ⊥) }
 {
     match thought {
         None => find_waiter(clients, call),
@@ -223,8 +226,8 @@ pub(crate) fn waiter(clients: &Clients, thought: Option<usize>, call: ToldCall) 
 }
 
 fn waiter_or(clients: &Clients, place: usize, call: ToldCall) -> Option<usize>
-    ensures some { IfSome result (λ place. (objects : List Scene) → Waits call.at call.session call.told (state_of objects clients.now) place) }
-    ensures none { IfNone result ((objects : List Scene) (place : ℕ) → Waits call.at call.session call.told (state_of objects clients.now) place → ⊥) }
+    ensures some { IfSome result (λ place. (custody : Custodies) (objects : List Scene) → Waits call.at call.session call.told (state_of custody objects clients.now) place) }
+    ensures none { IfNone result ((custody : Custodies) (objects : List Scene) (place : ℕ) → Waits call.at call.session call.told (state_of custody objects clients.now) place → ⊥) }
 {
     if is_waiter(clients, place, call) {
         return Some(place);
@@ -233,8 +236,8 @@ fn waiter_or(clients: &Clients, place: usize, call: ToldCall) -> Option<usize>
 }
 
 fn find_waiter(clients: &Clients, call: ToldCall) -> Option<usize>
-    ensures some { IfSome result (λ place. (objects : List Scene) → Waits call.at call.session call.told (state_of objects clients.now) place) }
-    ensures none { IfNone result ((objects : List Scene) (place : ℕ) → Waits call.at call.session call.told (state_of objects clients.now) place → ⊥) }
+    ensures some { IfSome result (λ place. (custody : Custodies) (objects : List Scene) → Waits call.at call.session call.told (state_of custody objects clients.now) place) }
+    ensures none { IfNone result ((custody : Custodies) (objects : List Scene) (place : ℕ) → Waits call.at call.session call.told (state_of custody objects clients.now) place → ⊥) }
 {
     for place in 0..count(clients) {
         if is_waiter(clients, place, call) {
@@ -242,4 +245,26 @@ fn find_waiter(clients: &Clients, call: ToldCall) -> Option<usize>
         }
     }
     None
+}
+
+// Whether the one at a place has a session of the object at a place.
+fn has_it(opened: Option<Opened>, at: usize, session: u16) -> bool
+    ensures { result ≡ false → (o : AnOpened) → opened ≡ Some o → o.object ≡ at → o.session ≡ session → ⊥ }
+{
+    match opened {
+        None => false,
+        Some(opened) => opened.object == at && opened.session == session,
+    }
+}
+
+/// Whether a connection has a session of the object at a place.
+pub(crate) fn has_session(clients: &Clients, at: usize, session: u16) -> bool
+    ensures { result ≡ false → (custody : Custodies) (objects : List Scene) → NoneHas at session (state_of custody objects clients.now) }
+{
+    for place in 0..count(clients) {
+        if has_it(opened_at(clients, place), at, session) {
+            return true;
+        }
+    }
+    false
 }

@@ -12,12 +12,13 @@ ghost use Rattle.table_core.specs.Objects.{IsNamed};
 ghost use Rattle.table_core.specs.Parts.{TellsOpened, ComesAt, LeavesOf};
 ghost use Rattle.table_core.specs.Seen.{seen};
 
-use crate::objects::{Comer, enter_at, leave_at, may_come, object_for};
+use crate::objects::{Comer, enter_at, may_come, object_for};
 use crate::peers::{go, open_as, opened_at, who_at};
 use crate::tell::{tell_line, tell_opened};
 use ask_core::answer::SubmitFault;
 use client_core::client::Opened;
 use client_core::clients::Clients;
+use custody_core::all::AllHeld;
 use guest_core::guests::{EnterFault, Entered};
 use hosted_core::hosted::Hosted;
 use keep_loop::Post;
@@ -35,8 +36,8 @@ pub(crate) const MOST_LINE: usize = 8_192;
 // The most bytes of the lines that tell of a name or of a cancel.
 pub(crate) const SHORT_LINE: usize = 192;
 
-/// All objects of a kept server, and all connections. A contract sees each object with its clients, and each place of
-/// connections (`specs/Seen.antt`).
+/// All objects of a kept server, and all connections. A contract sees each object with its clients, each place of
+/// connections, and what is held of each object (`specs/Seen.antt`).
 #[derive(Drop)]
 pub struct Table {
     pub(crate) alloc: Global,
@@ -48,6 +49,8 @@ pub struct Table {
     pub(crate) second: u64,
     // how many calls were taken, and how they ended
     pub(crate) tallies: Tallies,
+    // what is held of each object, or of none where no object says anything of gone clients and of time
+    pub(crate) custody: AllHeld,
 }
 
 // Counts of these objects, of which no call was taken.
@@ -79,6 +82,21 @@ impl Table {
     ) -> Result<Table, AllocError>
         ensures { IfOk result (λ t. t.objects ≡ objects) }
     {
+        let custody = AllHeld::new(alloc);
+        Table::with_held(alloc, objects, custody, places, now)
+    }
+
+    /// The same, of objects of which this is held, of each by its place.
+    pub fn with_held(
+        alloc: Global,
+        objects: Vec<Hosted>,
+        custody: AllHeld,
+        places: usize,
+        now: u64,
+    ) -> Result<Table, AllocError>
+        ensures objects { IfOk result (λ t. t.objects ≡ objects) }
+        ensures held { IfOk result (λ t. t.custody ≡ custody) }
+    {
         let clients = Clients::new(alloc, places)?;
         let line = Vec::with_capacity(alloc, MOST_LINE)?;
         let tallies = tallies_of(alloc, &objects)?;
@@ -89,6 +107,7 @@ impl Table {
             line,
             second: now,
             tallies,
+            custody,
         })
     }
 
@@ -235,12 +254,12 @@ impl Table {
             self.reject(place, SubmitFault::Memory, post)?;
             return Ok(());
         }
-        self.enter_known(place, at, name, client, post)?;
+        self.enter_held(place, at, name, client, post)?;
         Ok(())
     }
 
     // The same, where there is room for the lines that tell of it.
-    fn enter_known(
+    pub(crate) fn enter_known(
         &mut self,
         place: usize,
         at: usize,
@@ -328,35 +347,32 @@ impl Table {
         self.say(place, Line::Bye, post)?;
         let who = who_at(&self.clients, place);
         hang_up(post, who)?;
-        self.go(place);
+        self.go(place)?;
         Ok(())
     }
 
     // The one at a place has gone, and its session leaves.
     #[tactic(auto, using(crate::proofs::Entering::goes_from))]
-    pub(crate) fn go(&mut self, place: usize)
-        ensures { Goes place (seen self.old) [] [] (seen self.new) }
+    pub(crate) fn go(&mut self, place: usize) -> Result<(), AllocError>
+        ensures { OnOk result (Goes place (seen self.old) [] [] (seen self.new)) }
     {
-        self.leave_object(place);
+        self.leave_object(place)?;
         go(&mut self.clients, place);
+        Ok(())
     }
 
     // The session of the one at a place leaves. No call of it waits.
-    fn leave_object(&mut self, place: usize)
-        ensures { LeavesOf place (seen self.old) (seen self.new) }
+    fn leave_object(&mut self, place: usize) -> Result<(), AllocError>
+        ensures { OnOk result (LeavesOf place (seen self.old) (seen self.new)) }
     {
         let Some(opened) = opened_at(&self.clients, place) else {
-            return;
+            return Ok(());
         };
         if opened.session == 0 {
-            return;
+            return Ok(());
         }
-        leave_at(
-            &mut self.objects,
-            opened.object,
-            opened.session,
-            self.second,
-        );
+        self.leave_by(place, opened)?;
+        Ok(())
     }
 }
 

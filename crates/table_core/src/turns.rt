@@ -12,12 +12,13 @@ ghost use Rattle.told_core.specs.Asked.{Acts, Heeds};
 ghost use Rattle.told_core.specs.Deeds.{Then};
 ghost use Rattle.told_core.specs.State.{State, opened_at, peers_of};
 ghost use Rattle.told_core.specs.Turns.{IsIdle, HearsLine, HearsLast, HearsAt, GoesOn, EndsAsk, EndsHeld, WithdrawsAt, Leaves};
+ghost use Rattle.told_core.specs.Gone.{Settles};
 ghost use Rattle.told_core.specs.Turns.{LeavesIf, AllLeave, IfHere, Notes, Comes, place_of};
 ghost use Rattle.client_core.specs.declared.ask.Ask.TheVariants as asks;
 ghost use Rattle.table_core.specs.Brings.{Brings, Continues, EndsSome};
 ghost use Rattle.table_core.specs.Seen.{seen};
 
-use crate::objects::{begin_at, next_front, put_off_at};
+use crate::objects::{next_front, put_off_at};
 use crate::peers::{
     come, count, goes_on, hold, must_hold, next, opened_at, place_of, stall, take, taken_by, wake,
     who_at,
@@ -216,7 +217,7 @@ impl Table {
     }
 
     // Does the held lines of those of whom no call waits any more, and of those whom that lets go on.
-    fn go_on(&mut self, post: &mut Post) -> Result<(), AllocError>
+    pub(crate) fn go_on(&mut self, post: &mut Post) -> Result<(), AllocError>
         ensures { OnOk result (Continues post.old (seen self.old) post.new (seen self.new)) }
     {
         for _ in 0..u64::MAX {
@@ -290,7 +291,7 @@ impl Table {
     {
         self.withdraw_at(place, post)?;
         self.end_held(place, post)?;
-        self.go(place);
+        self.go(place)?;
         Ok(())
     }
 
@@ -413,14 +414,14 @@ impl Table {
         end: LineEnd,
         post: &mut Post,
     ) -> Result<(), AllocError>
-        ensures { OnOk result (Brings (IfHere who (λ (place : ℕ). Then (HearsAt place line.now end) GoesOn)) post.old
+        ensures { OnOk result (Brings (IfHere who (λ (place : ℕ). Then (HearsAt place line.now end) Settles)) post.old
             (seen self.old) post.new (seen self.new)) }
     {
         match place_of(&self.clients, who) {
             None => Ok(()),
             Some(place) => {
                 self.hear_at(place, line, end, post)?;
-                self.go_on(post)?;
+                self.settle(post)?;
                 Ok(())
             }
         }
@@ -467,10 +468,10 @@ impl Table {
     // Does what is to be done for a note.
     #[tactic(auto, using(crate::proofs::Turning::hears_then))]
     fn heed_note(&mut self, note: Note, post: &mut Post) -> Result<(), AllocError>
-        ensures { OnOk result (Brings (Then (Notes note) GoesOn) post.old (seen self.old) post.new (seen self.new)) }
+        ensures { OnOk result (Brings (Then (Notes note) Settles) post.old (seen self.old) post.new (seen self.new)) }
     {
         self.do_note(note, post)?;
-        self.go_on(post)?;
+        self.settle(post)?;
         Ok(())
     }
 
@@ -542,6 +543,7 @@ impl Table {
     fn tick(&mut self, second: u64)
         ensures { seen self.new ≡ seen self.old }
     {
+        self.look_held(second);
         self.second = second;
         wake(&mut self.clients);
     }
@@ -650,7 +652,10 @@ impl Served for Table {
     }
 
     fn due(&self, front: &mut Vec<u8>) -> Result<Option<usize>, AllocError> {
-        Ok(next_front(&self.objects, front))
+        match next_front(&self.objects, front) {
+            None => Ok(None),
+            Some(at) => Ok(self.tells_held(at, front)),
+        }
     }
 
     fn changed(&mut self, journal: usize, front: &[u8], went: bool) -> Result<(), AllocError> {
@@ -658,7 +663,7 @@ impl Served for Table {
             put_off_at(&mut self.objects, journal);
             return Ok(());
         }
-        if begin_at(&mut self.objects, journal, front)? {
+        if self.begin_held(journal, front)? {
             return Ok(());
         }
         Err(AllocError)

@@ -15,7 +15,7 @@ use Rattle.hosted_core.specs.Scene.{Scene}
 use Rattle.hosted_core.specs.Steps.{does, comes, gets_number, leaves, calls, cancels}
 use Rattle.told_core.specs.State.{State}
 use Rattle.told_core.specs.Deeds.{Texts, Deed, Nothing, OnlyTold, Then}
-use Rattle.told_core.specs.Asked.{IsRefused, OpensBare, OpensAs, Opens, Ends, AllEnd, Submits, GetsNumber, Sits, Calls, RepeatsUnder, IsTurnedAway, AnswersCall, LetsGo, AnswersCancel, AnswersInside, LeavesObject, Goes, Quits, Acts, Heeds}
+use Rattle.told_core.specs.Asked.{IsRefused, OpensBare, OpensAs, Opens, Ends, AllEnd, Follows, Submits, GetsNumber, Sits, Calls, RepeatsUnder, IsTurnedAway, AnswersCall, LetsGo, AnswersCancel, AnswersInside, LeavesObject, Goes, Quits, Acts, Heeds}
 use Rattle.told_core.specs.Inside.{Sees}
 use Rattle.told_core.specs.Moves.{Moves}
 use Rattle.told_core.proofs.Moving.{moves_none, moves_one, moves_quiet, moves_then}
@@ -45,6 +45,9 @@ told_keeps place text old new said added n = (ap (λ (s : State). s.objects) n.l
 
 pub refused_keeps : (place : ℕ) → Keeps (IsRefused place)
 refused_keeps place old new said added (line, is, only) = (ap (λ (s : State). s.objects) only.left, only.lines)
+
+pub told_moves : (place : ℕ) (text : List ℕ) → MovesBy (OnlyTold place text)
+told_moves place text = by_keeping (OnlyTold place text) (told_keeps place text)
 
 pub then_moves : (first second : Deed) → MovesBy first → MovesBy second → MovesBy (Then first second)
 then_moves first second one two old new said added is =
@@ -78,9 +81,12 @@ all_end_keeps at object (r ∷ all) old new said added (mid, first, rest, told, 
     let b = all_end_keeps at object all mid new rest added more in
     (b.0 ∙ a.0, b.1)
 
+pub follows_keeps : (at : ℕ) (object : Scene) (all : List Ran) (old new : State) → Follows at object all old new → new.objects ≡ old.objects
+follows_keeps at object all old new follows = ap (λ (s : State). s.objects) follows.left
+
 submits_moves : (place : ℕ) (seat : Opened) (operation : ℕ) (arguments : List Datum) → MovesBy (Submits place seat operation arguments)
 submits_moves place seat operation arguments old new said added is =
-    let same = (all_end_keeps seat.object is.after is.taken.ran.items _ new is.ended [] is.ends).0 in
+    let same = follows_keeps seat.object is.after is.taken.ran.items is.mid new is.follows ∙ (all_end_keeps seat.object is.after is.taken.ran.items _ is.mid is.ended [] is.ends).0 in
     subst (λ (a : Texts). Moves old.objects a new.objects) (sym is.lines)
     (subst (λ (l : List Scene). Moves old.objects ((seat.object, all_lines (object_of is.before.hall.object) is.taken.ran.items) ∷ []) l) (sym same)
     (moves_one old.objects seat.object is.before is.after _ is.there (does (calls seat.session operation arguments is.taken is.does))))
@@ -113,7 +119,8 @@ call_moves place key name arguments old new said added (inl is) = calls_moves pl
 call_moves place key name arguments old new said added (inr (inl is)) =
     by_keeping (RepeatsUnder place key name arguments) (repeats_keeps place key name arguments) old new said added is
 call_moves place key name arguments old new said added (inr (inr (inl is))) = by_keeping (IsRefused place) (refused_keeps place) old new said added is
-call_moves place key name arguments old new said added (inr (inr (inr is))) = turned_moves place old new said added is
+call_moves place key name arguments old new said added (inr (inr (inr (inl is)))) = turned_moves place old new said added is
+call_moves place key name arguments old new said added (inr (inr (inr (inr is)))) = told_moves place _ old new said added is.only
 
 pub lets_go_moves : (at session number : ℕ) → MovesBy (LetsGo at session number)
 lets_go_moves at session number old new said added is =

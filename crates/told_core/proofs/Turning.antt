@@ -1,7 +1,14 @@
 -- What each turn moves.
-use Rattle.std.proofs.Common.{◌≡◌, ap, subst, ℕ, zero, suc, inl, inr, List, [], ◌∷◌, Bool, true, false, Result, Ok, Err}
+use Rattle.std.proofs.Common.{◌≡◌, ◌∙◌, ap, sym, subst, ℕ, zero, suc, inl, inr, List, [], ◌∷◌, Bool, true, false, Result, Ok, Err}
 use Rattle.std.specs.Prelude.{length}
 use Rattle.std.specs.declared.alloc.AllocError.{AllocError}
+use Rattle.value_core.specs.declared.datum.Datum.{Datum}
+use Rattle.decl_core.specs.ObjectMap.{object_of}
+use Rattle.live_core.specs.Lines.{all_lines}
+use Rattle.hosted_core.specs.Scene.{Scene, with_guests}
+use Rattle.hosted_core.specs.Steps.{does as does_step, calls as calls_step, gets_number as number_step, leaves as leaves_step}
+use Rattle.guest_core.specs.declared.seats.Seat.TheVariants.{Nameless}
+use Rattle.guest_core.specs.Guests.{with_seat}
 use Rattle.post_core.specs.Turns.Asked.{Heard, Noted, Changes}
 use Rattle.post_core.specs.declared.served.LineEnd.{LineEnd}
 use Rattle.post_core.specs.declared.served.LineEnd.TheVariants as ends
@@ -10,7 +17,7 @@ use Rattle.post_core.specs.declared.served.Note.TheVariants as notes
 use Rattle.client_core.specs.declared.ask.Ask.{Ask}
 use Rattle.client_core.specs.declared.ask.Ask.TheVariants as asks
 use Rattle.told_core.specs.State.{State}
-use Rattle.told_core.specs.Deeds.{Texts, Deed, Nothing, OnlyTold, Then}
+use Rattle.told_core.specs.Deeds.{Texts, Deed, Nothing, Then}
 use Rattle.told_core.specs.Asked.{Goes}
 use Rattle.told_core.specs.Laws.{TurnsMove}
 use Rattle.told_core.specs.Moves.{Moves}
@@ -18,14 +25,13 @@ use Rattle.told_core.specs.Turns.HearsLine.{does, cancels, sees, puts_off, holds
 use Rattle.told_core.specs.Turns.GoesOn.{rests, does as does_more}
 use Rattle.told_core.specs.Turns.EndsHeld.{all, quits, goes_on}
 use Rattle.told_core.specs.Turns.{HearsLine, HearsLast, HearsAt, TakesLine, GoesOn, EndsAsk, EndsHeld, Withdraws, WithdrawsAt, Leaves, LeavesIf, Comes, IfHere, AllLeave, Notes, place_of}
-use Rattle.told_core.proofs.Moving.{moves_none, moves_then}
-use Rattle.told_core.proofs.Doing.{MovesBy, by_keeping, nothing_keeps, told_keeps, then_moves, heeds_moves, cancel_moves, inside_moves, lets_go_moves, goes_moves}
+use Rattle.told_core.specs.Gone.{CallsFor, SeatsOne, Frees, Settles}
+use Rattle.told_core.specs.Gone.Settles.{rests as settled, goes_on as settles_on, calls as calls_one, seats as seats_one, frees as frees_one}
+use Rattle.told_core.proofs.Moving.{moves_none, moves_one, moves_quiet, moves_then}
+use Rattle.told_core.proofs.Doing.{MovesBy, by_keeping, nothing_keeps, told_moves, then_moves, all_end_keeps, follows_keeps, heeds_moves, cancel_moves, inside_moves, lets_go_moves, goes_moves}
 
 nothing_moves : MovesBy Nothing
 nothing_moves = by_keeping Nothing nothing_keeps
-
-told_moves : (place : ℕ) (text : List ℕ) → MovesBy (OnlyTold place text)
-told_moves place text = by_keeping (OnlyTold place text) (told_keeps place text)
 
 takes_same : (place : ℕ) (asked : Result Ask AllocError) (old new : State) → TakesLine place asked old new → new.objects ≡ old.objects
 takes_same place asked old new is = ap (λ (s : State). s.objects) is.left
@@ -111,10 +117,44 @@ notes_moves (notes.Leaves who) old new said added is = if_here_moves who Leaves 
 notes_moves (notes.Ticks time) old new said added is = nothing_moves old new said added is
 notes_moves notes.Ends old new said added is = all_leave_moves (length old.peers) old new said added is
 
+calls_for_moves : (at session operation : ℕ) (arguments : List Datum) → MovesBy (CallsFor at session operation arguments)
+calls_for_moves at session operation arguments old new said added is =
+    let same = follows_keeps at is.after is.taken.ran.items is.mid new is.follows ∙ (all_end_keeps at is.after is.taken.ran.items _ is.mid said [] is.ends).0 in
+    let lines : List ℕ = all_lines (object_of is.before.hall.object) is.taken.ran.items in
+    subst (λ (a : Texts). Moves old.objects a new.objects) (sym is.lines)
+    (subst (λ (l : List Scene). Moves old.objects ((at, lines) ∷ []) l) (sym same)
+    (moves_one old.objects at is.before is.after lines is.there (does_step (calls_step session operation arguments is.taken is.does))))
+
+frees_moves : (at session : ℕ) → MovesBy (Frees at session)
+frees_moves at session old new said added is =
+    subst (λ (a : Texts). Moves old.objects a new.objects) (sym is.lines)
+    (subst (λ (s : State). Moves old.objects [] s.objects) (sym is.left)
+    (moves_quiet old.objects at is.object (with_guests is.object is.guests) is.there
+    (does_step (leaves_step session is.now is.was_here is.guests is.leaves))))
+
+seats_moves : (at session : ℕ) → MovesBy (SeatsOne at session)
+seats_moves at session old new said added is =
+    subst (λ (a : Texts). Moves old.objects a new.objects) (sym is.lines)
+    (subst (λ (s : State). Moves old.objects [] s.objects) (sym is.left)
+    (moves_quiet old.objects at is.object (with_guests is.object (with_seat is.object.guests session Nameless)) is.there
+    (does_step (number_step session is.free))))
+
+settles_moves : MovesBy Settles
+settles_moves old new said added settled = moves_none old.objects
+settles_moves old new said added (settles_on mid one first two further goes later) =
+    moves_then old.objects mid.objects new.objects first further (goes_on_moves old mid one first goes) (settles_moves mid new two further later)
+settles_moves old new said added (calls_one mid one first two further at session operation arguments is later) =
+    moves_then old.objects mid.objects new.objects first further (calls_for_moves at session operation arguments old mid one first is)
+    (settles_moves mid new two further later)
+settles_moves old new said added (seats_one mid one first two further at session is later) =
+    moves_then old.objects mid.objects new.objects first further (seats_moves at session old mid one first is) (settles_moves mid new two further later)
+settles_moves old new said added (frees_one mid one first two further at session is later) =
+    moves_then old.objects mid.objects new.objects first further (frees_moves at session old mid one first is) (settles_moves mid new two further later)
+
 pub turns_move : TurnsMove
 turns_move old new (Heard who line end) said added is =
-    if_here_moves who (λ place. Then (HearsAt place line end) GoesOn)
-    (λ place. then_moves (HearsAt place line end) GoesOn (at_moves place line end) goes_on_moves) old new said added is
-turns_move old new (Noted note) said added is = then_moves (Notes note) GoesOn (notes_moves note) goes_on_moves old new said added is
+    if_here_moves who (λ place. Then (HearsAt place line end) Settles)
+    (λ place. then_moves (HearsAt place line end) Settles (at_moves place line end) settles_moves) old new said added is
+turns_move old new (Noted note) said added is = then_moves (Notes note) Settles (notes_moves note) settles_moves old new said added is
 turns_move old new (Changes journal front true) said added is = is.2
 turns_move old new (Changes journal front false) said added is = ap (λ (s : State). s.objects) is.left

@@ -30,7 +30,8 @@ use Rattle.client_core.specs.declared.ask.Ask.{Ask}
 use Rattle.client_core.specs.declared.ask.Ask.TheVariants as asks
 use Rattle.client_core.specs.declared.ask.Sight.{Sight}
 use Rattle.client_core.specs.declared.client.Opened.{Opened}
-use Rattle.told_core.specs.State.{State, nobody, opening, waiting, opened_at, changed, with_object, told_to, counted, session_by}
+use Rattle.told_core.specs.Custody.{Custody, Custodies, MayMake, FollowsIn, IsFreeOf, HasSome, not_held_text}
+use Rattle.told_core.specs.State.{State, nobody, opening, waiting, opened_at, changed, with_object, with_custody, told_to, counted, session_by}
 use Rattle.told_core.specs.Deeds.{Texts, Deed, Nothing, OnlyTold}
 use Rattle.told_core.specs.Inside.{Sees}
 
@@ -108,8 +109,14 @@ AllEnd at object (r ∷ ran) old said added new =
     × Ends at r.call.session (told_of object r.call.number) (ended_text (told_of object r.call.number) r.reply) old first [] mid
     × AllEnd at object ran mid rest added new
 
+-- these calls of an object ran, in their order: what is held of it follows
+pub record Follows (at : ℕ) (object : Scene) (ran : List Ran) (old new : State) : Type 0 where
+  pub custody : Custodies
+  pub held : FollowsIn (slice_get old.custody at) at object ran old.custody custody
+  pub left : new ≡ with_custody old custody
+
 -- A call of the session is made, of this operation with these arguments: its number is told, and behind that the end of
--- each call that ran. The lines are those of all that ran.
+-- each call that ran. The lines are those of all that ran, and what is held follows from them.
 pub record Submits (place : ℕ) (seat : Opened) (operation : ℕ) (arguments : List Datum) (old : State) (said added : Texts) (new : State) : Type 0 where
   pub before : Scene
   pub there : slice_get old.objects seat.object ≡ Some before
@@ -119,7 +126,9 @@ pub record Submits (place : ℕ) (seat : Opened) (operation : ℕ) (arguments : 
   pub ended : Texts
   pub told : said ≡ told_to old.peers place (accepted_text (told_of after taken.number)) ++ ended
   pub lines : added ≡ (seat.object, all_lines (object_of before.hall.object) taken.ran.items) ∷ []
-  pub ends : AllEnd seat.object after taken.ran.items (changed (with_object old seat.object after) place (opening (counted (told_of after taken.number) seat))) ended [] new
+  pub mid : State
+  pub ends : AllEnd seat.object after taken.ran.items (changed (with_object old seat.object after) place (opening (counted (told_of after taken.number) seat))) ended [] mid
+  pub follows : Follows seat.object after taken.ran.items mid new
 
 -- a session gets a number with its first call
 pub record GetsNumber (place : ℕ) (old : State) (opened seat : Opened) (new : State) : Type 0 where
@@ -141,6 +150,11 @@ IsNew object opened None operation arguments = Unit {0}
 IsNew object opened (Some key) operation arguments =
     Says object (session_by opened) opened.calls key (Some operation) arguments keys.New
 
+-- it may make a call of the object that it has opened, by what is held: where the call would end what not anybody may end,
+-- its session holds that
+abbrev pub MayCall : State → Opened → ℕ → List Datum → Type 0
+MayCall s opened operation arguments = MayMake (slice_get s.custody opened.object) opened.session operation arguments
+
 -- the call that a line asks for is made: of the operation of this name, with these arguments, under a key that is new or none
 pub record Calls (place : ℕ) (key : Option ℕ) (name : List ℕ) (arguments : List Datum) (old : State) (said added : Texts) (new : State) : Type 0 where
   pub opened : Opened
@@ -150,10 +164,23 @@ pub record Calls (place : ℕ) (key : Option ℕ) (name : List ℕ) (arguments :
   pub operation : ℕ
   pub named : operation_name (object_of object.hall.object) operation ≡ name
   pub fresh : IsNew object opened key operation arguments
+  pub may : MayCall old opened operation arguments
   pub seat : Opened
   pub mid : State
   pub sits : Sits place old opened seat mid
   pub submits : Submits place seat operation arguments mid said added new
+
+-- it may not make the call: it is told so, and nothing is done
+pub record IsUnheld (place : ℕ) (key : Option ℕ) (name : List ℕ) (arguments : List Datum) (old : State) (said added : Texts) (new : State) : Type 0 where
+  pub opened : Opened
+  pub by : opened_at old place ≡ Some opened
+  pub object : Scene
+  pub there : slice_get old.objects opened.object ≡ Some object
+  pub operation : ℕ
+  pub named : operation_name (object_of object.hall.object) operation ≡ name
+  pub fresh : IsNew object opened key operation arguments
+  pub may_not : MayCall old opened operation arguments → ⊥
+  pub only : OnlyTold place not_held_text old said added new
 
 -- what is told of a call of which a key says that it was made before
 abbrev pub keyed_text : Keyed → List ℕ
@@ -193,7 +220,7 @@ pub record IsTurnedAway (place : ℕ) (old : State) (said added : Texts) (new : 
 abbrev pub AnswersCall : ℕ → Option ℕ → List ℕ → List Datum → Deed
 AnswersCall place key name arguments old said added new =
     Calls place key name arguments old said added new ⊎ (RepeatsUnder place key name arguments old said added new
-    ⊎ (IsRefused place old said added new ⊎ IsTurnedAway place old said added new))
+    ⊎ (IsRefused place old said added new ⊎ (IsTurnedAway place old said added new ⊎ IsUnheld place key name arguments old said added new)))
 
 -- the waiting call of a session is cancelled, and this number was told of it; its line is added, and it will not run
 pub record LetsGo (at session : ℕ) (number : ℕ) (old : State) (said added : Texts) (new : State) : Type 0 where
@@ -240,6 +267,7 @@ pub record LeavesObject (place : ℕ) (old new : State) : Type 0 where
   pub by : opened_at old place ≡ Some opened
   pub object : Scene
   pub there : slice_get old.objects opened.object ≡ Some object
+  pub free : IsFreeOf (slice_get old.custody opened.object) opened.is_named opened.session
   pub now : ℕ
   pub was_here : Bool
   pub guests : Guests
@@ -250,10 +278,23 @@ pub record LeavesObject (place : ℕ) (old new : State) : Type 0 where
 abbrev pub HasNoSession : State → ℕ → Type 0
 HasNoSession s place = (opened : Opened) → opened_at s place ≡ Some opened → opened.session ≢ 0 → slice_get s.objects opened.object ≡ None
 
+-- it has a session without a name that holds something
+pub record HoldsStill (s : State) (place : ℕ) : Type 0 where
+  pub opened : Opened
+  pub by : opened_at s place ≡ Some opened
+  pub bare : opened.is_named ≡ false
+  pub custody : Custody
+  pub has : slice_get s.custody opened.object ≡ Some custody
+  pub some : HasSome opened.session custody.held
+
+-- nobody is to leave: there is no session, or it stays until what it holds is given back
+abbrev pub NoneLeaves : State → ℕ → Type 0
+NoneLeaves s place = HasNoSession s place ⊎ HoldsStill s place
+
 -- it has gone: its session leaves, and nothing of it is left, also no line that was held
 abbrev pub Goes : ℕ → Deed
 Goes place old said added new =
-    (said ≡ []) × (added ≡ []) × ((mid : State) × (LeavesObject place old mid ⊎ (HasNoSession old place × (mid ≡ old)))
+    (said ≡ []) × (added ≡ []) × ((mid : State) × (LeavesObject place old mid ⊎ (NoneLeaves old place × (mid ≡ old)))
     × (new ≡ changed mid place (λ p. nobody)))
 
 -- it ends behind its calls

@@ -1,5 +1,8 @@
 pub mod Asked
+pub mod Custody
 pub mod Deeds
+pub mod Given
+pub mod Gone
 pub mod Inside
 pub mod Laws
 pub mod Moves

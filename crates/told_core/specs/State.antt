@@ -5,6 +5,7 @@ use Rattle.client_core.specs.declared.client.Opened.{Opened}
 use Rattle.client_core.specs.declared.clients.Clients.{Clients}
 use Rattle.client_core.specs.Held.{is_not, waits_of, with_waits}
 use Rattle.hosted_core.specs.Scene.{Scene}
+use Rattle.told_core.specs.Custody.{Custodies}
 
 -- A place of connections: which one is there, what it has opened, its lines that are held, each with its LF, and whether
 -- the LF of the last of them did not come.
@@ -14,10 +15,11 @@ pub record Peer : Type 0 where
   pub held : List ℕ
   pub is_cut : Bool
 
--- each object with its clients, and each place of connections
+-- each object with its clients, each place of connections, and what is held of each object
 pub record State : Type 0 where
   pub objects : List Scene
   pub peers : List Peer
+  pub custody : Custodies
 
 -- nobody is there
 abbrev pub nobody : Peer
@@ -97,6 +99,10 @@ changed s place f = record s { peers = change s.peers place f }
 
 abbrev pub with_object : State → ℕ → Scene → State
 with_object s at object = record s { objects = slice_set s.objects at object }
+
+-- now this is held of the objects
+abbrev pub with_custody : State → Custodies → State
+with_custody s custody = record s { custody = custody }
 
 abbrev pub one_text : Option ℕ → List ℕ → List (ℕ × List ℕ)
 one_text None bytes = []

@@ -11,8 +11,6 @@ use Rattle.session_text.specs.Lines.{bye_text, line_text}
 use Rattle.trace_core.specs.Events.{Called}
 use Rattle.live_core.specs.Hall.{Every}
 use Rattle.hosted_core.specs.Scene.{Scene}
-use Rattle.post_core.specs.Turns.{Asked}
-use Rattle.post_core.specs.Turns.Asked.{Heard, Noted, Changes}
 use Rattle.post_core.specs.declared.served.LineEnd.{LineEnd}
 use Rattle.post_core.specs.declared.served.LineEnd.TheVariants as ends
 use Rattle.post_core.specs.declared.served.Note.{Note}
@@ -28,7 +26,6 @@ use Rattle.client_core.specs.Numbers.{cancel_in}
 use Rattle.told_core.specs.State.{Peer, State, comer, holding, left_with, who_at, opened_at, held_at, waits_at, changed}
 use Rattle.told_core.specs.Deeds.{Texts, Deed, Nothing, OnlyTold, Then}
 use Rattle.told_core.specs.Asked.{AnswersCancel, AnswersInside, Heeds, LetsGo, Goes}
-use Rattle.told_core.specs.Moves.{Begins, IsFrontAt}
 
 -- no call of the one at a place waits, and no line of it is held
 abbrev pub IsIdle : State → ℕ → Type 0
@@ -152,12 +149,3 @@ Notes (notes.Joins who) = λ old said added new. Then (LeavesIf (place_of old wh
 Notes (notes.Leaves who) = IfHere who Leaves
 Notes (notes.Ticks time) = Nothing
 Notes notes.Ends = λ old said added new. AllLeave (length old.peers) old said added new
-
--- What a turn gives: what is done for what is asked, and for the held lines of those that it lets go on. A journal that
--- begins anew, by a front that stands for its object, tells nobody, and nothing is added for it.
-abbrev pub Gives : State → Asked → Texts → Texts → State → Type 0
-Gives old (Heard who line end) said added new = IfHere who (λ place. Then (HearsAt place line end) GoesOn) old said added new
-Gives old (Noted note) said added new = Then (Notes note) GoesOn old said added new
-Gives old (Changes journal front true) said added new =
-    (said ≡ []) × (added ≡ []) × Begins old.objects journal front new.objects × (new.peers ≡ old.peers) × IsFrontAt old.objects journal front
-Gives old (Changes journal front false) said added new = Nothing old said added new

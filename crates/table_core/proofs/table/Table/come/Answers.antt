@@ -7,7 +7,7 @@ use Rattle.table_core.proofs.Entering.{comes_in}
 use Rattle.table_core.proofs.table.Table.come.Goals as goal
 
 pub returns-in_ok-add-in-Some-Ok : goal.returns-in_ok-add-in-Some-Ok
-returns-in_ok-add-in-Some-Ok c = comes_in c.args.post.now c.add.new.self c.args.self.now.objects.items c.enter_at.new.objects.items (peers_of c.args.self.now.clients) c.args.at
+returns-in_ok-add-in-Some-Ok c = comes_in c.args.self.now.custody c.args.post.now c.add.new.self c.args.self.now.objects.items c.enter_at.new.objects.items (peers_of c.args.self.now.clients) c.args.at
     c.args.self.now.second c.args.client.now c.enter_at.new.line.items c.deref.result.now c.in-Some-Ok.entered
     (subst (λ (r : Option (Result Entered EnterFault)). EntersAt c.args.self.now.objects.items c.args.at c.args.client.now c.args.self.now.second r c.enter_at.new.line.items c.enter_at.new.objects.items)
     (c.in-Some-Ok.is ∙ ap Some c.in-Some-Ok.field-0-is) c.in_ok-enter_at.ensures)

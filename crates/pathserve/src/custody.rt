@@ -1,0 +1,164 @@
+//! What is held of the objects of a server when it starts.
+
+use crate::keep::{LIMITS, NAMES};
+use custody_core::all::AllHeld;
+use decl_core::object::Object;
+use gone_core::holding::Holding;
+use hold_core::held::Holds;
+use hold_form::hold::Rules;
+use hold_front::lines::push_held;
+use hold_front::past::play_held;
+use hold_front::text::{HeldFront, cut_held, read_held};
+use hosted_core::hosted::Hosted;
+use keep_start::start::{NotBegun, begin_behind};
+use recover_core::recover::{House, RecoverFault};
+use std::alloc::{AllocError, Global};
+
+/// An object that has begun, and what is held of it; or why it is not begun with.
+pub(crate) type BegunHeld = Result<(Hosted, Holds), NotBegun>;
+
+/// The rules of objects, in their order, or none where no object has any.
+#[derive(Drop)]
+pub(crate) struct AllRules {
+    rules: Vec<Rules>,
+    // whether any object has some
+    pub(crate) any: bool,
+}
+
+impl AllRules {
+    /// These, of the objects in their order.
+    pub(crate) fn new(rules: Vec<Rules>) -> AllRules {
+        let any = !rules.is_empty();
+        AllRules { rules, any }
+    }
+
+    /// Those of the next object: none, where there are no more.
+    pub(crate) fn next(&mut self, alloc: Global) -> Rules {
+        if self.rules.is_empty() {
+            return Rules {
+                holds: Vec::new(alloc),
+                everies: Vec::new(alloc),
+            };
+        }
+        self.rules.remove(0)
+    }
+}
+
+// How many lines there are.
+fn count_lines(lines: &[u8]) -> u64 {
+    let mut count: u64 = 0;
+    for byte in lines {
+        if *byte == b'\n' {
+            count = count.saturating_add(1);
+        }
+    }
+    count
+}
+
+// The fault of a journal without held lines, as it is of the journal that has so many behind others.
+fn moved(fault: RecoverFault, before: u64, count: u64) -> RecoverFault {
+    match fault {
+        RecoverFault::Contradicts(line) if line > before => {
+            RecoverFault::Contradicts(line.saturating_add(count))
+        }
+        RecoverFault::Line(line, fault) => RecoverFault::Line(line.saturating_add(count), fault),
+        fault => fault,
+    }
+}
+
+// What is not begun with, where held lines stood in the journal.
+fn moved_by(why: NotBegun, text: &[u8], front: usize, behind: usize) -> NotBegun {
+    match why {
+        NotBegun::Refused(fault) => {
+            let before = text.get(..front).unwrap_or(text);
+            let held = text.get(front..behind).unwrap_or(&[]);
+            NotBegun::Refused(moved(fault, count_lines(before), count_lines(held)))
+        }
+        why => why,
+    }
+}
+
+// The fault of a front that could not be read with what is held: an object of which nothing can be held had holds when its
+// journal was begun.
+fn fault_of(rules: &Rules, line: u64) -> RecoverFault {
+    if rules.holds.is_empty() {
+        return RecoverFault::Changed;
+    }
+    RecoverFault::Front(line)
+}
+
+/// Begins one object behind the lines of its journal, which has held lines or none.
+pub(crate) fn begin_held(
+    alloc: Global,
+    object: Object,
+    rules: &Rules,
+    lines: &[u8],
+) -> Result<BegunHeld, AllocError> {
+    if rules.holds.is_empty() && rules.everies.is_empty() {
+        return begin_plain(alloc, object, lines, Holds::new(alloc));
+    }
+    match read_held(alloc, &object, &rules.holds, lines)? {
+        Err(line) => Ok(Err(NotBegun::Refused(fault_of(rules, line)))),
+        Ok(read) => begin_read(alloc, object, rules, lines, read),
+    }
+}
+
+// Begins one object behind its journal, whose front was read with what is held.
+fn begin_read(
+    alloc: Global,
+    object: Object,
+    rules: &Rules,
+    lines: &[u8],
+    read: HeldFront,
+) -> Result<BegunHeld, AllocError> {
+    let cut = cut_held(alloc, lines, &read)?;
+    let (front, behind) = (read.front, read.behind);
+    let held = match play_held(alloc, &object, &rules.holds, read, lines)? {
+        Some(held) => held,
+        None => Holds::new(alloc),
+    };
+    match begin_plain(alloc, object, &cut, held)? {
+        Ok(begun) => Ok(Ok(begun)),
+        Err(why) => Ok(Err(moved_by(why, lines, front, behind))),
+    }
+}
+
+// Begins one object behind its journal without held lines, of which this is held.
+fn begin_plain(
+    alloc: Global,
+    object: Object,
+    lines: &[u8],
+    held: Holds,
+) -> Result<BegunHeld, AllocError> {
+    let house = House {
+        sessions: LIMITS.sessions,
+        names: NAMES,
+        now: 0,
+    };
+    match begin_behind(alloc, object, lines, house, LIMITS) {
+        Ok(hosted) => Ok(Ok((hosted, held))),
+        Err(why) => Ok(Err(why)),
+    }
+}
+
+/// Adds what is held of an object that has begun to that of the others, and its lines to its front: who holds something is
+/// gone. The error is that memory was refused.
+pub(crate) fn add_held(
+    alloc: Global,
+    custody: &mut AllHeld,
+    hosted: &mut Hosted,
+    rules: Rules,
+    held: Holds,
+    away: u64,
+    front: &mut Vec<u8>,
+) -> Result<(), AllocError> {
+    let mut holding = Holding::new(alloc, rules, held, away)?;
+    holding.begin(hosted, 0)?;
+    push_held(
+        front,
+        hosted.live().object(),
+        &holding.rules().holds,
+        holding.holds(),
+    )?;
+    custody.push(holding)
+}
