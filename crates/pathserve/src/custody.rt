@@ -78,27 +78,18 @@ fn moved_by(why: NotBegun, text: &[u8], front: usize, behind: usize) -> NotBegun
     }
 }
 
-// The fault of a front that could not be read with what is held: an object of which nothing can be held had holds when its
-// journal was begun.
-fn fault_of(rules: &Rules, line: u64) -> RecoverFault {
-    if rules.holds.is_empty() {
-        return RecoverFault::Changed;
-    }
-    RecoverFault::Front(line)
-}
-
-/// Begins one object behind the lines of its journal, which has held lines or none.
+/// Begins one object behind the lines of its journal, which has held lines only where something can be held.
 pub(crate) fn begin_held(
     alloc: Global,
     object: Object,
     rules: &Rules,
     lines: &[u8],
 ) -> Result<BegunHeld, AllocError> {
-    if rules.holds.is_empty() && rules.everies.is_empty() {
+    if rules.holds.is_empty() {
         return begin_plain(alloc, object, lines, Holds::new(alloc));
     }
     match read_held(alloc, &object, &rules.holds, lines)? {
-        Err(line) => Ok(Err(NotBegun::Refused(fault_of(rules, line)))),
+        Err(line) => Ok(Err(NotBegun::Refused(RecoverFault::Front(line)))),
         Ok(read) => begin_read(alloc, object, rules, lines, read),
     }
 }
