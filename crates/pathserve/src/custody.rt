@@ -78,7 +78,40 @@ fn moved_by(why: NotBegun, text: &[u8], front: usize, behind: usize) -> NotBegun
     }
 }
 
-/// Begins one object behind the lines of its journal, which has held lines only where something can be held.
+// Whether the line of this number, the first of which is 1, begins as one that tells what is held.
+fn tells_held(text: &[u8], line: u64) -> bool {
+    let mut count: u64 = 1;
+    for place in 0..text.len() {
+        if count == line {
+            return text[place..].starts_with(b"held ");
+        }
+        if text[place] == b'\n' {
+            count = count.saturating_add(1);
+        }
+    }
+    false
+}
+
+// The fault of a line of a front: a line that tells what is held, and that cannot be read, was written by other holds.
+fn fault_of(text: &[u8], line: u64) -> RecoverFault {
+    if tells_held(text, line) {
+        return RecoverFault::Changed;
+    }
+    RecoverFault::Front(line)
+}
+
+// Begins one object of which nothing can be held.
+fn begin_bare(alloc: Global, object: Object, lines: &[u8]) -> Result<BegunHeld, AllocError> {
+    match begin_plain(alloc, object, lines, Holds::new(alloc))? {
+        Err(NotBegun::Refused(RecoverFault::Front(line))) => {
+            Ok(Err(NotBegun::Refused(fault_of(lines, line))))
+        }
+        begun => Ok(begun),
+    }
+}
+
+/// Begins one object behind the lines of its journal. Where its front tells that something is held which this object does
+/// not hold so, it was changed.
 pub(crate) fn begin_held(
     alloc: Global,
     object: Object,
@@ -86,10 +119,10 @@ pub(crate) fn begin_held(
     lines: &[u8],
 ) -> Result<BegunHeld, AllocError> {
     if rules.holds.is_empty() {
-        return begin_plain(alloc, object, lines, Holds::new(alloc));
+        return begin_bare(alloc, object, lines);
     }
     match read_held(alloc, &object, &rules.holds, lines)? {
-        Err(line) => Ok(Err(NotBegun::Refused(RecoverFault::Front(line)))),
+        Err(line) => Ok(Err(NotBegun::Refused(fault_of(lines, line)))),
         Ok(read) => begin_read(alloc, object, rules, lines, read),
     }
 }
