@@ -92,20 +92,19 @@ fn tells_held(text: &[u8], line: u64) -> bool {
     false
 }
 
-// The fault of a line of a front: a line that tells what is held, and that cannot be read, was written by other holds.
-fn fault_of(text: &[u8], line: u64) -> RecoverFault {
-    if tells_held(text, line) {
-        return RecoverFault::Changed;
+// A fault of a journal: a line that tells what is held, and that cannot be read, was written of other holds.
+fn told_as(text: &[u8], fault: RecoverFault) -> RecoverFault {
+    match fault {
+        RecoverFault::Front(line) if tells_held(text, line) => RecoverFault::Changed,
+        RecoverFault::Line(line, _) if tells_held(text, line) => RecoverFault::Changed,
+        fault => fault,
     }
-    RecoverFault::Front(line)
 }
 
 // Begins one object of which nothing can be held.
 fn begin_bare(alloc: Global, object: Object, lines: &[u8]) -> Result<BegunHeld, AllocError> {
     match begin_plain(alloc, object, lines, Holds::new(alloc))? {
-        Err(NotBegun::Refused(RecoverFault::Front(line))) => {
-            Ok(Err(NotBegun::Refused(fault_of(lines, line))))
-        }
+        Err(NotBegun::Refused(fault)) => Ok(Err(NotBegun::Refused(told_as(lines, fault)))),
         begun => Ok(begun),
     }
 }
@@ -122,7 +121,10 @@ pub(crate) fn begin_held(
         return begin_bare(alloc, object, lines);
     }
     match read_held(alloc, &object, &rules.holds, lines)? {
-        Err(line) => Ok(Err(NotBegun::Refused(fault_of(lines, line)))),
+        Err(line) => {
+            let fault = told_as(lines, RecoverFault::Front(line));
+            Ok(Err(NotBegun::Refused(fault)))
+        }
         Ok(read) => begin_read(alloc, object, rules, lines, read),
     }
 }
