@@ -3,6 +3,7 @@ use Rattle.std.proofs.Common.{◌≡◌, ◌≢◌, ◌⊎◌, inl, inr, ◌∙�
 use Rattle.std.specs.Prelude.{Bool, true, false, Option, Some, None, Result, Ok, Err, slice_get, slice_set, map}
 use Rattle.std.specs.Global.{Vec}
 use Rattle.std.specs.declared.alloc.AllocError.{AllocError}
+use Rattle.std.proofs.lemmas.List.{append-nil}
 use Rattle.std.proofs.lemmas.Option.{same_Some}
 use Rattle.value_core.specs.declared.datum.Datum.{Datum}
 use Rattle.decl_core.specs.declared.object.Object.{Object}
@@ -103,17 +104,13 @@ module _ (heard : Lines) where
   did_opens_bare place name past old new said added a w is =
       let now : Opened = record { object = is.at; session = 0; is_named = false; waits = false; calls = 0; told = 0 } in
       let shown = told_to old.peers place (opened_text name None) in
-      did_as heard past old new said (shown ++ []) added [] (is.told ∙ sym (append_nil shown)) is.lines
+      did_as heard past old new said (shown ++ []) added [] (is.told ∙ sym (append-nil shown)) is.lines
       (did_before heard past shown old new [] [] (plain_to old.peers place (opened_text name None) (opened_plain name None))
       (did_still heard (past ++ shown) old new [] [] [] refl refl (ap (λ (s : State). s.objects) is.left) tt
       (same_awaits heard ((past ++ shown) ++ []) (changed old place (opening now)) new (ap (λ (s : State). s.objects) is.left) (ap (λ (s : State). s.peers) is.left)
       (awaits_past heard (past ++ shown) [] old.objects (change old.peers place (opening now))
       (opens_one (past ++ shown) old.objects old.peers place now refl (opened_by place name None old old.objects is.at is.object now refl is.there is.named w)
       (awaits_past heard past shown old.objects old.peers a))))))
-    where
-      append_nil : (xs : Texts) → xs ++ [] ≡ xs
-      append_nil [] = refl
-      append_nil (x ∷ xs) = ap (λ (l : Texts). x ∷ l) (append_nil xs)
 
   did_opens_as : (place : ℕ) (name client : List ℕ) (past : Texts) (old new : State) (said added : Texts) → Awaits heard past old.objects old.peers → IsWished heard place old (asks.Open name (Some client)) →
       OpensAs place name client old said added new → Did heard past old said added new
@@ -151,14 +148,14 @@ module _ (heard : Lines) where
       (awaits_past heard past [] made (change old.peers place (opening seat))
       (opens_one past made old.peers place seat seat_idle
       (λ p there.
-          let peer = (changed_guests.seated place p there).opened opened (sym (ap opened_in there) ∙ by) in
-          record {
-            here = peer.here;
-            who_is = peer.who_is;
-            object = peer.object;
-            there = ap (λ (x : Opened). slice_get made x.object) is.seat_is ∙ peer.there;
-            asked = peer.asked;
-          }) changed_guests))))
+      let peer = (changed_guests.seated place p there).opened opened (sym (ap opened_in there) ∙ by) in
+      record {
+        here = peer.here;
+        who_is = peer.who_is;
+        object = peer.object;
+        there = ap (λ (x : Opened). slice_get made x.object) is.seat_is ∙ peer.there;
+        asked = peer.asked;
+      }) changed_guests))))
 
   -- one that has opened something has a session there
   record HasSat (place : ℕ) (past : Texts) (old : State) (opened seat : Opened) (mid : State) (who : ℕ) (object : Scene) : Type 0 where
@@ -193,7 +190,7 @@ module _ (heard : Lines) where
         by = refl;
         same = λ before now.
             let before_is : before ≡ after = same_Some before after (sym now ∙ ap (λ (s : State). slice_get s.objects seat.object) is.left
-                ∙ ap (λ (x : Opened). slice_get (slice_set old.objects opened.object after) x.object) is.seat_is ∙ set_at old.objects opened.object after is.object is.there) in
+            ∙ ap (λ (x : Opened). slice_get (slice_set old.objects opened.object after) x.object) is.seat_is ∙ set_at old.objects opened.object after is.object is.there) in
             ap (λ (s : Scene). s.hall.object) before_is ∙ ap (λ (s : Scene). s.hall.object) (same_Some is.object object (sym is.there ∙ there));
       }
 
@@ -318,13 +315,9 @@ module _ (heard : Lines) where
   did_quits : (place : ℕ) → DidBy heard (Quits place)
   did_quits place past old new said added a is =
       let shown = told_to old.peers place bye_text in
-      did_as heard past old new said (shown ++ []) added added (is.told ∙ sym (append_nil shown)) refl
+      did_as heard past old new said (shown ++ []) added added (is.told ∙ sym (append-nil shown)) refl
       (did_before heard past shown old new [] added (plain_to old.peers place bye_text bye_plain)
       (did_leaves place (past ++ shown) old new [] added (awaits_past heard past shown old.objects old.peers a) is.goes))
-    where
-      append_nil : (xs : Texts) → xs ++ [] ≡ xs
-      append_nil [] = refl
-      append_nil (x ∷ xs) = ap (λ (l : Texts). x ∷ l) (append_nil xs)
 
   pub did_inside : (place : ℕ) (sight : Sight) → DidBy heard (AnswersInside place sight)
   did_inside place sight past old new said added a (inl is) = did_sees heard place sight past old new said added a is

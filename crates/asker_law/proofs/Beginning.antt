@@ -41,8 +41,7 @@ followed_call old new past is c waits =
     let n = numbered_at 0 old.hall.waiting place.0 c place.1 in
     let d : Called = record c { number = n.0 } in
     let other : ℕ = min (new.base + n.0) (2 ^ 64 - 1) in
-    let at : n.0 - 1 ≡ place.0 = (let was = n.1 in omega (arith, was)) in
-    (
+    let at : n.0 - 1 ≡ place.0 = (let was = n.1 in omega (arith, was)) in (
       d,
       subst (λ (cs : List Called). IsIn d cs) (sym is.begun.waiting) (in_at (numbered_from 0 old.hall.waiting) place.0 d n.2),
       record {

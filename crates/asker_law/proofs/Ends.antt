@@ -1,6 +1,7 @@
 -- Who is told that a call ended, and who waits then.
 use Rattle.std.proofs.Common.{◌≡◌, ◌≢◌, ◌⊎◌, inl, inr, ◌∙◌, ap, sym, subst, refl, ℕ, List, [], ◌∷◌, ◌++◌, append_assoc}
 use Rattle.std.specs.Prelude.{Bool, true, false, Option, Some, None, slice_get, slice_set, map}
+use Rattle.std.proofs.lemmas.List.{append-nil}
 use Rattle.std.proofs.lemmas.Option.{same_Some}
 use Rattle.decl_core.specs.declared.object.Object.{Object}
 use Rattle.trace_core.specs.Events.{Called}
@@ -34,11 +35,7 @@ true_false b is not = wrong (sym is ∙ not)
 
 -- one thing along, and then another
 pub along_both : (T : Texts → ℕ → List ℕ → Type 0) (past first rest : Texts) → AllAlong T past first → AllAlong T (past ++ first) rest → AllAlong T past (first ++ rest)
-along_both T past [] rest all more = subst (λ (p : Texts). AllAlong T p rest) (append_nil past) more
-  where
-    append_nil : (xs : Texts) → xs ++ [] ≡ xs
-    append_nil [] = refl
-    append_nil (x ∷ xs) = ap (λ (l : Texts). x ∷ l) (append_nil xs)
+along_both T past [] rest all more = subst (λ (p : Texts). AllAlong T p rest) (append-nil past) more
 along_both T past (s ∷ first) rest (one, all) more =
     (one, along_both T (past ++ s ∷ []) first rest all (subst (λ (p : Texts). AllAlong T p rest) (sym (append_assoc past (s ∷ []) first)) more))
 
@@ -112,10 +109,10 @@ module _ (heard : Lines) where
           subst (λ n. IsIn (a.here, accepted_text n) past) is.told_is a.accepted,
         ),
         subst (λ (ps : List Peer). AllSeated heard past old.objects rest ps) (sym left)
-        (λ q p now. others q p (changed_was old.peers place (waiting false) q p now)),
+            (λ q p now. others q p (changed_was old.peers place (waiting false) q p now)),
         subst (λ (ps : List Peer). AreAlone ps) (sym left)
-        (alone_changed old.peers place (waiting false) alone
-        (λ p now o by waits. absurd (let u = with_waits_some p.opened false o by in true_false o.waits waits (ap (λ (x : Opened). x.waits) u.2)))),
+            (alone_changed old.peers place (waiting false) alone
+            (λ p now o by waits. absurd (let u = with_waits_some p.opened false o by in true_false o.waits waits (ap (λ (x : Opened). x.waits) u.2)))),
         ap (λ (s : State). s.objects) e.left,
       )
     where
@@ -126,10 +123,11 @@ module _ (heard : Lines) where
       others q p (inr (other, same)) =
           seated_pool past old.objects pool rest p
           (λ o by waits d session_of is_there.
-              elim (split o.object d is_there)
-              [ inl gone ↦ absurd (other (alone q place o e.waits.opened (ap opened_in same ∙ by) e.waits.by waits e.waits.is.waits (gone.0 ∙ sym e.waits.is.object)
-                    (sym session_of ∙ ap (λ (x : Called). x.session) gone.1 ∙ of ∙ sym e.waits.is.session_is)))
-              | inr stays ↦ stays ])
+          elim (split o.object d is_there) [
+            | inl gone ↦ absurd (other (alone q place o e.waits.opened (ap opened_in same ∙ by) e.waits.by waits e.waits.is.waits (gone.0 ∙ sym e.waits.is.object)
+                (sym session_of ∙ ap (λ (x : Called). x.session) gone.1 ∙ of ∙ sym e.waits.is.session_is)))
+            | inr stays ↦ stays
+          ])
           (seated q p same)
   one_end past at object c pool rest session number text old new said added there of number_is split unique seated alone (inr (nobody, n)) =
       let left : new.peers ≡ old.peers = ap (λ (s : State). s.peers) n.left in (
@@ -151,19 +149,20 @@ module _ (heard : Lines) where
               object = a.object;
               there = a.there;
               call = a.call;
-              is_there = elim (split o.object a.call a.is_there)
-                  [ inl gone ↦ absurd (nobody q (record {
-                      opened = o;
-                      by = ap opened_in same ∙ by;
-                      is = record {
-                        object = gone.0;
-                        session_is = sym a.session_is ∙ ap (λ (x : Called). x.session) gone.1 ∙ of;
-                        waits = waits;
-                        told_is = sym a.told_is ∙ ap (λ (x : Called). told_of a.object x.number) gone.1
-                            ∙ ap (λ (s : Scene). told_of s c.number) (same_Some a.object object (sym a.there ∙ ap (slice_get old.objects) gone.0 ∙ there)) ∙ sym number_is;
-                      };
-                    }))
-                  | inr stays ↦ stays ];
+              is_there = elim (split o.object a.call a.is_there) [
+                | inl gone ↦ absurd (nobody q (record {
+                  opened = o;
+                  by = ap opened_in same ∙ by;
+                  is = record {
+                    object = gone.0;
+                    session_is = sym a.session_is ∙ ap (λ (x : Called). x.session) gone.1 ∙ of;
+                    waits = waits;
+                    told_is = sym a.told_is ∙ ap (λ (x : Called). told_of a.object x.number) gone.1
+                        ∙ ap (λ (s : Scene). told_of s c.number) (same_Some a.object object (sym a.there ∙ ap (slice_get old.objects) gone.0 ∙ there)) ∙ sym number_is;
+                  };
+                }))
+                | inr stays ↦ stays
+              ];
               session_is = a.session_is;
               told_is = a.told_is;
               asked = a.asked;
@@ -182,9 +181,9 @@ module _ (heard : Lines) where
       let left : new.peers ≡ old.peers = ap (λ (s : State). s.peers) n.left in (
         subst (λ (s : Texts). AllAlong T past s) (sym n.told) tt,
         subst (λ (s : Texts). AllSeated heard (past ++ s) old.objects base new.peers) (sym n.told)
-        (subst (λ (ps : List Peer). AllSeated heard (past ++ []) old.objects base ps) (sym left)
-        (all_past heard past [] old.objects base old.peers
-        (λ q p same. seated_pool past old.objects (with_ran at [] base) base p (λ o by waits d of is_there. elim is_there [ inl none ↦ absurd none.1 | inr stays ↦ stays ]) (seated q p same)))),
+            (subst (λ (ps : List Peer). AllSeated heard (past ++ []) old.objects base ps) (sym left)
+            (all_past heard past [] old.objects base old.peers
+            (λ q p same. seated_pool past old.objects (with_ran at [] base) base p (λ o by waits d of is_there. elim is_there [ inl none ↦ absurd none.1 | inr stays ↦ stays ]) (seated q p same)))),
         subst (λ (ps : List Peer). AreAlone ps) (sym left) alone,
         ap (λ (s : State). s.objects) n.left,
       )
@@ -192,22 +191,24 @@ module _ (heard : Lines) where
       let number = told_of object r.call.number in
       let text = ended_text number r.reply in
       let step = one_end past at object r.call (with_ran at (r ∷ all) base) (with_ran at all base) r.call.session number text old mid first [] there refl refl
-          (λ j d is. elim is
-              [ inl a ↦ elim a.1 [ inl same ↦ inl (a.0, sym same) | inr later ↦ inr (inl (a.0, later)) ]
-              | inr b ↦ inr (inr b) ])
-          (λ d is same. one_of_session cs d r.call apart (all_in d is) (all_in r.call (inl (refl, inl refl))) same)
-          seated alone one in
-      let along : AllAlong T past first = elim step.0
-          [ inl none ↦ subst (λ (s : Texts). AllAlong T past s) (sym none) tt
-          | inr a ↦ subst (λ (s : Texts). AllAlong T past s) (sym a.1) (answer past a.0 r run a.2 a.3, tt) ] in
+      (λ j d is. elim is [
+        | inl a ↦ elim a.1 [ inl same ↦ inl (a.0, sym same) | inr later ↦ inr (inl (a.0, later)) ]
+        | inr b ↦ inr (inr b)
+      ])
+      (λ d is same. one_of_session cs d r.call apart (all_in d is) (all_in r.call (inl (refl, inl refl))) same)
+      seated alone one in
+      let along : AllAlong T past first = elim step.0 [
+        | inl none ↦ subst (λ (s : Texts). AllAlong T past s) (sym none) tt
+        | inr a ↦ subst (λ (s : Texts). AllAlong T past s) (sym a.1) (answer past a.0 r run a.2 a.3, tt)
+      ] in
       let later = all_end T Run at object all (past ++ first) base cs mid new rest added (ap (λ (l : List Scene). slice_get l at) step.3 ∙ there) answer runs apart
-          (λ d is. all_in d (elim is [ inl a ↦ inl (a.0, inr a.1) | inr b ↦ inr b ]))
-          (subst (λ (l : List Scene). AllSeated heard (past ++ first) l (with_ran at all base) mid.peers) (sym step.3)
-          (all_past heard past first old.objects (with_ran at all base) mid.peers step.1)) step.2 more in (
+      (λ d is. all_in d (elim is [ inl a ↦ inl (a.0, inr a.1) | inr b ↦ inr b ]))
+      (subst (λ (l : List Scene). AllSeated heard (past ++ first) l (with_ran at all base) mid.peers) (sym step.3)
+      (all_past heard past first old.objects (with_ran at all base) mid.peers step.1)) step.2 more in (
         subst (λ (s : Texts). AllAlong T past s) (sym told) (along_both T past first rest along later.0),
         subst (λ (s : Texts). AllSeated heard (past ++ s) old.objects base new.peers) (sym told)
-        (subst (λ (p : Texts). AllSeated heard p old.objects base new.peers) (append_assoc past first rest)
-        (subst (λ (l : List Scene). AllSeated heard ((past ++ first) ++ rest) l base new.peers) step.3 later.1)),
+            (subst (λ (p : Texts). AllSeated heard p old.objects base new.peers) (append_assoc past first rest)
+            (subst (λ (l : List Scene). AllSeated heard ((past ++ first) ++ rest) l base new.peers) step.3 later.1)),
         later.2,
         later.3 ∙ step.3,
       )

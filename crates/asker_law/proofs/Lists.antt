@@ -84,9 +84,10 @@ left_out front behind x c is = in_between front behind x c is
 pub settled_in : (o : ObjectForm) (t : Told) (waiting left : List Called) (all : List Ran) → Settles o t waiting all left → (c : Called) → IsIn c waiting → RanOrLeft all left c
 settled_in o t waiting left all (rests none) c is = inr is
 settled_in o t waiting left all (runs front behind r more first reply fails goes) c is =
-    elim (in_between front behind r.call c is)
-    [ inl same ↦ inl (inl same)
-    | inr other ↦ elim (settled_in o _ (front ++ behind) left more goes c other) [ inl a ↦ inl (inr a) | inr a ↦ inr a ] ]
+    elim (in_between front behind r.call c is) [
+      | inl same ↦ inl (inl same)
+      | inr other ↦ elim (settled_in o _ (front ++ behind) left more goes c other) [ inl a ↦ inl (inr a) | inr a ↦ inr a ]
+    ]
 
 pub settled_out : (o : ObjectForm) (t : Told) (waiting left : List Called) (all : List Ran) → Settles o t waiting all left → (c : Called) → RanOrLeft all left c → IsIn c waiting
 settled_out o t waiting left all (rests none) c (inl is) = absurd is

@@ -19,6 +19,6 @@ why_none object number text (inr is) = subst SaysNoReply (sym is.text_is) (state
 pub did_sees : (heard : Lines) (place : ℕ) (sight : Sight) → DidBy heard (Sees place sight)
 did_sees heard place (insides.Why number) past old new said added a (people, now, is) = did_only heard place is.text (why_none is.object number is.text is.is) past old new said added a is.only
 did_sees heard place (insides.Who from) past old new said added a (people, now, is) =
-    did_only heard place is.text (subst SaysNoReply (sym is.is.text_is) (who_plain (object_of is.object.hall.object) is.is.seats is.is.calls)) past old new said added a is.only
+    did_only heard place is.text (subst SaysNoReply (sym is.is.text_is) (who_plain (object_of is.object.hall.object) _ is.is.seats is.is.calls _)) past old new said added a is.only
 did_sees heard place insides.List past old new said added a (people, now, is) =
     did_only heard place is.text (subst SaysNoReply (sym is.is) (list_plain (map (λ (x : Scene). x.hall.object.name) old.objects) (form_at old.objects (object_in (opened_at old place))))) past old new said added a is.only

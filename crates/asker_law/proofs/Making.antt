@@ -109,30 +109,31 @@ module _ (heard : Lines) where
       let made = slice_set old.objects at after in
       let T : Texts → ℕ → List ℕ → Type 0 = λ (p : Texts) (who : ℕ) (text : List ℕ). IsTold heard p old.objects account who text in
       let all = all_end heard T (Among (behind_ran items [])) at after items (past ++ first) (waits_in made) (before.hall.waiting ++ asked before.hall session operation arguments ∷ []) start mid ended []
-          (ap (λ (l : List Scene). slice_get l at) begins ∙ set_at old.objects at after before there)
-          (λ p who r among asked_for accepted. inl (
-            told_of after r.call.number,
-            r.reply,
-            refl,
-            record {
-              run = record {
-                object = at;
-                scene = before;
-                there = there;
-                call = r.call;
-                later = among.0;
-                before = among.1;
-                ran_so = at_own at (all_happen goes []) ∙ among.2;
-                told_is = facts.told r.call.number;
-              };
-              asked = subst (λ (x : Object). HasAsked heard who x r.call) facts.object asked_for;
-              accepted = accepted;
-            },
-          )) (each_among items []) facts.apart
-          (λ d is. elim is
-              [ inl a ↦ facts.ran_out d (inl a.1)
-              | inr b ↦ facts.ran_out d (inr (subst (λ (s : Scene). IsIn d s.hall.waiting) (same_Some b.0 after (sym b.1 ∙ set_at old.objects at after before there)) b.2)) ])
-          (subst (λ (l : List Scene). AllSeated heard (past ++ first) l (with_ran at items (waits_in made)) start.peers) (sym begins) seated) alone ends in
+      (ap (λ (l : List Scene). slice_get l at) begins ∙ set_at old.objects at after before there)
+      (λ p who r among asked_for accepted. inl (
+        told_of after r.call.number,
+        r.reply,
+        refl,
+        record {
+          run = record {
+            object = at;
+            scene = before;
+            there = there;
+            call = r.call;
+            later = among.0;
+            before = among.1;
+            ran_so = at_own at (all_happen goes []) ∙ among.2;
+            told_is = facts.told r.call.number;
+          };
+          asked = subst (λ (x : Object). HasAsked heard who x r.call) facts.object asked_for;
+          accepted = accepted;
+        },
+      )) (each_among items []) facts.apart
+      (λ d is. elim is [
+        | inl a ↦ facts.ran_out d (inl a.1)
+        | inr b ↦ facts.ran_out d (inr (subst (λ (s : Scene). IsIn d s.hall.waiting) (same_Some b.0 after (sym b.1 ∙ set_at old.objects at after before there)) b.2))
+      ])
+      (subst (λ (l : List Scene). AllSeated heard (past ++ first) l (with_ran at items (waits_in made)) start.peers) (sym begins) seated) alone ends in
       let same : new.objects ≡ made = objects ∙ all.3 ∙ begins in
       let now : Awaits heard ((past ++ first) ++ ended) made mid.peers = record {
         held = held_set old.objects at before after there held facts.held;
@@ -208,9 +209,10 @@ module _ (heard : Lines) where
         object = is.after;
         there = set_at old.objects at is.after is.before is.there;
         call = c;
-        is_there = elim (facts.ran_in c (in_behind c is.before.hall.waiting (c ∷ []) (inl refl)))
-            [ inl x ↦ inl (refl, x)
-            | inr x ↦ inr (waits_here old.objects at is.before is.after c is.there x) ];
+        is_there = elim (facts.ran_in c (in_behind c is.before.hall.waiting (c ∷ []) (inl refl))) [
+          | inl x ↦ inl (refl, x)
+          | inr x ↦ inr (waits_here old.objects at is.before is.after c is.there x)
+        ];
         session_is = refl;
         told_is = ap (told_of is.after) (sym is.does.takes.number);
         asked = asks_for;
@@ -219,13 +221,13 @@ module _ (heard : Lines) where
       runs_did past first old _ is.mid new at seat.session operation arguments is.before is.after is.taken is.there is.does facts refl a.held
       (all_changed heard (past ++ first) made pool old.peers place (opening now) seated
       (λ p there.
-          let p_is : p ≡ m.peer = same_Some p m.peer (sym there ∙ m.there) in
-          subst (λ (x : Peer). IsSeated heard (past ++ first) made pool (opening now x)) (sym p_is) (record {
-            held = (seated place m.peer m.there).held;
-            opened = λ o by. subst (λ (x : Opened). IsOpenedBy heard made m.peer.who x) (same_Some now o by)
-                (record { here = owns.here; who_is = owns.who_is; object = owns.object; there = owns.there; asked = owns.asked });
-            waits = λ o by so. subst (λ (x : Opened). IsAwaited heard (past ++ first) made pool m.peer.who x) (same_Some now o by) waits;
-          })))
+      let p_is : p ≡ m.peer = same_Some p m.peer (sym there ∙ m.there) in
+      subst (λ (x : Peer). IsSeated heard (past ++ first) made pool (opening now x)) (sym p_is) (record {
+        held = (seated place m.peer m.there).held;
+        opened = λ o by. subst (λ (x : Opened). IsOpenedBy heard made m.peer.who x) (same_Some now o by)
+            (record { here = owns.here; who_is = owns.who_is; object = owns.object; there = owns.there; asked = owns.asked });
+        waits = λ o by so. subst (λ (x : Opened). IsAwaited heard (past ++ first) made pool m.peer.who x) (same_Some now o by) waits;
+      })))
       (alone number facts.free)
       is.ended is.ends (ap (λ (s : State). s.objects) is.follows.left) (ap (λ (s : State). s.peers) is.follows.left) said added
       (plain_to old.peers place text (accepted_plain number)) is.told is.lines
@@ -244,19 +246,23 @@ module _ (heard : Lines) where
           ((q ≡ place) × (o ≡ now)) ⊎ ((q ≢ place) × (opened_in (slice_get old.peers q) ≡ Some o))
       was_opened now q o by =
           let peer = has_peer (slice_get (change old.peers place (opening now)) q) o by in
-          elim (changed_was old.peers place (opening now) q peer.0 peer.1)
-          [ inl x ↦ inl (x.0, same_Some o now (sym peer.2 ∙ ap (λ (p : Peer). p.opened) x.1.2))
-          | inr x ↦ inr (x.0, ap opened_in x.1 ∙ peer.2) ]
+          elim (changed_was old.peers place (opening now) q peer.0 peer.1) [
+            | inl x ↦ inl (x.0, same_Some o now (sym peer.2 ∙ ap (λ (p : Peer). p.opened) x.1.2))
+            | inr x ↦ inr (x.0, ap opened_in x.1 ∙ peer.2)
+          ]
 
       alone : (n : ℕ) → IsFree is.before.hall seat.session → AreAlone (change old.peers place (opening (counted n seat)))
       alone n free q r o u by also waits waits_too object session =
-          elim (was_opened (counted n seat) q o by)
-          [ inl x ↦ elim (was_opened (counted n seat) r u also)
-            [ inl y ↦ x.0 ∙ sym y.0
-            | inr y ↦ absurd (nobody_else free r u y.1 waits_too (sym object ∙ ap (λ (z : Opened). z.object) x.1) (sym session ∙ ap (λ (z : Opened). z.session) x.1)) ]
-          | inr x ↦ elim (was_opened (counted n seat) r u also)
-            [ inl y ↦ absurd (nobody_else free q o x.1 waits (object ∙ ap (λ (z : Opened). z.object) y.1) (session ∙ ap (λ (z : Opened). z.session) y.1))
-            | inr y ↦ a.alone q r o u x.1 y.1 waits waits_too object session ] ]
+          elim (was_opened (counted n seat) q o by) [
+            | inl x ↦ elim (was_opened (counted n seat) r u also) [
+              | inl y ↦ x.0 ∙ sym y.0
+              | inr y ↦ absurd (nobody_else free r u y.1 waits_too (sym object ∙ ap (λ (z : Opened). z.object) x.1) (sym session ∙ ap (λ (z : Opened). z.session) x.1))
+            ]
+            | inr x ↦ elim (was_opened (counted n seat) r u also) [
+              | inl y ↦ absurd (nobody_else free q o x.1 waits (object ∙ ap (λ (z : Opened). z.object) y.1) (session ∙ ap (λ (z : Opened). z.session) y.1))
+              | inr y ↦ a.alone q r o u x.1 y.1 waits waits_too object session
+            ]
+          ]
 
   -- a call that waits is cancelled: who waits for it is told so
   pub did_lets_go : (at session number : ℕ) → DidBy heard (LetsGo at session number)
@@ -275,29 +281,32 @@ module _ (heard : Lines) where
       stay_set old.objects at is.object is.after pool is.there object
       (λ d waits. (
         d,
-        elim (left_out behind.front behind.behind c d (subst (λ (cs : List Called). IsIn d cs) behind.waited waits))
-        [ inl x ↦ inl (refl, sym x)
-        | inr x ↦ inr (waits_here old.objects at is.object is.after d is.there (subst (λ (cs : List Called). IsIn d cs) (sym hall) x)) ],
+        elim (left_out behind.front behind.behind c d (subst (λ (cs : List Called). IsIn d cs) behind.waited waits)) [
+          | inl x ↦ inl (refl, sym x)
+          | inr x ↦ inr (waits_here old.objects at is.object is.after d is.there (subst (λ (cs : List Called). IsIn d cs) (sym hall) x))
+        ],
         record { session = refl; operation = refl; arguments = refl; told = told d.number },
       ))
       (λ j d other waits. inr (waits_others old.objects at is.after j d other waits)) in
       let waited : (d : Called) → pool at d → IsIn d is.object.hall.waiting = λ d x. subst (λ (cs : List Called). IsIn d cs) (sym behind.waited) (between_in behind.front behind.behind c d
-          (elim x
-          [ inl y ↦ inl (sym y.1)
-          | inr y ↦ inr (subst (λ (cs : List Called). IsIn d cs) (ap (λ (s : Scene). s.hall.waiting) (same_Some y.0 is.after (sym y.1 ∙ set_at old.objects at is.after is.object is.there)) ∙ hall) y.2) ])) in
+      (elim x [
+        | inl y ↦ inl (sym y.1)
+        | inr y ↦ inr (subst (λ (cs : List Called). IsIn d cs) (ap (λ (s : Scene). s.hall.waiting) (same_Some y.0 is.after (sym y.1 ∙ set_at old.objects at is.after is.object is.there)) ∙ hall) y.2)
+      ])) in
       let end = one_end heard past at is.after c pool rest session number (withdrawn_text number) (with_object old at is.after) new said []
-          (set_at old.objects at is.after is.object is.there) gone.of (is.cancels.told_is t.0 t.1 ∙ sym (told c.number)) (λ j d x. x)
-          (λ d x same. one_of_session is.object.hall.waiting d c t.1.kept.one_each (waited d x) (waited c (inl (refl, refl))) same)
-          (all_stay heard past old.objects made (waits_in old.objects) pool old.peers stay a.seated) a.alone is.ends in
+      (set_at old.objects at is.after is.object is.there) gone.of (is.cancels.told_is t.0 t.1 ∙ sym (told c.number)) (λ j d x. x)
+      (λ d x same. one_of_session is.object.hall.waiting d c t.1.kept.one_each (waited d x) (waited c (inl (refl, refl))) same)
+      (all_stay heard past old.objects made (waits_in old.objects) pool old.peers stay a.seated) a.alone is.ends in
       let now : Awaits heard past made new.peers = record {
         held = held_set old.objects at is.object is.after is.there a.held (t.0, gone.held t.0 t.1);
         alone = end.2;
         seated = end.1;
       } in
       did_goes heard past old new said added at is.object is.after is.line is.there (does (cancels session number is.line is.cancels)) is.lines end.3
-      (elim end.0
-      [ inl none ↦ subst IsPlain (sym none) tt
-      | inr x ↦ subst IsPlain (sym x.1) (withdrawn_plain number, tt) ])
+      (elim end.0 [
+        | inl none ↦ subst IsPlain (sym none) tt
+        | inr x ↦ subst IsPlain (sym x.1) (withdrawn_plain number, tt)
+      ])
       (subst (λ (l : List Scene). Awaits heard (past ++ said) l new.peers) (sym end.3) (awaits_past heard past said made new.peers now))
 
   pub did_cancel : (place told : ℕ) → DidBy heard (AnswersCancel place told)

@@ -1,6 +1,7 @@
 -- What turns tell, one after the other.
 use Rattle.std.proofs.Common.{◌≡◌, ◌⊎◌, inl, inr, ◌∙◌, ap, sym, subst, refl, ℕ, List, [], ◌∷◌, ◌++◌, append_assoc}
 use Rattle.std.specs.Prelude.{Bool, true, false, Option, Some, None, slice_get}
+use Rattle.std.proofs.lemmas.List.{append-nil}
 use Rattle.decl_core.specs.declared.object.Object.{Object}
 use Rattle.session_text.specs.Lines.{accepted_text, ended_text}
 use Rattle.live_core.specs.Hall.{Every}
@@ -22,7 +23,7 @@ use Rattle.kept_law.proofs.Going.{crash_leaves_answered}
 use Rattle.kept_law.proofs.Living.{lives_on}
 use Rattle.kept_law.proofs.Replying.{stands_in}
 use Rattle.asker_law.specs.Answers.{AllAlong, IsTold}
-use Rattle.asker_law.specs.Asker.{AreCut, CrashLeavesAsked, HasSaid, HaveAskers, IsAnswered, IsQuiet, RepliesAreAsked, said_by}
+use Rattle.asker_law.specs.Asker.{AreCut, CrashLeavesAsked, HasSaid, HaveAskers, IsAnswered, IsQuiet, RepliesAreAsked, WaitsAreAsked, said_by}
 use Rattle.asker_law.specs.Awaits.{AllHeld, AreHeard, Awaits, IsIn, Lines, SaidBy}
 use Rattle.asker_law.specs.Awaits.AreHeard.{none}
 use Rattle.asker_law.proofs.Beginning.{begins_awaits}
@@ -48,11 +49,7 @@ along_true heard objects account past (s ∷ said) (one, all) = (told_true heard
 
 -- one of them, and what was told before it
 along_at : (T : Texts → ℕ → List ℕ → Type 0) (past front behind : Texts) (who : ℕ) (text : List ℕ) → AllAlong T past (front ++ (who, text) ∷ behind) → T (past ++ front) who text
-along_at T past [] behind who text (one, all) = subst (λ (p : Texts). T p who text) (sym (append_nil past)) one
-  where
-    append_nil : (xs : Texts) → xs ++ [] ≡ xs
-    append_nil [] = refl
-    append_nil (x ∷ xs) = ap (λ (l : Texts). x ∷ l) (append_nil xs)
+along_at T past [] behind who text (one, all) = subst (λ (p : Texts). T p who text) (sym (append-nil past)) one
 along_at T past (s ∷ front) behind who text (one, all) =
     subst (λ (p : Texts). T p who text) (append_assoc past (s ∷ []) front) (along_at T (past ++ s ∷ []) front behind who text all)
 
@@ -112,13 +109,13 @@ asked_told before old new [] (a ∷ accounts) all = all
 asked_told before old new (t ∷ turns) [] all = all
 asked_told before old new (t ∷ turns) (a ∷ accounts) (mid, gives, says, along, all) = (mid, gives, says, asked_told (before ++ t ∷ []) mid new turns accounts all)
 
-append_nil : (xs : Texts) → xs ++ [] ≡ xs
-append_nil [] = refl
-append_nil (x ∷ xs) = ap (λ (l : Texts). x ∷ l) (append_nil xs)
-
 said_next : (before : List Turn) (t : Turn) → said_by (before ++ t ∷ []) ≡ said_by before ++ t.said
-said_next [] t = append_nil t.said
+said_next [] t = append-nil t.said
 said_next (b ∷ before) t = ap (λ (l : Texts). b.said ++ l) (said_next before t) ∙ sym (append_assoc b.said (said_by before) t.said)
+
+turns_nil : (xs : List Turn) → xs ++ [] ≡ xs
+turns_nil [] = refl
+turns_nil (x ∷ xs) = ap (λ (l : List Turn). x ∷ l) (turns_nil xs)
 
 turns_on : (before : List Turn) (t : Turn) (turns : List Turn) → (before ++ t ∷ []) ++ turns ≡ before ++ t ∷ turns
 turns_on before t turns = append_assoc before (t ∷ []) turns
@@ -129,7 +126,7 @@ all_asked before [] first last cut a runs = ([], runs)
 all_asked before (t ∷ turns) first last cut a (mid, gives, runs) =
     let one = turned before turns t (said_by before) (seen first) (seen mid) t.asked t.said t.added refl cut a gives in
     let more = all_asked (before ++ t ∷ []) turns mid last (subst AreCut (sym (turns_on before t turns)) cut)
-        (subst (λ (p : Texts). Awaits (HasSaid (before ++ t ∷ [])) p mid.objects.items (seen mid).peers) (sym (said_next before t)) one.awaits) runs in
+    (subst (λ (p : Texts). Awaits (HasSaid (before ++ t ∷ [])) p mid.objects.items (seen mid).peers) (sym (said_next before t)) one.awaits) runs in
     (one.account ∷ more.0, (mid, gives, one.says, one.along, more.1))
 
 -- one turn, with those before it
@@ -153,10 +150,6 @@ turn_at earlier first last [] after t (a ∷ accounts) (next, gives, says, along
   led = refl;
   along = subst (λ (b : List Turn). ToldAlong (HasSaid (b ++ t ∷ [])) first.objects.items a (said_by b) t.said) (sym (turns_nil earlier)) along;
 }
-  where
-    turns_nil : (xs : List Turn) → xs ++ [] ≡ xs
-    turns_nil [] = refl
-    turns_nil (x ∷ xs) = ap (λ (l : List Turn). x ∷ l) (turns_nil xs)
 turn_at earlier first last (b ∷ before) after t [] all = absurd all
 turn_at earlier first last (b ∷ before) after t (a ∷ accounts) (mid, gives, says, along, all) =
     let on = turn_at (earlier ++ b ∷ []) mid last before after t accounts all in
@@ -242,6 +235,21 @@ replies_are_asked first last turns runs cut held quiet = record {
               asked = a.asked;
               accepted = subst (λ m. IsIn (who, accepted_text m) (said_by before ++ front)) run.told_is a.accepted;
             })
+
+-- who waits behind turns
+all_await : (before turns : List Turn) (first last : Table) → AreCut (before ++ turns) → Awaits (HasSaid before) (said_by before) first.objects.items (seen first).peers → Runs Gives first turns last →
+    Awaits (HasSaid (before ++ turns)) (said_by (before ++ turns)) last.objects.items (seen last).peers
+all_await before [] first last cut a runs =
+    subst (λ (ts : List Turn). Awaits (HasSaid ts) (said_by ts) last.objects.items (seen last).peers) (sym (turns_nil before))
+    (subst (λ (t : Table). Awaits (HasSaid before) (said_by before) t.objects.items (seen t).peers) (sym runs) a)
+all_await before (t ∷ turns) first last cut a (mid, gives, runs) =
+    let one = turned before turns t (said_by before) (seen first) (seen mid) t.asked t.said t.added refl cut a gives in
+    subst (λ (ts : List Turn). Awaits (HasSaid ts) (said_by ts) last.objects.items (seen last).peers) (turns_on before t turns)
+    (all_await (before ++ t ∷ []) turns mid last (subst AreCut (sym (turns_on before t turns)) cut)
+    (subst (λ (p : Texts). Awaits (HasSaid (before ++ t ∷ [])) p mid.objects.items (seen mid).peers) (sym (said_next before t)) one.awaits) runs)
+
+pub waits_are_asked : WaitsAreAsked
+waits_are_asked first last turns runs cut held quiet = all_await [] turns first last cut (quiet_awaits (seen first) held quiet) runs
 
 pub crash_leaves_asked : CrashLeavesAsked
 crash_leaves_asked first limits seen_so found waits honest between held quiet =

@@ -63,27 +63,27 @@ module _ (heard : Lines) where
     alone = alone_changed peers place f a.alone (λ p there o by waits. (o, sym (same p).1 ∙ by, waits, refl, refl));
     seated = all_changed heard past objects (waits_in objects) peers place f a.seated
         (λ p there.
-            let s = a.seated place p there in
-            record {
-              held = are p there;
-              opened = λ o by.
-                  let m = s.opened o (sym (same p).1 ∙ by) in
-                  record { here = m.here; who_is = (same p).0 ∙ m.who_is; object = m.object; there = m.there; asked = m.asked };
-              waits = λ o by waits.
-                  let w = s.waits o (sym (same p).1 ∙ by) waits in
-                  record {
-                    here = w.here;
-                    who_is = (same p).0 ∙ w.who_is;
-                    object = w.object;
-                    there = w.there;
-                    call = w.call;
-                    is_there = w.is_there;
-                    session_is = w.session_is;
-                    told_is = w.told_is;
-                    asked = w.asked;
-                    accepted = w.accepted;
-                  };
-            });
+        let s = a.seated place p there in
+        record {
+          held = are p there;
+          opened = λ o by.
+              let m = s.opened o (sym (same p).1 ∙ by) in
+              record { here = m.here; who_is = (same p).0 ∙ m.who_is; object = m.object; there = m.there; asked = m.asked };
+          waits = λ o by waits.
+              let w = s.waits o (sym (same p).1 ∙ by) waits in
+              record {
+                here = w.here;
+                who_is = (same p).0 ∙ w.who_is;
+                object = w.object;
+                there = w.there;
+                call = w.call;
+                is_there = w.is_there;
+                session_is = w.session_is;
+                told_is = w.told_is;
+                asked = w.asked;
+                accepted = w.accepted;
+              };
+        });
   }
 
   did_refusal : (place : ℕ) (refusal : _) → DidBy heard (OnlyTold place (line_text (lines.Refused refusal)))
@@ -106,8 +106,8 @@ module _ (heard : Lines) where
       (awaits_past heard past [] old.objects (change old.peers place (holding line is_whole))
       (holds_lines past old.objects old.peers place (holding line is_whole) (λ p. (refl, refl))
       (λ p there.
-          let who_is : p.who ≡ Some who = sym (ap who_in there) ∙ h.here in
-          heard_more (SaidBy heard p.who) p.held line is_whole (h.before p there) h.no_feed (subst (λ (w : Option ℕ). SaidBy heard w line is_whole) (sym who_is) h.is_heard))
+      let who_is : p.who ≡ Some who = sym (ap who_in there) ∙ h.here in
+      heard_more (SaidBy heard p.who) p.held line is_whole (h.before p there) h.no_feed (subst (λ (w : Option ℕ). SaidBy heard w line is_whole) (sym who_is) h.is_heard))
       a))
 
   wish_of : (place who : ℕ) (line : List ℕ) (is_whole : Bool) (s : State) (asked : Result Ask AllocError) → who_at s place ≡ Some who → heard who line is_whole → waits_at s place ≡ false →
@@ -156,9 +156,9 @@ module _ (heard : Lines) where
       same_awaits heard past (changed old place (left_with t.behind)) mid (ap (λ (s : State). s.objects) t.left) (ap (λ (s : State). s.peers) t.left)
       (holds_lines past old.objects old.peers place (left_with t.behind) (λ p. (refl, refl))
       (λ p there.
-          let is : p ≡ t.peer = same_Some p t.peer (sym there ∙ t.there) in
-          subst (λ (x : Peer). AreHeard (SaidBy heard (left_with t.behind x).who) (left_with t.behind x).is_cut (left_with t.behind x).held) (sym is)
-          (heard_first (SaidBy heard t.peer.who) t.peer.is_cut t.peer.held t.line t.behind (a.seated place t.peer t.there).held t.first.0 t.first.1).1) a)
+      let is : p ≡ t.peer = same_Some p t.peer (sym there ∙ t.there) in
+      subst (λ (x : Peer). AreHeard (SaidBy heard (left_with t.behind x).who) (left_with t.behind x).is_cut (left_with t.behind x).held) (sym is)
+      (heard_first (SaidBy heard t.peer.who) t.peer.is_cut t.peer.held t.line t.behind (a.seated place t.peer t.there).held t.first.0 t.first.1).1) a)
 
   did_takes : (place : ℕ) (asked : Result Ask AllocError) (past : Texts) (old mid : State) → Awaits heard past old.objects old.peers → TakesLine place asked old mid → Did heard past old [] [] mid
   did_takes place asked past old mid a t =

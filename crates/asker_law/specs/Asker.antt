@@ -19,7 +19,7 @@ use Rattle.table_core.specs.Seen.{seen}
 use Rattle.table_core.specs.declared.table.Table.{Table}
 use Rattle.kept_law.specs.Kept.{LeavesAnswered}
 use Rattle.kept_law.specs.Replied.{HaveOneHistory, IsReplied, IsRepeated}
-use Rattle.asker_law.specs.Awaits.{IsIn, HasAsked, AllHeld}
+use Rattle.asker_law.specs.Awaits.{IsIn, HasAsked, AllHeld, Awaits}
 
 -- how a line ended behind which an LF stood, or not
 abbrev pub end_by : Bool → LineEnd
@@ -65,6 +65,13 @@ abbrev pub RepliesAreAsked : Type 0
 RepliesAreAsked =
     (first last : Table) (turns : List Turn) → Runs Gives first turns last → AreCut turns → AllHeld first.objects.items → IsQuiet (seen first) →
     HaveAskers first last turns
+
+-- Behind them each that waits does so for a call for which a line of it asked, and of which its number was told to it; and what
+-- is held are lines that it said.
+abbrev pub WaitsAreAsked : Type 0
+WaitsAreAsked =
+    (first last : Table) (turns : List Turn) → Runs Gives first turns last → AreCut turns → AllHeld first.objects.items → IsQuiet (seen first) →
+    Awaits (HasSaid turns) (said_by turns) last.objects.items (seen last).peers
 
 -- A crash leaves one history of turns, as before, and what is told in them is so.
 pub record LeavesAsked (first : Table) (limits : Limits) (seen_so : List Happened) (found : ℕ → List ℕ) : Type 0 where
