@@ -1,6 +1,6 @@
 -- What is done for what a line asks for.
-use Rattle.std.proofs.Common.{◌≡◌, ◌≢◌, ◌⊎◌, inl, inr, ◌∙◌, ap, sym, subst, refl, ℕ, List, [], ◌∷◌, ◌++◌}
-use Rattle.std.specs.Prelude.{Bool, true, false, Option, Some, None, Result, Ok, Err, slice_get, slice_set, map}
+use Rattle.std.proofs.Common.{◌≡◌, inl, inr, ◌∙◌, ap, sym, subst, refl, ℕ, List, [], ◌++◌}
+use Rattle.std.specs.Prelude.{Bool, true, false, Option, Some, None, Result, Ok, Err, slice_get, slice_set}
 use Rattle.std.specs.Global.{Vec}
 use Rattle.std.specs.declared.alloc.AllocError.{AllocError}
 use Rattle.std.proofs.lemmas.List.{append-nil}
@@ -13,7 +13,7 @@ use Rattle.ask_core.specs.declared.answer.SubmitFault.TheVariants as faults
 use Rattle.session_text.specs.declared.line.Line.TheVariants as lines
 use Rattle.session_text.specs.Lines.{bye_text, line_text, opened_text}
 use Rattle.guest_core.specs.declared.seats.Seat.TheVariants.{Nameless}
-use Rattle.guest_core.specs.Guests.{Guests, with_seat}
+use Rattle.guest_core.specs.Guests.{with_seat}
 use Rattle.guest_core.specs.Keys.{asks as asks_for}
 use Rattle.hosted_core.specs.declared.hosted.Keyed.{Keyed}
 use Rattle.hosted_core.specs.declared.hosted.Keyed.TheVariants as keys
@@ -27,23 +27,22 @@ use Rattle.client_core.specs.declared.ask.Sight.{Sight}
 use Rattle.client_core.specs.declared.client.Opened.{Opened}
 use Rattle.client_core.specs.Asks.{Asks}
 use Rattle.client_core.specs.Held.{is_some, waits_of}
-use Rattle.told_core.specs.Asked.{OpensBare, OpensAs, Opens, GetsNumber, Sits, Calls, IsUnheld, Repeats, RepeatsUnder, IsTurnedAway, AnswersCall, AnswersInside, LeavesObject, Goes, Quits, Acts, Heeds, keyed_text}
+use Rattle.told_core.specs.Asked.{OpensBare, OpensAs, Opens, GetsNumber, Sits, Calls, RepeatsUnder, AnswersCall, AnswersInside, LeavesObject, Goes, Quits, Acts, Heeds, keyed_text}
 use Rattle.told_core.specs.Custody.{not_held_text}
 use Rattle.told_core.specs.Deeds.{Texts}
 use Rattle.told_core.specs.Gone.{SeatsOne, Frees}
 use Rattle.told_core.specs.State.{Peer, State, change, changed, nobody, opened_at, opened_in, one_text, opening, session_by, told_to, waits_at, who_at, who_in}
-use Rattle.said_law.specs.Said.{Account, SaysNoReply}
 use Rattle.said_law.proofs.Going.{no_account}
 use Rattle.said_law.proofs.Plain.{refusal_plain, opened_plain, bye_plain, waiting_plain, gone_plain, not_held_plain}
 use Rattle.asker_law.specs.Answers.{IsTold, AllAlong}
-use Rattle.asker_law.specs.Awaits.{Lines, AreHeard, HasOpened, IsOpenedBy, IsSeated, SaidBy, waits_in, AllSeated, AreAlone, Awaits}
+use Rattle.asker_law.specs.Awaits.{Lines, AreHeard, IsOpenedBy, SaidBy, waits_in, Awaits}
 use Rattle.asker_law.specs.Awaits.AreHeard.{none}
 use Rattle.asker_law.proofs.Calling.{call_is_whole}
-use Rattle.asker_law.proofs.Deeds.{Did, DidBy, IsPlain, plain_one, plain_to, same_awaits, did_along, did_as, did_before, did_from, did_goes, did_nothing, did_only, did_quiet, did_refused, did_still, guests_change}
+use Rattle.asker_law.proofs.Deeds.{Did, DidBy, IsPlain, plain_to, same_awaits, did_along, did_as, did_before, did_from, did_goes, did_nothing, did_only, did_quiet, did_refused, did_still, guests_change}
 use Rattle.asker_law.proofs.Ends.{true_false}
 use Rattle.asker_law.proofs.Lists.{change_at, has_peer, set_at}
 use Rattle.asker_law.proofs.Looking.{did_sees}
-use Rattle.asker_law.proofs.Making.{IsMade, did_cancel, did_submits}
+use Rattle.asker_law.proofs.Making.{did_cancel, did_submits}
 use Rattle.asker_law.proofs.Places.{all_changed, alone_changed, awaits_past}
 
 -- a line of the one at a place asked for this, and no call of it waits

@@ -1,17 +1,15 @@
 -- Who waits where an object begins its next epoch.
-use Rattle.std.proofs.Common.{◌≡◌, ◌≢◌, ◌⊎◌, inl, inr, ◌∙◌, ap, sym, subst, refl, arith, ℕ, zero, suc, ◌+◌, ◌-◌, List, [], ◌∷◌, ◌++◌}
-use Rattle.std.specs.Prelude.{◌^◌, min, Option, Some, None, map, slice_get, slice_set, slice_index_or}
+use Rattle.std.proofs.Common.{◌≡◌, inl, inr, ◌∙◌, ap, sym, subst, refl, arith, ℕ, zero, suc, ◌+◌, ◌-◌, List, [], ◌∷◌}
+use Rattle.std.specs.Prelude.{◌^◌, min, Some, map, slice_get, slice_set, slice_index_or}
 use Rattle.std.proofs.lemmas.Option.{same_Some}
 use Rattle.trace_core.specs.Events.{Called}
 use Rattle.live_core.specs.Epochs.{numbered_from, told_behind}
-use Rattle.live_core.specs.Hall.{Hall}
 use Rattle.hosted_core.specs.Scene.{Scene, told_of}
 use Rattle.hosted_core.specs.Steps.{IsFollowed}
 use Rattle.told_core.specs.Deeds.{Texts}
 use Rattle.told_core.specs.Moves.{BeginsHeld}
 use Rattle.told_core.specs.State.{Peer, State}
 use Rattle.asker_law.specs.Awaits.{IsIn, Lines, Awaits, waits_in}
-use Rattle.asker_law.proofs.Deeds.{same_awaits}
 use Rattle.asker_law.proofs.Lists.{in_at}
 use Rattle.asker_law.proofs.Places.{AllStay, IsSameCall, all_stay, held_set, stay_set, waits_here, waits_others}
 

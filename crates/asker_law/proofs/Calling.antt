@@ -1,5 +1,5 @@
 -- A call is asked for by a whole line.
-use Rattle.std.proofs.Common.{◌≡◌, ◌⊎◌, inl, inr, ◌∙◌, sym, subst, refl, ℕ, List, Option, Some, None}
+use Rattle.std.proofs.Common.{◌≡◌, inl, inr, sym, subst, refl, ℕ, List, Option}
 use Rattle.std.specs.Prelude.{Bool, true, false}
 use Rattle.std.specs.Global.{Vec}
 use Rattle.value_core.specs.declared.datum.Datum.{Datum}
@@ -10,7 +10,7 @@ use Rattle.session_text.specs.Requests.{Request, opens, calls, cancels, quits}
 use Rattle.session_text.specs.Table.{DoesLast, TakesLast}
 use Rattle.client_core.specs.declared.ask.Ask.{Ask}
 use Rattle.client_core.specs.declared.ask.Ask.TheVariants as asks
-use Rattle.client_core.specs.Asks.{Asks, TableDoes, asked_by, IsWide}
+use Rattle.client_core.specs.Asks.{Asks, asked_by, IsWide}
 
 -- what is asked for is a call
 abbrev IsCall : Ask → Type 0

@@ -1,13 +1,12 @@
 -- What each deed tells, and who waits behind it.
-use Rattle.std.proofs.Common.{◌≡◌, ◌≢◌, ◌⊎◌, inl, inr, ◌∙◌, ap, sym, subst, refl, arith, ℕ, ◌<◌, List, [], ◌∷◌, ◌++◌, length, append_assoc}
-use Rattle.std.specs.Prelude.{Bool, true, false, Option, Some, None, slice_get, slice_set}
+use Rattle.std.proofs.Common.{◌≡◌, inl, inr, ◌∙◌, ap, sym, subst, refl, arith, ℕ, ◌<◌, List, [], ◌∷◌, ◌++◌, length, append_assoc}
+use Rattle.std.specs.Prelude.{Option, Some, None, slice_get, slice_set}
 use Rattle.std.proofs.lemmas.Option.{slice_get_within}
 use Rattle.decl_core.specs.declared.object.Object.{Object}
-use Rattle.apply_core.specs.declared.reply.Reply.{Reply}
-use Rattle.session_text.specs.Lines.{accepted_text, line_text}
+use Rattle.session_text.specs.Lines.{line_text}
 use Rattle.live_core.specs.Hall.{Every, Hall}
 use Rattle.replay_core.specs.Steps.{Step, ran}
-use Rattle.hosted_core.specs.Scene.{Scene, told_of, with_guests}
+use Rattle.hosted_core.specs.Scene.{Scene, with_guests}
 use Rattle.hosted_core.specs.Steps as hosted
 use Rattle.hosted_core.specs.Steps.{Steps, goes_on}
 use Rattle.guest_core.specs.Guests.{Guests}
@@ -16,13 +15,13 @@ use Rattle.post_core.specs.Texts.{to}
 use Rattle.told_core.specs.Asked.{IsRefused}
 use Rattle.told_core.specs.Deeds.{Texts, Deed, Nothing, OnlyTold, Then}
 use Rattle.told_core.specs.State.{Peer, State, one_text, told_to, who_in}
-use Rattle.said_law.specs.Said.{Account, AllWent, Went, HasRun, HasRemembered, SaysNoReply}
+use Rattle.said_law.specs.Said.{Account, AllWent, Went, SaysNoReply}
 use Rattle.said_law.proofs.Going.{all_more, all_alike, told_alike, get_at, no_account, both, went_none, went_then, at_one, went_one, went_quiet}
 use Rattle.said_law.proofs.Plain.{refusal_plain}
-use Rattle.asker_law.specs.Answers.{IsAnswer, IsTold, AllAlong}
-use Rattle.asker_law.specs.Awaits.{IsIn, Lines, HasAsked, HasOpened, waits_in, AllSeated, Awaits}
+use Rattle.asker_law.specs.Answers.{IsTold, AllAlong}
+use Rattle.asker_law.specs.Awaits.{Lines, HasAsked, waits_in, Awaits}
 use Rattle.asker_law.proofs.Ends.{along_both, along_map}
-use Rattle.asker_law.proofs.Places.{AllStay, stay_set, waits_others, waits_here, all_past, all_stay, awaits_past, held_set}
+use Rattle.asker_law.proofs.Places.{AllStay, stay_set, waits_others, waits_here, all_stay, awaits_past, held_set}
 
 -- it is the same object all along
 one_object : (old new : Scene) (lines : List ℕ) → hosted.Step old lines new → new.hall.object ≡ old.hall.object

@@ -1,6 +1,6 @@
 -- Who is told that a call ended, and who waits then.
 use Rattle.std.proofs.Common.{◌≡◌, ◌≢◌, ◌⊎◌, inl, inr, ◌∙◌, ap, sym, subst, refl, ℕ, List, [], ◌∷◌, ◌++◌, append_assoc}
-use Rattle.std.specs.Prelude.{Bool, true, false, Option, Some, None, slice_get, slice_set, map}
+use Rattle.std.specs.Prelude.{Bool, true, false, Option, Some, None, slice_get}
 use Rattle.std.proofs.lemmas.List.{append-nil}
 use Rattle.std.proofs.lemmas.Option.{same_Some}
 use Rattle.decl_core.specs.declared.object.Object.{Object}
@@ -13,8 +13,8 @@ use Rattle.client_core.specs.declared.client.Opened.{Opened}
 use Rattle.client_core.specs.Held.{with_waits}
 use Rattle.told_core.specs.Asked.{Ends, AllEnd}
 use Rattle.told_core.specs.Deeds.{Texts}
-use Rattle.told_core.specs.State.{Peer, State, change, waiting, one_text, opened_in, who_in, told_to}
-use Rattle.asker_law.specs.Awaits.{IsIn, Lines, HasAsked, Pool, IsOpenedBy, IsAwaited, IsSeated, AllSeated, AreAlone}
+use Rattle.told_core.specs.State.{Peer, State, change, waiting, one_text, opened_in, who_in}
+use Rattle.asker_law.specs.Awaits.{IsIn, Lines, HasAsked, Pool, IsSeated, AllSeated, AreAlone}
 use Rattle.asker_law.specs.Answers.{AllAlong}
 use Rattle.asker_law.proofs.Lists.{Apart, one_of_session, calls_of, changed_was, has_peer}
 use Rattle.asker_law.proofs.Places.{all_past, alone_changed}

@@ -1,24 +1,22 @@
 -- Which lines were heard, turn by turn.
-use Rattle.std.proofs.Common.{◌≡◌, ◌≢◌, ◌⊎◌, inl, inr, ◌∙◌, ap, sym, subst, refl, arith, ℕ, zero, suc, ◌+◌, ◌-◌, List, [], ◌∷◌, ◌++◌, append_assoc}
-use Rattle.std.specs.Prelude.{Bool, true, false, ◌==◌, if◌then◌else◌, Option, Some, None, length, map, take, slice_get, slice_index, slice_index_or}
+use Rattle.std.proofs.Common.{◌≡◌, inl, inr, ◌∙◌, ap, sym, subst, refl, ℕ, zero, suc, ◌-◌, List, [], ◌∷◌, ◌++◌, append_assoc}
+use Rattle.std.specs.Prelude.{Bool, true, false, ◌==◌, if◌then◌else◌, Option, Some, length, take, slice_get, slice_index}
 use Rattle.std.specs.Str.Lines.{strip_carriage_return}
 use Rattle.std.proofs.lemmas.Bool.Decides.{eqb_tells}
 use Rattle.std.proofs.lemmas.List.Elements.{All-cons, All-head, All-nil, All-tail}
-use Rattle.std.proofs.lemmas.Option.{same_Some}
 use Rattle.line_core.specs.Runs.{NoLineFeed}
 use Rattle.decl_core.specs.declared.object.Object.{Object}
 use Rattle.trace_core.specs.Events.{Called}
 use Rattle.hosted_core.specs.Scene.{Scene}
-use Rattle.client_core.specs.declared.client.Opened.{Opened}
-use Rattle.post_core.specs.Turns.{Asked, Turn, heard_of, line_from}
+use Rattle.post_core.specs.Turns.{Turn, heard_of, line_from}
 use Rattle.post_core.specs.Turns.Asked.{Heard}
 use Rattle.post_core.specs.declared.served.LineEnd.{LineEnd}
 use Rattle.post_core.specs.declared.served.LineEnd.TheVariants as ends
-use Rattle.keep_loop.specs.Cuts.{IsCut, IsCutBy}
+use Rattle.keep_loop.specs.Cuts.{IsCut}
 use Rattle.told_core.specs.Deeds.{Texts}
 use Rattle.told_core.specs.State.{Peer, State, who_at, who_in}
 use Rattle.asker_law.specs.Asker.{AreCut, HasSaid, end_by}
-use Rattle.asker_law.specs.Awaits.{IsIn, Lines, SaidBy, HasOpened, HasAsked, AreHeard, Pool, IsOpenedBy, IsAwaited, IsSeated, Awaits, waits_in}
+use Rattle.asker_law.specs.Awaits.{IsIn, Lines, SaidBy, HasOpened, HasAsked, AreHeard, Awaits}
 use Rattle.asker_law.proofs.Lines.{heard_map, heard_whole, said_map}
 use Rattle.asker_law.proofs.Lists.{in_behind, in_front}
 use Rattle.asker_law.proofs.Turning.{IsHereAt}

@@ -23,11 +23,6 @@ pub in_behind : {X : Type 0} (x : X) (xs ys : List X) → IsIn x ys → IsIn x (
 in_behind x [] ys is = is
 in_behind x (y ∷ xs) ys is = inr (in_behind x xs ys is)
 
-pub in_either : {X : Type 0} (x : X) (xs ys : List X) → IsIn x (xs ++ ys) → IsIn x xs ⊎ IsIn x ys
-in_either x [] ys is = inr is
-in_either x (y ∷ xs) ys (inl is) = inl (inl is)
-in_either x (y ∷ xs) ys (inr is) = elim (in_either x xs ys is) [ inl a ↦ inl (inr a) | inr a ↦ inr a ]
-
 pub in_at : {X : Type 0} (xs : List X) (k : ℕ) (x : X) → slice_get xs k ≡ Some x → IsIn x xs
 in_at [] k x is = absurd (grind (arith, is))
 in_at (y ∷ xs) zero x is = inl (same_Some y x is)
@@ -66,10 +61,10 @@ calls_of all = map (λ (r : Ran). r.call) all
 abbrev RanOrLeft : List Ran → List Called → Called → Type 0
 RanOrLeft all left c = IsIn c (calls_of all) ⊎ IsIn c left
 
-in_between : (front behind : List Called) (x c : Called) → IsIn c (front ++ x ∷ behind) → (x ≡ c) ⊎ IsIn c (front ++ behind)
-in_between [] behind x c is = is
-in_between (y ∷ front) behind x c (inl is) = inr (inl is)
-in_between (y ∷ front) behind x c (inr is) = elim (in_between front behind x c is) [ inl a ↦ inl a | inr a ↦ inr (inr a) ]
+pub left_out : (front behind : List Called) (x c : Called) → IsIn c (front ++ x ∷ behind) → (x ≡ c) ⊎ IsIn c (front ++ behind)
+left_out [] behind x c is = is
+left_out (y ∷ front) behind x c (inl is) = inr (inl is)
+left_out (y ∷ front) behind x c (inr is) = elim (left_out front behind x c is) [ inl a ↦ inl a | inr a ↦ inr (inr a) ]
 
 pub between_in : (front behind : List Called) (x c : Called) → (x ≡ c) ⊎ IsIn c (front ++ behind) → IsIn c (front ++ x ∷ behind)
 between_in [] behind x c is = is
@@ -77,14 +72,11 @@ between_in (y ∷ front) behind x c (inl is) = inr (between_in front behind x c 
 between_in (y ∷ front) behind x c (inr (inl is)) = inl is
 between_in (y ∷ front) behind x c (inr (inr is)) = inr (between_in front behind x c (inr is))
 
-pub left_out : (front behind : List Called) (x c : Called) → IsIn c (front ++ x ∷ behind) → (x ≡ c) ⊎ IsIn c (front ++ behind)
-left_out front behind x c is = in_between front behind x c is
-
 -- each that waited ran or is left, and nobody else
 pub settled_in : (o : ObjectForm) (t : Told) (waiting left : List Called) (all : List Ran) → Settles o t waiting all left → (c : Called) → IsIn c waiting → RanOrLeft all left c
 settled_in o t waiting left all (rests none) c is = inr is
 settled_in o t waiting left all (runs front behind r more first reply fails goes) c is =
-    elim (in_between front behind r.call c is) [
+    elim (left_out front behind r.call c is) [
       | inl same ↦ inl (inl same)
       | inr other ↦ elim (settled_in o _ (front ++ behind) left more goes c other) [ inl a ↦ inl (inr a) | inr a ↦ inr a ]
     ]
@@ -141,13 +133,6 @@ changed_was (x ∷ peers) zero f (suc q) p is = inr ((λ e. omega (arith, e)), i
 changed_was (x ∷ peers) (suc place) f zero p is = inr ((λ e. omega (arith, e)), is)
 changed_was (x ∷ peers) (suc place) f (suc q) p is =
     elim (changed_was peers place f q p is) [ inl a ↦ inl (ap suc a.0, a.1) | inr a ↦ inr ((λ e. a.0 (omega (arith, e))), a.1) ]
-
-pub change_other : (peers : List Peer) (place : ℕ) (f : Peer → Peer) (q : ℕ) → q ≢ place → slice_get (change peers place f) q ≡ slice_get peers q
-change_other [] place f q ne = refl
-change_other (x ∷ peers) zero f zero ne = absurd (ne refl)
-change_other (x ∷ peers) zero f (suc q) ne = refl
-change_other (x ∷ peers) (suc place) f zero ne = refl
-change_other (x ∷ peers) (suc place) f (suc q) ne = change_other peers place f q (λ e. ne (ap suc e))
 
 pub change_at : (peers : List Peer) (place : ℕ) (f : Peer → Peer) (p : Peer) → slice_get peers place ≡ Some p → slice_get (change peers place f) place ≡ Some (f p)
 change_at [] place f p is = absurd (grind (arith, is))

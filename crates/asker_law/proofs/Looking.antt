@@ -1,5 +1,5 @@
 -- What is told to one that asks to see something.
-use Rattle.std.proofs.Common.{◌≡◌, inl, inr, sym, subst, ℕ, List, []}
+use Rattle.std.proofs.Common.{inl, inr, sym, subst, ℕ, List}
 use Rattle.std.specs.Prelude.{map}
 use Rattle.decl_core.specs.ObjectMap.{object_of}
 use Rattle.hosted_core.specs.Scene.{Scene, is_given}

@@ -1,6 +1,6 @@
 -- Calls that are made or cancelled, and who waits behind them.
-use Rattle.std.proofs.Common.{◌≡◌, ◌≢◌, ◌⊎◌, inl, inr, ◌∙◌, ap, sym, subst, refl, ℕ, ◌+◌, List, [], ◌∷◌, ◌++◌}
-use Rattle.std.specs.Prelude.{Bool, true, false, Option, Some, None, slice_get, slice_set}
+use Rattle.std.proofs.Common.{◌≡◌, ◌≢◌, ◌⊎◌, inl, inr, ◌∙◌, ap, sym, subst, refl, ℕ, List, [], ◌∷◌, ◌++◌}
+use Rattle.std.specs.Prelude.{true, Option, Some, slice_get, slice_set}
 use Rattle.std.specs.Global.{Vec}
 use Rattle.std.proofs.lemmas.Option.{same_Some}
 use Rattle.value_core.specs.declared.datum.Datum.{Datum}
@@ -8,7 +8,7 @@ use Rattle.decl_core.specs.declared.object.Object.{Object}
 use Rattle.decl_core.specs.ObjectMap.{object_of}
 use Rattle.trace_core.specs.Events.{Called}
 use Rattle.trace_core.specs.Text.{operation_name}
-use Rattle.session_text.specs.Lines.{accepted_text, cancel_name, ended_text, line_text, withdrawn_text}
+use Rattle.session_text.specs.Lines.{accepted_text, cancel_name, withdrawn_text}
 use Rattle.script_text.specs.Answers.{cancelled_line}
 use Rattle.ask_core.specs.declared.answer.Cancelled.TheVariants as cancels_by
 use Rattle.live_core.specs.declared.call.Ran.{Ran}
@@ -29,14 +29,14 @@ use Rattle.told_core.specs.Asked.{AllEnd, LetsGo, AnswersCancel, Submits}
 use Rattle.told_core.specs.Deeds.{Texts}
 use Rattle.told_core.specs.Gone.{CallsFor}
 use Rattle.told_core.specs.State.{Peer, State, change, counted, opening, opened_in, one_text, told_to, who_in, with_object}
-use Rattle.said_law.specs.Said.{Account, AllWent, SaysNoReply}
+use Rattle.said_law.specs.Said.{Account, AllWent}
 use Rattle.said_law.proofs.Going.{ran_more, at_one, at_own, told_alike, went_one}
 use Rattle.said_law.proofs.Plain.{accepted_plain, cancelled_plain, withdrawn_plain}
-use Rattle.asker_law.specs.Answers.{IsTold, AllAlong}
+use Rattle.asker_law.specs.Answers.{IsTold}
 use Rattle.asker_law.specs.Awaits.{IsIn, Lines, HasAsked, HasOpened, Pool, waits_in, IsOpenedBy, IsAwaited, IsSeated, AllSeated, AreAlone, AllHeld, Awaits}
-use Rattle.asker_law.proofs.Deeds.{Did, DidBy, IsPlain, plain_to, plain_along, same_awaits, did_as, did_before, did_goes, did_only, did_refused}
-use Rattle.asker_law.proofs.Ends.{TellsEnd, all_end, along_both, one_end, true_false, with_ran}
-use Rattle.asker_law.proofs.Lists.{Apart, apart_more, between_in, calls_of, change_at, changed_was, every_in, has_peer, in_behind, in_front, left_out, one_of_session, set_at, settled_in, settled_out}
+use Rattle.asker_law.proofs.Deeds.{Did, DidBy, IsPlain, plain_to, did_as, did_before, did_goes, did_only, did_refused}
+use Rattle.asker_law.proofs.Ends.{all_end, one_end, with_ran}
+use Rattle.asker_law.proofs.Lists.{Apart, apart_more, between_in, calls_of, changed_was, every_in, has_peer, in_behind, in_front, left_out, one_of_session, set_at, settled_in, settled_out}
 use Rattle.asker_law.proofs.Places.{AllStay, all_changed, all_past, all_stay, awaits_past, held_set, stay_set, waits_here, waits_others}
 
 -- what a call does to its object: those that ran and those that are left are those that waited, and it

@@ -1,8 +1,7 @@
 -- Places of connections, while objects and places go on.
-use Rattle.std.proofs.Common.{◌≡◌, ◌≢◌, ◌⊎◌, inl, inr, ◌∙◌, ap, sym, subst, refl, ℕ, List, [], ◌∷◌, ◌++◌}
-use Rattle.std.specs.Prelude.{Bool, true, false, Option, Some, None, slice_get, slice_set}
+use Rattle.std.proofs.Common.{◌≡◌, ◌≢◌, ◌⊎◌, inl, inr, ◌∙◌, ap, sym, subst, refl, ℕ, List, ◌++◌}
+use Rattle.std.specs.Prelude.{true, Option, Some, slice_get, slice_set}
 use Rattle.std.proofs.lemmas.Option.{same_Some}
-use Rattle.value_core.specs.declared.datum.Datum.{Datum}
 use Rattle.decl_core.specs.declared.object.Object.{Object}
 use Rattle.decl_core.specs.ObjectMap.{object_of}
 use Rattle.trace_core.specs.Events.{Called}
@@ -15,9 +14,8 @@ use Rattle.client_core.specs.declared.client.Opened.{Opened}
 use Rattle.client_core.specs.Asks.{Asks}
 use Rattle.told_core.specs.Deeds.{Texts}
 use Rattle.told_core.specs.State.{Peer, change, opened_in}
-use Rattle.asker_law.specs.Awaits.{IsIn, Lines, SaidBy, HasOpened, HasAsked, AreHeard, Pool, waits_in, IsOpenedBy, IsAwaited, IsSeated, AllSeated, AreAlone, AllHeld, Awaits}
-use Rattle.asker_law.proofs.Lists.{in_front, same_or_not, set_at, set_other, set_was, changed_was, change_at, change_other, has_peer}
-use Rattle.asker_law.proofs.Lines.{heard_map, said_map}
+use Rattle.asker_law.specs.Awaits.{IsIn, Lines, HasOpened, HasAsked, Pool, waits_in, IsOpenedBy, IsAwaited, IsSeated, AllSeated, AreAlone, AllHeld, Awaits}
+use Rattle.asker_law.proofs.Lists.{in_front, same_or_not, set_at, set_other, set_was, changed_was, has_peer}
 
 -- a call is the same, by another number
 pub record IsSameCall (old new : Scene) (c d : Called) : Type 0 where

@@ -1,29 +1,28 @@
 -- What turns tell, one after the other.
 use Rattle.std.proofs.Common.{◌≡◌, ◌⊎◌, inl, inr, ◌∙◌, ap, sym, subst, refl, ℕ, List, [], ◌∷◌, ◌++◌, append_assoc}
-use Rattle.std.specs.Prelude.{Bool, true, false, Option, Some, None, slice_get}
+use Rattle.std.specs.Prelude.{true, false, Some, None, slice_get}
 use Rattle.std.proofs.lemmas.List.{append-nil}
-use Rattle.decl_core.specs.declared.object.Object.{Object}
 use Rattle.session_text.specs.Lines.{accepted_text, ended_text}
 use Rattle.live_core.specs.Hall.{Every}
-use Rattle.hosted_core.specs.Scene.{Scene, told_of}
+use Rattle.hosted_core.specs.Scene.{Scene}
 use Rattle.client_core.specs.declared.client.Opened.{Opened}
 use Rattle.post_core.specs.Turns.{Asked, Turn, Runs}
 use Rattle.post_core.specs.Turns.Asked.{Heard, Noted, Changes}
 use Rattle.told_core.specs.Deeds.{Texts}
 use Rattle.told_core.specs.Given as told
-use Rattle.told_core.specs.State.{Peer, State}
+use Rattle.told_core.specs.State.{State}
 use Rattle.said_law.specs.Said.{Account, IsTrue, SaysIn, Says, SaysNoReply}
 use Rattle.said_law.proofs.Going.{no_account}
 use Rattle.table_core.specs.Moves.{Gives}
 use Rattle.table_core.specs.Seen.{seen}
 use Rattle.table_core.specs.declared.table.Table.{Table}
 use Rattle.kept_law.specs.Kept.{LeavesAnswered}
-use Rattle.kept_law.specs.Replied.{AreTold, HaveOneHistory, IsReplied, IsRepeated}
+use Rattle.kept_law.specs.Replied.{AreTold, HaveOneHistory, IsRepeated}
 use Rattle.kept_law.proofs.Going.{crash_leaves_answered}
 use Rattle.kept_law.proofs.Living.{lives_on}
 use Rattle.kept_law.proofs.Replying.{stands_in}
 use Rattle.asker_law.specs.Answers.{AllAlong, IsTold}
-use Rattle.asker_law.specs.Asker.{AreCut, CrashLeavesAsked, HasSaid, HaveAskers, IsAnswered, IsQuiet, RepliesAreAsked, WaitsAreAsked, said_by}
+use Rattle.asker_law.specs.Asker.{AreCut, CrashLeavesAsked, HasSaid, IsAnswered, IsQuiet, RepliesAreAsked, WaitsAreAsked, said_by}
 use Rattle.asker_law.specs.Awaits.{AllHeld, AreHeard, Awaits, IsIn, Lines, SaidBy}
 use Rattle.asker_law.specs.Awaits.AreHeard.{none}
 use Rattle.asker_law.proofs.Beginning.{begins_awaits}

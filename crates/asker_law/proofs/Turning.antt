@@ -1,5 +1,5 @@
 -- What each turn tells, and who waits behind it.
-use Rattle.std.proofs.Common.{◌≡◌, ◌⊎◌, inl, inr, ◌∙◌, ap, sym, subst, refl, ℕ, zero, suc, List, [], ◌∷◌, ◌++◌}
+use Rattle.std.proofs.Common.{◌≡◌, inl, inr, ◌∙◌, ap, sym, subst, refl, ℕ, zero, suc, List, [], ◌∷◌, ◌++◌}
 use Rattle.std.specs.Prelude.{Bool, true, false, Option, Some, None, Result, Ok, Err, IfOk, length, slice_get}
 use Rattle.std.specs.declared.alloc.AllocError.{AllocError}
 use Rattle.std.specs.Str.Lines.{strip_carriage_return}
@@ -18,10 +18,10 @@ use Rattle.client_core.specs.declared.ask.Ask.{Ask}
 use Rattle.client_core.specs.declared.ask.Ask.TheVariants as asks
 use Rattle.client_core.specs.declared.client.Opened.{Opened}
 use Rattle.client_core.specs.Asks.{Asks}
-use Rattle.client_core.specs.Held.{is_not, is_some, is_whole_before, waits_of}
+use Rattle.client_core.specs.Held.{is_some, is_whole_before, waits_of}
 use Rattle.told_core.specs.State.{Peer, State, change, changed, comer, holding, left_with, opened_at, opened_in, waits_at, who_at, who_in}
-use Rattle.told_core.specs.Deeds.{Texts, Deed, Nothing, OnlyTold, Then}
-use Rattle.told_core.specs.Asked.{Goes, Heeds}
+use Rattle.told_core.specs.Deeds.{Texts, Deed, OnlyTold, Then}
+use Rattle.told_core.specs.Asked.{Goes}
 use Rattle.told_core.specs.Turns.HearsLine.{does, cancels, sees, puts_off, holds, refuses}
 use Rattle.told_core.specs.Turns.GoesOn.{rests, does as does_more}
 use Rattle.told_core.specs.Turns.EndsHeld.{all, quits, goes_on}
@@ -29,11 +29,11 @@ use Rattle.told_core.specs.Turns.{HearsLine, HearsLast, HearsAt, TakesLine, Goes
 use Rattle.told_core.specs.Gone.{Settles}
 use Rattle.told_core.specs.Gone.Settles.{rests as settled, goes_on as settles_on, calls as calls_one, seats as seats_two, frees as frees_one}
 use Rattle.said_law.proofs.Plain.{refusal_plain, bye_plain}
-use Rattle.asker_law.specs.Awaits.{Lines, SaidBy, AreHeard, waits_in, IsSeated, Awaits}
-use Rattle.asker_law.proofs.Acting.{IsWished, IsWish, clears_one, did_heeds, did_inside, did_leaves, did_seats_one, did_frees}
+use Rattle.asker_law.specs.Awaits.{Lines, SaidBy, AreHeard, waits_in, Awaits}
+use Rattle.asker_law.proofs.Acting.{IsWish, clears_one, did_heeds, did_inside, did_leaves, did_seats_one, did_frees}
 use Rattle.asker_law.proofs.Deeds.{Did, DidBy, same_awaits, did_as, did_from, did_nothing, did_only, did_still, did_then, did_two}
 use Rattle.asker_law.proofs.Lines.{heard_first, heard_more}
-use Rattle.asker_law.proofs.Lists.{change_at, has_peer}
+use Rattle.asker_law.proofs.Lists.{change_at}
 use Rattle.asker_law.proofs.Making.{did_calls_for, did_cancel, did_lets_go}
 use Rattle.asker_law.proofs.Places.{all_changed, alone_changed, awaits_past}
 
