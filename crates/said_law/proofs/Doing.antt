@@ -1,6 +1,6 @@
 -- What each deed says.
 use Rattle.std.proofs.Common.{◌≡◌, ◌∙◌, ap, sym, subst, refl, ℕ, inl, inr, List, [], ◌∷◌, ◌++◌, Option, Some, None, Result, Ok, Err}
-use Rattle.std.specs.Prelude.{map, slice_get, slice_set, take}
+use Rattle.std.specs.Prelude.{map, slice_get, slice_set}
 use Rattle.std.specs.declared.alloc.AllocError.{AllocError}
 use Rattle.value_core.specs.declared.datum.Datum.{Datum}
 use Rattle.apply_core.specs.declared.reply.Reply.{Reply}
@@ -32,11 +32,9 @@ use Rattle.written_law.specs.Happens.{with_ran, all_happen}
 use Rattle.told_core.specs.State.{Peer, State, one_text, opened_at, told_to, who_in, session_by}
 use Rattle.told_core.specs.Deeds.{Texts, Deed, Nothing, OnlyTold, Then}
 use Rattle.told_core.specs.Asked.{IsRefused, OpensBare, OpensAs, Opens, Ends, AllEnd, Submits, IsUnheld, GetsNumber, Sits, Calls, Repeats, RepeatsUnder, IsTurnedAway, AnswersCall, LetsGo, AnswersCancel, AnswersInside, LeavesObject, Goes, Quits, Acts, Heeds, keyed_text}
-use Rattle.hold_form.specs.HoldForm.{HoldForm}
-use Rattle.hold_core.specs.Held.{HeldCall}
 use Rattle.told_core.specs.Custody.{not_held_text}
 use Rattle.told_core.specs.Gone.{CallsFor, SeatsOne, Frees}
-use Rattle.told_core.specs.Inside.{Crowd, Sees, IsWhy, IsWho, state_by, held_in, last_told, form_at, object_in}
+use Rattle.told_core.specs.Inside.{Sees, IsWhy, state_by, form_at, object_in}
 use Rattle.told_core.proofs.Doing.{ends_keeps, all_end_keeps, follows_keeps}
 use Rattle.said_law.specs.Said.{Account, AllWent, SaysNoReply, IsTrue, Says}
 use Rattle.said_law.proofs.Plain.{refusal_plain, opened_plain, accepted_plain, withdrawn_plain, cancelled_plain, bye_plain, waiting_plain, gone_plain, not_held_plain, why_plain, state_plain, who_plain, list_plain}
@@ -346,14 +344,10 @@ why_none : (object : Scene) (number : ℕ) (text : List ℕ) → IsWhy object nu
 why_none object number text (inl is) = subst SaysNoReply (sym is.text_is) (why_plain (object_of object.hall.object) number is.whys)
 why_none object number text (inr is) = subst SaysNoReply (sym is.text_is) (state_plain number (state_by (is_given object number)))
 
-who_none : (crowd : Crowd) (object : Scene) (holds : List HoldForm) (held : List HeldCall) (from : ℕ) (text : List ℕ) → IsWho crowd object holds held from text → SaysNoReply text
-who_none crowd object holds held from text is =
-    subst SaysNoReply (sym is.text_is) (who_plain (object_of object.hall.object) holds is.seats is.calls (take 256 (held_in from (last_told is.all) held)))
-
 sees : (place : ℕ) (inside : Sight) → TellsBy (Sees place inside)
 sees place (insides.Why number) old new said added (people, now, is) = tells_only place is.text (why_none is.object number is.text is.is) old new said added is.only
 sees place (insides.Who from) old new said added (people, now, is) =
-    tells_only place is.text (who_none _ is.object _ _ from is.text is.is) old new said added is.only
+    tells_only place is.text (subst SaysNoReply (sym is.is.text_is) (who_plain (object_of is.object.hall.object) _ is.is.seats is.is.calls _)) old new said added is.only
 sees place insides.List old new said added (people, now, is) =
     tells_only place is.text (subst SaysNoReply (sym is.is) (list_plain (map (λ (x : Scene). x.hall.object.name) old.objects) (form_at old.objects (object_in (opened_at old place))))) old new said added is.only
 

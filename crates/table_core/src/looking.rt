@@ -150,7 +150,13 @@ impl Table {
             from,
             second: self.second,
         };
-        match who_at(self.alloc, &self.clients, &self.objects, &self.custody, whom) {
+        match who_at(
+            self.alloc,
+            &self.clients,
+            &self.objects,
+            &self.custody,
+            whom,
+        ) {
             None => {
                 self.refuse(place, Refusal::NoObject, post)?;
                 Ok(())
