@@ -27,9 +27,9 @@ or_parts false b is = (refl, is)
 none_named : (holds : List HoldForm) (op : ℕ) → is_one_of (named_in holds) op ≡ false → hold_ended holds op ≡ None
 none_named [] op is = refl
 none_named (h ∷ holds) op is =
-    let a = or_parts (h.op == op) (is_one_of h.until op || is_one_of (named_in holds) op) (sym (named_step h holds op) ∙ is) in
-    let b = or_parts (is_one_of h.until op) (is_one_of (named_in holds) op) a.1 in
-    ap (λ (x : Bool). if x then Some 0 else next (hold_ended holds op)) b.0 ∙ ap next (none_named holds op b.1)
+    let a = or_parts (h.op == op || is_one_of h.until op) (is_one_of (named_in holds) op) (sym (named_step h holds op) ∙ is) in
+    let b = or_parts (h.op == op) (is_one_of h.until op) a.0 in
+    ap (λ (x : Bool). if x then Some 0 else next (hold_ended holds op)) b.1 ∙ ap next (none_named holds op a.1)
 
 none_ended : (holds : List HoldForm) (op : ℕ) → is_one_of (ending_in holds) op ≡ false → hold_ended holds op ≡ None
 none_ended [] op is = refl
@@ -44,29 +44,30 @@ next_some (Some q) p is = (q, refl, cc)
 -- what one of the first holds ends it ends among all
 ended_front : (holds more : List HoldForm) (op p : ℕ) → hold_ended holds op ≡ Some p → hold_ended (holds ++ more) op ≡ Some p
 ended_front [] more op p is = absurd cc
-ended_front (h ∷ holds) more op p is = by (is_one_of h.until op) refl
+ended_front (h ∷ holds) more op p is = by (is_one_of h.until op) refl (λ q e. ended_front holds more op q e)
   where
-    by : (b : Bool) → is_one_of h.until op ≡ b → hold_ended (h ∷ (holds ++ more)) op ≡ Some p
-    by true here =
+    by : (b : Bool) → is_one_of h.until op ≡ b → ((q : ℕ) → hold_ended holds op ≡ Some q → hold_ended (holds ++ more) op ≡ Some q) → hold_ended (h ∷ (holds ++ more)) op ≡ Some p
+    by true here on =
         ap (λ (x : Bool). if x then Some 0 else next (hold_ended (holds ++ more) op)) here
         ∙ sym (ap (λ (x : Bool). if x then Some 0 else next (hold_ended holds op)) here) ∙ is
-    by false other =
+    by false other on =
         let later : next (hold_ended holds op) ≡ Some p = sym (ap (λ (x : Bool). if x then Some 0 else next (hold_ended holds op)) other) ∙ is in
         let q = next_some (hold_ended holds op) p later in
-        ap (λ (x : Bool). if x then Some 0 else next (hold_ended (holds ++ more) op)) other ∙ ap next (ended_front holds more op q.0 q.1) ∙ ap (λ n. Some n) (sym q.2)
+        ap (λ (x : Bool). if x then Some 0 else next (hold_ended (holds ++ more) op)) other ∙ ap next (on q.0 q.1) ∙ ap (λ n. Some n) (sym q.2)
 
 -- what none of the first ends the one behind them ends
 ended_last : (holds : List HoldForm) (h : HoldForm) (op : ℕ) → hold_ended holds op ≡ None → is_one_of h.until op ≡ true → hold_ended (holds ++ h ∷ []) op ≡ Some (length holds)
 ended_last [] h op none is = ap (λ (x : Bool). if x then Some 0 else next None) is
-ended_last (g ∷ holds) h op none is = by (is_one_of g.until op) refl
+ended_last (g ∷ holds) h op none is = by (is_one_of g.until op) refl (λ e. ended_last holds h op e is)
   where
-    by : (b : Bool) → is_one_of g.until op ≡ b → hold_ended (g ∷ (holds ++ h ∷ [])) op ≡ Some (suc (length holds))
-    by true here =
+    by : (b : Bool) → is_one_of g.until op ≡ b → (hold_ended holds op ≡ None → hold_ended (holds ++ h ∷ []) op ≡ Some (length holds)) →
+        hold_ended (g ∷ (holds ++ h ∷ [])) op ≡ Some (suc (length holds))
+    by true here on =
         let some : ◌≡◌ {A = Option ℕ} (Some 0) None = sym (ap (λ (x : Bool). if x then Some 0 else next (hold_ended holds op)) here) ∙ none in
         absurd cc
-    by false other =
+    by false other on =
         let later : next (hold_ended holds op) ≡ None = sym (ap (λ (x : Bool). if x then Some 0 else next (hold_ended holds op)) other) ∙ none in
-        ap (λ (x : Bool). if x then Some 0 else next (hold_ended (holds ++ h ∷ []) op)) other ∙ ap next (ended_last holds h op (nothing (hold_ended holds op) later) is)
+        ap (λ (x : Bool). if x then Some 0 else next (hold_ended (holds ++ h ∷ []) op)) other ∙ ap next (on (nothing (hold_ended holds op) later))
       where
         nothing : (found : Option ℕ) → next found ≡ None → found ≡ None
         nothing None e = refl
@@ -121,8 +122,8 @@ fresh_more holds (x ∷ ops) u fresh is (suc k) op there = fresh_more holds ops 
 module _ (operations : List OperationForm) (holds : List HoldForm) (own : ℕ) where
   undo_fresh : (before after : List ℕ) (ws rest : List Lexeme) → IsUndo operations holds own before ws after rest → Fresh holds before → Fresh holds after
   undo_fresh before after ws rest (undo {u = u} known free may) fresh =
-      let a = or_parts (own == u) (is_one_of (named_in holds) u || is_one_of before u) free in
-      fresh_more holds before u fresh (or_parts (is_one_of (named_in holds) u) (is_one_of before u) a.1).0
+      let a = or_parts (own == u || is_one_of (named_in holds) u) (is_one_of before u) free in
+      fresh_more holds before u fresh (or_parts (own == u) (is_one_of (named_in holds) u) a.0).1
 
   next_fresh : (before after : List ℕ) (ws rest : List Lexeme) → IsNextUndo operations holds own before ws after rest → Fresh holds before → Fresh holds after
   next_fresh before after ws rest (next_undo {ws = vs} is) fresh = undo_fresh before after vs rest is fresh
@@ -138,7 +139,7 @@ module _ (operations : List OperationForm) (holds : List HoldForm) (own : ℕ) w
       series_fresh _ 32 one all vs rest more (undo_fresh [] one ws vs first (λ k op there. absurd (grind (arith, there))))
 
 hold_own : (operations : List OperationForm) (before after : List HoldForm) (ws rest : List Lexeme) → IsHoldItem operations before ws after rest → Own before → Own after
-hold_own operations before after ws rest (a_hold {op = op} {all = all} {any = any} {ws = vs} {vs = us} known free are loose) own =
+hold_own operations before after ws rest (a_hold {op = op} {all = all} {any = any} {ws = vs} {vs = us} known free are any_way) own =
     one_more before (record { op = op; until = all; by_any = any }) own (undos_fresh operations before op all vs us are)
 
 holds_own : (operations : List OperationForm) (begins : List Lexeme → Bool) (n : ℕ) (before after : List HoldForm) (ws rest : List Lexeme) → IsSeries (IsHoldItem operations) begins n before ws after rest →

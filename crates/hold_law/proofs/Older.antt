@@ -88,11 +88,10 @@ recovered_is_older first last turns accounts j o f past ends found lost served o
     let s = served.scene in
     let went = over_went first last turns accounts j s past ends served.goes_on served.there over in
     let adds : Adds o f (added_by j turns) = record { names = served.names; old = s; new = went.scene; all = went.goes; stands = served.stands } in
-    let read = front_is_read o h f bytes (added_by j turns) found lost r adds cut b in
-    (
+    let read = front_is_read o h f bytes (added_by j turns) found lost r adds cut b in (
       ends_of s read.0,
       went.are ∙ ap (λ (l : List Step). ends_of s l ++ past) read.1 ∙ ap (λ (l : List Happened). l ++ past) (ends_both s read.0 b.steps)
-      ∙ append_assoc (ends_of s read.0) (ends_of s b.steps) past,
+          ∙ append_assoc (ends_of s read.0) (ends_of s b.steps) past,
     )
 
 -- of an older part each call could be made that ended

@@ -172,7 +172,7 @@ next_leaves_held before after last j o rules past text found since gives runs no
     ∙ ap (λ (x : ObjectForm). front_text x f ++ held_text x h.custody.rules.holds h.custody.held) object
     ∙ ap (λ (x : RulesForm). front_text o f ++ held_text o x.holds h.custody.held) h.rules_are in
     let stands = followed_stands o s.begun s.heard was now now.past w.runs (next_epoch was) (next_base was)
-        (subst (λ (x : Scene). Stands o s.begun s.heard x) (sym same) s.stands) by.followed w.events in
+    (subst (λ (x : Scene). Stands o s.begun s.heard x) (sym same) s.stands) by.followed w.events in
     let went = runs_are_steps after last since j now runs none there in
     let adds : Adds o f (added_by j since) = record { names = s.names; old = now; new = went.0; all = went.2; stands = stands } in
     record {

@@ -1,6 +1,6 @@
 -- What is held, turn by turn.
 use Rattle.std.proofs.Common.{◌≡◌, ◌≢◌, ◌⊎◌, inl, inr, ◌∙◌, ap, sym, subst, refl, arith, ℕ, zero, suc, List, [], ◌∷◌, ◌++◌, append_assoc, eqb-true}
-use Rattle.std.specs.Prelude.{Bool, true, false, ◌==◌, Option, Some, None, slice_get, slice_set}
+use Rattle.std.specs.Prelude.{◌+◌, Bool, true, false, ◌==◌, Option, Some, None, slice_get, slice_set}
 use Rattle.std.proofs.lemmas.Bool.{eqb-false}
 use Rattle.std.proofs.lemmas.List.{append-nil}
 use Rattle.std.proofs.lemmas.Option.{same_Some}
@@ -140,7 +140,7 @@ still_keep old new j rules s scene steps past k there same none keeps =
 
 every_numbered : (P : Called → Type 0) → ((c : Called) (n : ℕ) → P c → P (record c { number = n })) → (n : ℕ) (waiting : List Called) → Every P waiting → Every P (numbered_from n waiting)
 every_numbered P same n [] all = tt
-every_numbered P same n (c ∷ waiting) all = (same c _ all.0, every_numbered P same _ waiting all.1)
+every_numbered P same n (c ∷ waiting) all = (same c (n + 1) all.0, every_numbered P same (n + 1) waiting all.1)
 
 numbered_keep : (rules : RulesForm) (waiting : List Called) (past : List Happened) (held : List HeldCall) → Keeps rules.holds waiting past held → Keeps rules.holds (numbered_from 0 waiting) past held
 numbered_keep rules waiting past held k = record {
