@@ -1,19 +1,17 @@
 -- What a start plays is what was held.
-use Rattle.std.proofs.Common.{◌≡◌, ◌⊎◌, inl, inr, ◌∙◌, ap, sym, subst, refl, arith, ℕ, zero, suc, ◌+◌, ◌-◌, ◌^◌, ◌<◌, ◌≤◌, List, [], ◌∷◌, ◌++◌, append_assoc}
-use Rattle.std.specs.Prelude.{Bool, true, false, ◌==◌, Option, Some, None, map, min, slice_get, slice_set, slice_index_or}
-use Rattle.std.specs.Str.{str_to_ascii_lowercase}
+use Rattle.std.proofs.Common.{◌≡◌, inl, inr, ◌∙◌, ap, sym, subst, refl, arith, ℕ, zero, suc, ◌+◌, ◌-◌, ◌^◌, ◌≤◌, List, [], ◌∷◌, ◌++◌, append_assoc}
+use Rattle.std.specs.Prelude.{Option, Some, map, min, slice_get, slice_index_or}
 use Rattle.std.proofs.lemmas.Option.{same_Some}
 use Rattle.decl_core.specs.ObjectForm.{ObjectForm}
 use Rattle.decl_core.specs.ObjectMap.{object_of}
-use Rattle.apply_core.specs.declared.reply.Reply.{Reply}
 use Rattle.trace_core.specs.Events.{Called, Happened, ended}
 use Rattle.front_core.specs.declared.front.CarriedCall.{CarriedCall}
 use Rattle.front_core.specs.Front.{Opening}
 use Rattle.front_core.specs.Text.{front_text}
-use Rattle.hold_form.specs.HoldForm.{HoldForm, RulesForm}
-use Rattle.hold_core.specs.Held.{HeldCall, AreHeld}
+use Rattle.hold_form.specs.HoldForm.{RulesForm}
+use Rattle.hold_core.specs.Held.{AreHeld}
 use Rattle.hold_front.specs.HeldLines.{held_text}
-use Rattle.hold_front.specs.HeldPlay.{PlaysLines, told_ends, told_call}
+use Rattle.hold_front.specs.HeldPlay.{told_ends}
 use Rattle.front_law.proofs.Holding.{written_has_held}
 use Rattle.replay_core.specs.Said.{Says, Asked, a_start, an_end, a_cancel, a_name}
 use Rattle.replay_core.specs.Steps.{Step, ran, cancelled, named, Begun, Heard, nothing_heard}
@@ -23,26 +21,17 @@ use Rattle.replay_core.proofs.Saying.{says_once}
 use Rattle.recover_core.specs.Carried.{told_by, told_or}
 use Rattle.recover_core.specs.Lines.{IsLine, AreLines, joined}
 use Rattle.recover_core.specs.Playing.{begun_by}
-use Rattle.recover_core.specs.Recovered.{IsBehind}
-use Rattle.recover_core.specs.declared.recover.House.{House}
-use Rattle.recover_core.specs.declared.recover.Recovered.{Recovered}
 use Rattle.hosted_core.specs.Fronts.{carried_from, front_of}
 use Rattle.hosted_core.specs.Scene.{Scene, told_of, next_base, next_epoch}
 use Rattle.written_law.specs.Read.{Adds}
 use Rattle.written_law.specs.Stands.{Stands}
 use Rattle.written_law.specs.Told.{heard_of}
 use Rattle.written_law.proofs.Beginning.{followed_stands}
-use Rattle.post_core.specs.Texts.{Begins}
-use Rattle.post_core.specs.Turns.{Turn, Runs, added_by}
-use Rattle.post_core.specs.Turns.Asked.{Changes}
-use Rattle.keep_loop.specs.Epochs.{BeginsNone}
+use Rattle.post_core.specs.Turns.{added_by}
 use Rattle.told_core.specs.Custody.{Custody, Custodies, held_lines, held_lines_in}
-use Rattle.table_core.specs.Moves.{Gives}
-use Rattle.table_core.specs.declared.table.Table.{Table}
-use Rattle.kept_law.specs.Kept.{Stood}
 use Rattle.kept_law.proofs.Going.{set_at, runs_are_steps}
-use Rattle.hold_law.specs.Ended.{ends_of, HoldsBy}
-use Rattle.hold_law.specs.Played.{IsNumbered, PlayedIsHeld, LeavesHeld, NextLeavesHeld}
+use Rattle.hold_law.specs.Ended.{ends_of}
+use Rattle.hold_law.specs.Played.{IsNumbered, PlayedIsHeld, NextLeavesHeld}
 use Rattle.hold_law.proofs.Once.{first_once, tell_once, no_end, line_head, line_tail}
 
 -- numbers

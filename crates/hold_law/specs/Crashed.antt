@@ -4,7 +4,6 @@ use Rattle.decl_core.specs.ObjectForm.{ObjectForm}
 use Rattle.trace_core.specs.Events.{Happened as Ended}
 use Rattle.hold_form.specs.HoldForm.{RulesForm}
 use Rattle.hold_front.specs.HeldLines.{held_text}
-use Rattle.hosted_core.specs.Fronts.{IsNextFront}
 use Rattle.post_core.specs.Turns.{Turn, Runs}
 use Rattle.keep_loop.specs.declared.keep.Limits.{Limits}
 use Rattle.keep_loop.specs.Seen.{Happened}

@@ -1,5 +1,5 @@
 -- What a start plays is what was held.
-use Rattle.std.specs.Prelude.{◌≡◌, ℕ, ◌+◌, ◌<◌, ◌^◌, true, List, [], ◌∷◌, ◌++◌, Some, map, slice_get}
+use Rattle.std.specs.Prelude.{◌≡◌, ℕ, ◌+◌, ◌<◌, ◌^◌, true, List, [], ◌++◌, Some, map, slice_get}
 use Rattle.decl_core.specs.ObjectForm.{ObjectForm}
 use Rattle.trace_core.specs.Events.{Happened}
 use Rattle.front_core.specs.declared.front.CarriedCall.{CarriedCall}
@@ -19,7 +19,6 @@ use Rattle.post_core.specs.Texts.{Begins}
 use Rattle.post_core.specs.Turns.{Turn, Runs, added_by}
 use Rattle.post_core.specs.Turns.Asked.{Changes}
 use Rattle.keep_loop.specs.Epochs.{BeginsNone}
-use Rattle.told_core.specs.Custody.{Custody}
 use Rattle.table_core.specs.Moves.{Gives}
 use Rattle.table_core.specs.declared.table.Table.{Table}
 use Rattle.kept_law.specs.Kept.{Stood}
