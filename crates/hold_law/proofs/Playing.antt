@@ -31,7 +31,7 @@ use Rattle.post_core.specs.Turns.{added_by}
 use Rattle.told_core.specs.Custody.{Custody, Custodies, held_lines, held_lines_in}
 use Rattle.kept_law.proofs.Going.{set_at, runs_are_steps}
 use Rattle.hold_law.specs.Ended.{ends_of}
-use Rattle.hold_law.specs.Played.{IsNumbered, PlayedIsHeld, NextLeavesHeld}
+use Rattle.hold_law.specs.Played.{IsNumbered, PlayedIsHeld, NextLeavesHeld, StartLeavesHeld}
 use Rattle.hold_law.proofs.Once.{first_once, tell_once, no_end, line_head, line_tail}
 
 -- numbers
@@ -176,4 +176,26 @@ next_leaves_held before after last j o rules past text found since gives runs no
       played = λ room house bytes r new b p.
           played_is_held o house f bytes found r rules.holds h.custody.held new past now b
           (record { carried = by.followed.carried ∙ sym (carried_told was 0 was.hall.waiting); base = by.followed.base; room = room }) h.are p;
+    }
+
+pub start_leaves_held : StartLeavesHeld
+start_leaves_held t last j o rules past s events found since there served idle none runs h within =
+    let f = front_of s s.epoch events s.base in
+    let same : served.scene ≡ s = same_Some served.scene s (sym served.there ∙ there) in
+    let went = runs_are_steps t last since j s runs served.goes_on there in
+    let adds : Adds o f (added_by j since) =
+    record { names = served.names; old = s; new = went.0; all = went.2; stands = subst (λ (x : Scene). Stands o (begun_by f) nothing_heard x) same served.stands } in
+    let carried : s.carried ≡ map (λ (c : CarriedCall). c.told) f.carried =
+    none ∙ sym (ap (λ (l : List Called). map (λ (c : CarriedCall). c.told) (carried_from s 0 l)) idle) in
+    record {
+      holds = h;
+      scene = s;
+      there = there;
+      front = f;
+      text_is = refl;
+      says = λ rows each.
+          (written_has_held o rules.holds f h.custody.held ((front_text o f ++ held_text o rules.holds h.custody.held) ++ found) (added_by j since) found within.0 rows each adds within.1
+          (append_assoc (front_text o f) (held_text o rules.holds h.custody.held) found)).0;
+      played = λ room house bytes r new b p.
+          played_is_held o house f bytes found r rules.holds h.custody.held new past s b (record { carried = carried; base = refl; room = room }) h.are p;
     }

@@ -29,7 +29,7 @@ pub record IsHeldBehind (first last : Table) (j : ℕ) (o : ObjectForm) (rules :
   pub accounts : List Account
   pub ends : List Ended
   pub over : EndsOver j first earlier accounts before past ends
-  pub leaves : LeavesHeld before after j o rules ends text found
+  pub leaves : LeavesHeld after j o rules ends text found
 
 -- Or it has just begun anew, and the object was not told: then the text says what is held behind all turns, and nothing is
 -- found behind it.

@@ -3,7 +3,7 @@
 ghost use Rattle.hold_law.specs.Ended.{TurnsHold};
 ghost use Rattle.hold_law.specs.Keeps.{ReadAreApart, TurnsKeepHolds, TurnsGiveOnce};
 ghost use Rattle.hold_law.specs.Newest.{DueStays, DueGivesNewest};
-ghost use Rattle.hold_law.specs.Played.{PlayedIsHeld, NextLeavesHeld};
+ghost use Rattle.hold_law.specs.Played.{PlayedIsHeld, NextLeavesHeld, StartLeavesHeld};
 ghost use Rattle.hold_law.specs.Older.{RecoveredIsOlder, LifeKeepsHolds};
 ghost use Rattle.hold_law.specs.Crashed.{CrashLeavesHeld};
 
@@ -39,6 +39,11 @@ pub fn played_is_held()
 /// is played of it is what the calls have left that are recovered.
 pub fn next_leaves_held()
     ensures { NextLeavesHeld }
+{}
+
+/// So it is of the front that a start writes for an object, and of what the object then holds.
+pub fn start_leaves_held()
+    ensures { StartLeavesHeld }
 {}
 
 /// What is recovered behind a front is the first of what ended in these turns: all else ended later.
