@@ -1,8 +1,7 @@
 -- What a crash leaves of what is held.
 use Rattle.std.proofs.Common.{◌≡◌, ◌⊎◌, inl, inr, ◌∙◌, ap, sym, subst, refl, ℕ, ◌<◌, List, [], ◌∷◌, ◌++◌, append_assoc}
-use Rattle.std.specs.Prelude.{Option, Some, None, slice_get}
+use Rattle.std.specs.Prelude.{Option, Some}
 use Rattle.std.proofs.lemmas.List.{append_cancel_left}
-use Rattle.std.proofs.lemmas.Option.{same_Some}
 use Rattle.decl_core.specs.ObjectForm.{ObjectForm}
 use Rattle.decl_core.specs.ObjectMap.{object_of}
 use Rattle.trace_core.specs.Events.{Happened as Ended}
@@ -11,14 +10,10 @@ use Rattle.hold_front.specs.HeldLines.{held_text}
 use Rattle.hosted_core.specs.Scene.{Scene}
 use Rattle.post_core.specs.Texts.{Begins, to}
 use Rattle.post_core.specs.Turns.{Turn, Runs, added_by}
-use Rattle.keep_loop.specs.declared.keep.Limits.{Limits}
-use Rattle.keep_loop.specs.Seen.{Happened}
-use Rattle.keep_loop.specs.Seen.Happened.{Changed}
-use Rattle.keep_loop.specs.Epochs.{rules_of, front_in, before_in, since_in, Agrees, AgreesIn, HasBegun, IsAhead, LastBegan, change_to}
-use Rattle.keep_loop.specs.Stands.{IsBetween, Survives}
+use Rattle.keep_loop.specs.Epochs.{rules_of, front_in, before_in, since_in, Agrees, HasBegun, LastBegan, change_to}
+use Rattle.keep_loop.specs.Stands.{Survives}
 use Rattle.told_core.specs.Custody.{Custody, held_lines, held_lines_in}
 use Rattle.table_core.specs.Moves.{Gives, Fronts}
-use Rattle.table_core.specs.Seen.{seen as seen_of}
 use Rattle.table_core.specs.declared.table.Table.{Table}
 use Rattle.kept_law.specs.Kept.{Stood, LeavesAnswered}
 use Rattle.kept_law.proofs.Empty.{no_bytes, front_change, since_change}

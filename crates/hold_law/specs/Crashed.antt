@@ -4,7 +4,6 @@ use Rattle.decl_core.specs.ObjectForm.{ObjectForm}
 use Rattle.trace_core.specs.Events.{Happened as Ended}
 use Rattle.hold_form.specs.HoldForm.{RulesForm}
 use Rattle.hold_front.specs.HeldLines.{held_text}
-use Rattle.hosted_core.specs.Fronts.{IsNextFront}
 use Rattle.post_core.specs.Turns.{Turn, Runs}
 use Rattle.keep_loop.specs.declared.keep.Limits.{Limits}
 use Rattle.keep_loop.specs.Seen.{Happened}
@@ -30,7 +29,7 @@ pub record IsHeldBehind (first last : Table) (j : ℕ) (o : ObjectForm) (rules :
   pub accounts : List Account
   pub ends : List Ended
   pub over : EndsOver j first earlier accounts before past ends
-  pub leaves : LeavesHeld before after j o rules ends text found
+  pub leaves : LeavesHeld after j o rules ends text found
 
 -- Or it has just begun anew, and the object was not told: then the text says what is held behind all turns, and nothing is
 -- found behind it.
