@@ -1,6 +1,6 @@
 -- What is done for those that are gone.
 use Rattle.std.proofs.Common.{◌≡◌, ◌∙◌, ap, sym, subst, refl, ℕ, inl, inr, List, [], ◌∷◌, ◌++◌, append_assoc, append-nil}
-use Rattle.std.specs.Prelude.{◌<◌, false, Option, Some, None, Result, Ok, Err, IfOk, IfSome, length, slice_get, slice_set}
+use Rattle.std.specs.Prelude.{false, Option, Some, None, Result, Ok, Err, IfOk, IfSome, slice_get, slice_set}
 use Rattle.std.specs.declared.alloc.AllocError.{AllocError}
 use Rattle.decl_core.specs.ObjectForm.{ObjectForm}
 use Rattle.gone_core.specs.declared.holding.OwedCall.{OwedCall}
@@ -13,8 +13,6 @@ use Rattle.decl_core.specs.ObjectMap.{object_of}
 use Rattle.live_core.specs.declared.call.Ran.{Ran}
 use Rattle.live_core.specs.declared.live.Taken.{Taken}
 use Rattle.live_core.specs.Lines.{all_lines}
-use Rattle.tally_core.specs.Tallies.{CountsTaken}
-use Rattle.tally_core.specs.declared.tallies.Tallies.{Tallies}
 use Rattle.session_text.specs.declared.line.Line.{Line}
 use Rattle.session_text.specs.Lines.{line_text}
 use Rattle.guest_core.specs.declared.seats.Seat.TheVariants.{Nameless}
@@ -196,13 +194,6 @@ pub taken_same : (a b : Post) (old mid : State) (place : ℕ) (seat : Opened) (t
     Brings (TellsTaken place seat taken object) a old b mid → mid.objects ≡ old.objects
 taken_same a b old mid place seat taken object brings =
     (all_end_keeps seat.object object taken.ran.items _ mid brings.is.ended [] brings.is.ends).0
-
--- a call is counted, behind what counts nothing
-pub counted_from : (old mid new : Tallies) (at : ℕ) (taken : Taken) → mid ≡ old →
-    (at < length mid.objects.items → CountsTaken at taken mid.objects.items new.objects.items) →
-    at < length old.objects.items → CountsTaken at taken old.objects.items new.objects.items
-counted_from old mid new at taken same counts =
-    subst (λ (t : Tallies). at < length t.objects.items → CountsTaken at taken t.objects.items new.objects.items) same counts
 
 -- what is held follows
 pub follows_in : (custody new : Custodies) (objects : List Scene) (clients : Clients) (at : ℕ) (object : Scene) (ran : List Ran) →

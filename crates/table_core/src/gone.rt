@@ -165,8 +165,8 @@ impl Table {
     pub(crate) fn follow(&mut self, at: usize, taken: &Taken) -> Result<(), AllocError>
         ensures follows { OnOk result ((object : Scene) → slice_get self.old.objects.items at ≡ Some object
             → Follows at object taken.now.ran.items (seen self.old) (seen self.new)) }
-        ensures counts { at < length self.old.tallies.objects.items
-            → CountsTaken at taken.now self.old.tallies.objects.items self.new.tallies.objects.items }
+        ensures counts { OnOk result (at < length self.old.tallies.objects.items
+            → CountsTaken at taken.now self.old.tallies.objects.items self.new.tallies.objects.items) }
     {
         self.tallies.count(at, taken);
         self.custody.ended(at, &self.objects, &taken.ran)?;
@@ -544,7 +544,7 @@ impl Table {
         }
     }
 
-    // It was made: each that ran is told to who made it, all that is counted, and what is held follows.
+    // It was made: each that ran is told to who made it, and what is held follows.
     fn made_owed(&mut self, at: usize, taken: &Taken, post: &mut Post) -> Result<(), AllocError>
         ensures brings { OnOk result ((object : Scene) → slice_get self.old.objects.items at ≡ Some object
             → Brings (EndsAll at object taken.now.ran.items) post.old (seen self.old) post.new (seen self.new)) }

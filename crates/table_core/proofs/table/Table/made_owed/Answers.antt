@@ -4,7 +4,7 @@ use Rattle.live_core.specs.declared.call.Ran.{Ran}
 use Rattle.told_core.specs.Asked.{AllEnd}
 use Rattle.table_core.specs.Brings.{Brings}
 use Rattle.table_core.specs.Seen.{seen}
-use Rattle.table_core.proofs.Settling.{counted_from, ends_all, ends_same}
+use Rattle.table_core.proofs.Settling.{ends_all, ends_same}
 use Rattle.table_core.proofs.table.Table.made_owed.Goals as goal
 
 pub returns-clause-brings : goal.returns-clause-brings
@@ -16,7 +16,3 @@ returns-clause-brings c = λ object there.
     (c.in_ok-follow.ensures.follows object
     (ap (λ (l : List Scene). slice_get l c.args.at)
     (ends_same c.args.post.now c.all_ended.new.post (seen c.args.self.now) (seen c.all_ended.new.self) c.args.at object c.args.taken.now.ran.items told) ∙ there))
-
-pub returns-clause-counts : goal.returns-clause-counts
-returns-clause-counts c = counted_from c.args.self.now.tallies c.all_ended.new.self.tallies c.follow.new.self.tallies c.args.at c.args.taken.now
-    c.in_ok-all_ended.ensures.uncounted c.in_ok-follow.ensures.counts

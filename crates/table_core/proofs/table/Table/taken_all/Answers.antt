@@ -1,7 +1,7 @@
 use Rattle.std.proofs.Common.{◌∙◌, ap, List, slice_get}
 use Rattle.hosted_core.specs.Scene.{Scene}
 use Rattle.table_core.specs.Seen.{seen}
-use Rattle.table_core.proofs.Settling.{counted_from, tells_all, taken_same}
+use Rattle.table_core.proofs.Settling.{tells_all, taken_same}
 use Rattle.table_core.proofs.table.Table.taken_all.Goals as goal
 
 pub returns-clause-brings : goal.returns-clause-brings
@@ -11,7 +11,3 @@ returns-clause-brings c = λ object there.
     (c.in_ok-follow.ensures.follows object
     (ap (λ (l : List Scene). slice_get l c.args.seat.object)
     (taken_same c.args.post.now c.taken.new.post (seen c.args.self.now) (seen c.taken.new.self) c.args.place c.args.seat c.args.taken.now object told) ∙ there))
-
-pub returns-clause-counts : goal.returns-clause-counts
-returns-clause-counts c = counted_from c.args.self.now.tallies c.taken.new.self.tallies c.follow.new.self.tallies c.args.seat.object c.args.taken.now
-    c.in_ok-taken.ensures.uncounted c.in_ok-follow.ensures.counts

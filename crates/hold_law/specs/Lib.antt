@@ -1,0 +1,5 @@
+pub mod Ended
+pub mod Keeps
+pub mod Played
+pub mod Older
+pub mod Crashed
