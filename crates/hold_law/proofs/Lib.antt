@@ -1,0 +1,11 @@
+pub mod Passing
+pub mod Keeping
+pub mod Apart
+pub mod Once
+pub mod Holding
+pub mod Calling
+pub mod Turning
+pub mod Playing
+pub mod Older
+pub mod Crashed
+pub mod Newest
