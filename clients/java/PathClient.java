@@ -16,7 +16,8 @@ import java.util.concurrent.locks.*;
 public final class PathClient implements AutoCloseable {
     /** REFUSED: the body said no. FAILED: device, memory or damaged. CANCELLED: it waited. REJECTED: the server did not take the
      * call, or did not open the object. NO_SERVER: nothing was called. LOST: it is not known whether the call was done. EXPIRED: the
-     * same, since the session of this name is not as this client left it: given up, forgotten, or used by somebody else. */
+     * same, since the session of this name is not as this client left it: given up, forgotten, used by somebody else, or what it held
+     * was given back meanwhile. */
     public enum Kind { REFUSED, FAILED, CANCELLED, REJECTED, NO_SERVER, LOST, EXPIRED }
     /** There is no reply. The call has changed nothing, unless it is LOST or EXPIRED. The word says why, as that of a refusal. */
     public static final class CallError extends Exception {
@@ -34,8 +35,9 @@ public final class PathClient implements AutoCloseable {
     private volatile boolean closed, leaving;
     private volatile Selector selector;
     private SocketChannel channel;
-    /** How long a server is tried, and the key of the next call, where there is a name. */
-    private long wait, key;
+    /** How long a server is tried, and the key of the next call, where there is a name; and how many calls were given up that the server
+     * may have done: so far the next key may be past this one. It may be any one where that is below 0. */
+    private long wait, key, givenUp;
     /** Opens an object of the server at this port, or at the path of a socket, which is tried for so long. CLIENT may be null. */
     public PathClient(String place, String name, String client, long wait) throws CallError {
         this.place = place; this.wait = wait;
@@ -53,12 +55,30 @@ public final class PathClient implements AutoCloseable {
         try { if (!turn.tryLock(time, TimeUnit.MILLISECONDS)) throw new CallError(Kind.CANCELLED, ""); } 
         catch (InterruptedException error) { throw new CallError(Kind.CANCELLED, "interrupted"); }
         try {
-            if (closed) throw lost("closed"); else if (channel == null) key = connect(end);
+            if (closed) throw lost("closed");
+            if (hasName && channel != null && hasEnded()) drop();
+            if (channel == null) comeBack(end);
             return asked(text, end);
         } catch (CallError error) {
+            if (error.kind == Kind.EXPIRED) givenUp = -1; else if (error.kind == Kind.LOST && givenUp >= 0) givenUp++;
             if (error.kind.compareTo(Kind.NO_SERVER) >= 0) drop();
             throw closed ? new CallError(Kind.LOST, "closed") : error;
         } finally { turn.unlock(); }
+    }
+    /** Opens the object anew, where no call is under way. */
+    private void comeBack(long end) throws CallError {
+        long next = connect(end);
+        if (hasName && givenUp >= 0 && next > key + givenUp) throw new CallError(Kind.EXPIRED, "the name has called meanwhile");
+        key = next; givenUp = 0;
+    }
+    /** Whether the connection has ended. */
+    private boolean hasEnded() {
+        try {
+            ByteBuffer piece = ByteBuffer.allocate(LONGEST);
+            int count = channel.read(piece);
+            rest.append(new String(piece.array(), 0, piece.position(), StandardCharsets.ISO_8859_1));
+            return count < 0;
+        } catch (IOException gone) { return true; }
     }
     /** Leaves the object, for good. A call of another thread that has not ended is LOST. */
     @Override public void close() {

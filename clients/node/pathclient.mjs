@@ -28,7 +28,7 @@ export class CallError extends Error {
 /** The server did not take the call, or did not open the object. */ export class Rejected extends CallError {}
 /** No server answered, so nothing was called. */ export class NoServer extends CallError {}
 /** It is not known whether the call was done. */ export class Lost extends CallError {}
-/** The session of this name is not as this client left it: given up, or used by somebody else. */ export class Expired extends Lost {}
+/** The session of this name is not as this client left it: given up, used by somebody else, or what it held was given back meanwhile. */ export class Expired extends Lost {}
 /** @typedef {number | string} Value @typedef {Value | undefined} Reply */
 /** @typedef {{ client?: string, wait?: number, host?: string }} Options */
 /** @typedef {{ text: string, number: string, sent?: boolean, known?: boolean, stale?: boolean, over?: boolean,
@@ -61,6 +61,8 @@ export class PathObject {
   #sent = /** @type {Asked[]} */ ([]);
   #socket = /** @type {net.Socket | null} */ (null);
   #key = 0; #tries = 0; #closed = false; #opening = false;
+  /** How many calls were given up that the server may have done: so far the next key may be past this one; any, where it is below 0. */
+  #givenUp = -1;
 
   /** Of the server at a port of `host`, or at the path of a socket, which is tried for `wait` milliseconds.
    * @param {number | string} place @param {string} name @param {Options} options */
@@ -80,8 +82,10 @@ export class PathObject {
     const next = Number(answer.split(" next ")[1]), count = this.hasName && this.#asked.filter((it) => it.sent).length, key = this.#key;
     const error = !answer.startsWith("opened ") ? new Rejected(answer.replace(/^no /, ""), this.opens)
       : count && !(next >= key && next <= key + count) ? new Expired("the session is not as it was left")
+      : this.hasName && !count && this.#givenUp >= 0 && next > key + this.#givenUp ? new Expired("the name has called meanwhile")
       : count && next === 1 ? new NoServer("the server may have been started anew, and have no keys") : undefined;
-    if (error) { this.#socket?.destroy(); this.#socket = null; throw error; }
+    if (error) { this.#socket?.destroy(); this.#socket = null; this.#givenUp = -1; throw error; }
+    this.#givenUp = 0;
     if (!count) this.#key = next; else this.#asked.forEach((it, place) => { it.known = place < next - key; });
   }
   /** @param {number} end the time until which the answer to `open` on a new connection is waited for: undefined behind it */
@@ -156,8 +160,9 @@ export class PathObject {
     for (const it of this.#sent.splice(0)) Object.assign(it, { sent: !it.stale, number: "", stale: false, known: false });
     if (this.hasName && error.constructor === Lost && !this.#closed && ++this.#tries < TRIES) return this.#push();
     this.#tries = 0;
+    if (error instanceof Expired) this.#givenUp = -1; else if (this.#givenUp >= 0) this.#givenUp += this.#asked.filter((it) => it.sent).length;
     for (const it of this.#asked.splice(0)) {
-      const [lost, other] = error instanceof Lost ? [error.constructor, NoServer] : [Lost, error.constructor];
+      const [lost, other] = error instanceof Expired ? [Expired, Expired] : error instanceof Lost ? [error.constructor, NoServer] : [Lost, error.constructor];
       it.reject(new /** @type {any} */ (it.sent || this.#closed ? lost : other)(error.word, it.text));
     }
   }

@@ -1,5 +1,5 @@
 { Slots of a test lab: at most three builds at once, and a release alone. It keeps no values: the paths are all of it.
-  A program takes a slot, waiting until one is free, builds, and gives it back. After a start all slots are free. }
+  A program takes a slot, waiting until one is free, builds, and gives it back. Of one that is gone it is given back. }
 object build_slots;
   const slots = 3;
   path slots:(take_slot; give_slot) end;
@@ -9,4 +9,6 @@ object build_slots;
   entry procedure give_slot; begin end;
   entry procedure begin_release; begin end;
   entry procedure end_release; begin end;
+  hold take_slot until give_slot;
+  hold begin_release until end_release;
 end;

@@ -1,14 +1,14 @@
-{ A job queue: programs submit jobs, workers claim the oldest one, and finish it or give it back. A claimed job is kept
-  until it is finished, so somebody else can give back that of a worker that died. Give each job a text of its own. }
+{ A job queue: programs submit jobs, workers claim the oldest one, and finish it or give it back. What a worker has
+  claimed that is gone is given back, and nobody else finishes it. Give each job a text of its own. }
 object job_queue;
   const most = 1000;
   { A claim waits until there is a job for it. }
-  path most:((submit, give_back, restored); claim) end;
+  path most:((submit, give_back); claim) end;
   path 1:(submit, claim, finish, give_back, [waiting, claimed, is_claimed]) end;
   var jobs : queue of text;
       taken : table of integer;
-  { A refused call counts for the paths: where a submit or a give_back was refused, a claim may start and find nothing.
-    It is refused as `empty` then, and the worker claims again. }
+  { A refused call counts for the paths: where a submit was refused, a claim may start and find nothing. It is refused
+    as `empty` then, and the worker claims again. }
   entry procedure submit(job : text);
   begin
     if count(jobs) + count(taken) >= most then refuse('full');
@@ -27,6 +27,5 @@ object job_queue;
   entry function claimed : integer; begin claimed := count(taken) end;
   entry function is_claimed(job : text) : text;
   begin if has(taken, job) then is_claimed := 'yes' else is_claimed := 'no' end;
-  { After a start: once for each job that waits, since paths begin anew. }
-  entry procedure restored; begin end;
+  hold claim until give_back, finish;
 end;

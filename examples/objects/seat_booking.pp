@@ -1,7 +1,8 @@
-{ Seats of a hall: who holds which, and how many are booked. }
+{ Seats of a hall: who holds which, and how many are booked. Whoever is gone before it has confirmed gives its seats
+  back; a seat that is confirmed stays booked. Anybody may cancel for a guest whose name it knows. }
 object seat_booking;
   const seats = 120;
-  path 1:(book, cancel, [holder, booked]) end;
+  path 1:(book, cancel, [holder, booked, confirm]) end;
   var holders : array [seats] of text;
       total : array [1] of integer;
   entry procedure book(seat : integer; who : text);
@@ -11,6 +12,8 @@ object seat_booking;
     holders[seat] := who;
     total[0] := total[0] + 1
   end;
+  entry procedure confirm(seat : integer; who : text);
+  begin if holders[seat] <> who then refuse('other') end;
   entry procedure cancel(seat : integer; who : text);
   begin
     if who = '' then refuse('nobody');
@@ -20,4 +23,5 @@ object seat_booking;
   end;
   entry function holder(seat : integer) : text; begin holder := holders[seat] end;
   entry function booked : integer; begin booked := total[0] end;
+  hold book until cancel, confirm by any;
 end;

@@ -139,8 +139,9 @@ class Lost(CallError):
 
 class Expired(Lost):
     """The session of this name is not as this client left it: the server has given it up, was started anew and knows
-    no names, or somebody else has called by the name. Whether the call was done is not known; the next call goes on
-    with the session as it is now."""
+    no names, or somebody has called by the name. That may be the server itself, which gave back what the name held,
+    since the client was away for too long. Whether the call was done is not known, but where it was not sent: it was
+    not. The next call goes on with the session as it is now."""
 
 
 def refused(word: str, call: str = "") -> Refused:
@@ -260,18 +261,24 @@ class Session:
         self.sent: collections.deque[Asked] = collections.deque()
         self.key = 0
         self.cancels: list[str] = []
+        # How many calls were given up that the server may have done: so far the next key may be past this one. None where
+        # it may be any, as before the first `open`.
+        self.given_up: int | None = None
 
     def opened(self, answer: str) -> None:
-        """Takes the answer to `open`. Raises Rejected where the object was not opened, and Expired or NoServer where the
-        calls that were sent cannot be asked for again."""
+        """Takes the answer to `open`. Raises Rejected where the object was not opened, Expired or NoServer where the calls
+        that were sent cannot be asked for again, and Expired where none was sent and the name has made some."""
         if not answer.startswith("opened "):
             raise Rejected(answer.removeprefix("no "), self.opens)
         if not self.has_name:
             return
         key = read(answer.rpartition(" next ")[2])
-        count = sum(it.was_sent and it.key is None for it in self.asked)
+        count = self.unanswered()
+        given_up, self.given_up = self.given_up, None
         if not isinstance(key, int) or count and not self.key <= key <= self.key + count:
             raise Expired("the session is not as it was left")
+        if not count and given_up is not None and key > self.key + given_up:
+            raise Expired("the name has called meanwhile: what it held was given back, or somebody else has it")
         if count and key == self.key == 1:
             raise NoServer("the server may have been started anew, and have no keys")
         if count:
@@ -279,6 +286,11 @@ class Session:
                 it.is_known = place < key - self.key
         else:
             self.key = key
+        self.given_up = 0
+
+    def unanswered(self) -> int:
+        """How many calls were sent that have no last line, but for those that were asked for by their keys."""
+        return sum(it.was_sent and it.key is None for it in self.asked)
 
     def to_send(self) -> bytes:
         """The lines that are to be sent now."""
@@ -372,8 +384,12 @@ class Session:
     def end(self, error: CallError) -> list[Asked]:
         """Ends each call without a last line by this: one that was sent is Lost, and any other one was not called."""
         ended = list(self.asked)
+        if isinstance(error, Expired):
+            self.given_up = None
+        elif self.given_up is not None:
+            self.given_up += self.unanswered()
         for it in ended:
-            is_lost = it.was_sent or error.word == CLOSED
+            is_lost = it.was_sent or error.word == CLOSED or isinstance(error, Expired)
             kind: type[CallError] = type(error) if isinstance(error, Lost) == is_lost else Lost if is_lost else NoServer
             it.end(kind(error.word, it.text))
         self.asked.clear()
@@ -493,6 +509,16 @@ class Object:
         if not self._turn.acquire(blocking=False):
             return
         try:
+            self._drop_ended()
+        finally:
+            with self._moment:
+                if self._closed.is_set():
+                    self._drop()
+                self._turn.release()
+
+    def _drop_ended(self) -> None:
+        """Drops a connection that has ended."""
+        try:
             if self._socket is not None:
                 self._socket.settimeout(0)
                 if not self._socket.recv(1, socket.MSG_PEEK):
@@ -501,11 +527,6 @@ class Object:
             pass
         except OSError:
             self._drop()
-        finally:
-            with self._moment:
-                if self._closed.is_set():
-                    self._drop()
-                self._turn.release()
 
     def _there(self) -> socket.socket:
         """The connection."""
@@ -678,6 +699,9 @@ class Object:
         """Goes on until each call that was asked for has ended. At this time those that wait are cancelled."""
         session, tries, is_over = self._session, 0, False
         last_end = None if end is None else end + ANSWERS
+        if session.has_name:
+            # (so that it is seen first whether the session is as it was left)
+            self._drop_ended()
         while session.asked:
             try:
                 self._go_on()

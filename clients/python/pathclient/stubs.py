@@ -4,8 +4,10 @@ usage: python -m pathclient.stubs [--aio] FILE.pp >objects.py
 
 The FILE has to be accepted by `pathserve check`: what this reads of it are its paths, and the heads of objects and
 operations. A name that Python or the library has taken gets a `_` behind it. With --aio the methods are those of
-pathclient.aio. Where a path has `first; second`, or `(first, ..); second`, and `second` is a procedure without
-parameters, there is a method for a `with` too: `holding_first`, which calls `second` when its block ends.
+pathclient.aio. Where an object says `hold first until second;`, and `second` is a procedure without parameters, there is
+a method for a `with` too: `holding_first`, which calls `second` when its block ends. Of several behind `until` it is the
+only one without parameters. For an object without holds a path counts that has `first; second`, or `(first, ..);
+second`.
 """
 from __future__ import annotations
 
@@ -19,7 +21,7 @@ KINDS = {"integer": "int", "text": "str"}
 TAKEN = {"self", "within", "call", "ahead", "close", "open", "key", "holding"}
 SKIPPED = re.compile(r"'(?:[^']|'')*'|\{[^}]*\}|\(\*.*?\*\)", re.DOTALL)
 HEAD = re.compile(
-    r"\bobject\s+(?P<object>\w+)|\bpath\b(?P<path>.*?)\bend\s*;|"
+    r"\bobject\s+(?P<object>\w+)|\bpath\b(?P<path>.*?)\bend\s*;|\bhold\s+(?P<held>\w+)\s+until\s+(?P<until>\w+(?:\s*,\s*\w+)*)|"
     r"\bentry\s+(?:procedure|function)\s+(?P<name>\w+)\s*(?:\((?P<params>[^)]*)\))?\s*(?::\s*(?P<kind>\w+))?\s*;",
     re.DOTALL,
 )
@@ -71,15 +73,15 @@ def holding(first: re.Match[str], second: str, is_aio: bool) -> list[str]:
 
 
 def held(heads: list[re.Match[str]]) -> list[tuple[re.Match[str], str]]:
-    """Of the paths and operations of an object the pairs of which the second one ends what the first one began, in the order of the
-    operations. A first one with several second ones is in none."""
+    """Of the operations of an object, and of its holds or else its paths, the pairs of which the second one ends what the first one
+    began, in the order of the operations. A first one with several second ones is in none."""
     entries = {it["name"]: it for it in heads if it["name"]}
-    found: dict[str, set[str]] = {}
-    for path in (f"({it['path']})" for it in heads if it["path"]):
+    ends = {it for it, head in entries.items() if not head["kind"] and not parameters(head["params"] or "")}
+    found = {it["held"]: set(re.findall(r"\w+", it["until"])) & ends for it in heads if it["held"]}
+    for path in (f"({it['path']})" for it in heads if it["path"] and not any(it["held"] for it in heads)):
         for one, several, second in PAIR.findall(path):
             for first in re.findall(r"\w+", one or several):
                 found.setdefault(first, set()).add(second)
-    ends = {it for it, head in entries.items() if not head["kind"] and not parameters(head["params"] or "")}
     pairs = [(it, second) for name, it in entries.items() for second in found.get(name, ()) if len(found[name]) == 1]
     return [(it, second) for it, second in pairs if second in ends and f"holding_{it['name']}" not in entries]
 

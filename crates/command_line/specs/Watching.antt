@@ -1,4 +1,4 @@
--- What a kept server is to tell of itself.
+-- What a kept server is to tell of itself, and how long who is gone keeps what it holds.
 use Rattle.std.specs.Prelude.{◌≡◌, ◌≢◌, ℕ, List, [], ◌∷◌, ◌++◌, Some, codes, map, slice_get}
 use Rattle.std.specs.Borrow.{Bor}
 use Rattle.command_line.specs.Forms.{Text, IsNumber, number_of}
@@ -13,14 +13,16 @@ use Rattle.command_line.specs.declared.watching.Watching.{Watching}
 use Rattle.command_line.specs.declared.watching.Which.{Which}
 use Rattle.command_line.specs.declared.watching.Which.TheVariants as options
 
--- the two options, alone and in front of a value
+-- the three options, alone and in front of a value
 abbrev pub flag_of : Which → Text
 flag_of options.Status = codes "--status"
 flag_of options.Log = codes "--log"
+flag_of options.Away = codes "--away"
 
 abbrev pub head_of : Which → Text
 head_of options.Status = codes "--status="
 head_of options.Log = codes "--log="
+head_of options.Away = codes "--away="
 
 -- a word is not this option
 abbrev pub IsNot : Which → Text → Type 0
@@ -32,25 +34,27 @@ IsPartAs which w (parts.Flag found) = (found ≡ which) × (w ≡ flag_of which)
 IsPartAs which w (parts.Given found value) = (found ≡ which) × (w ≡ head_of which ++ value.now)
 IsPartAs which w parts.Other = IsNot which w
 
--- it is this option of the two, or none
+-- it is this option of the three, or none
 abbrev pub IsPart : Text → OptionPart → Type 0
 IsPart w (parts.Flag which) = w ≡ flag_of which
 IsPart w (parts.Given which value) = w ≡ head_of which ++ value.now
-IsPart w parts.Other = IsNot options.Status w × IsNot options.Log w
+IsPart w parts.Other = IsNot options.Status w × IsNot options.Log w × IsNot options.Away w
 
 -- Words that are sorted: the values of each option, in order, and the other words.
 pub record Sorted : Type 0 where
   pub status : List Text
   pub log : List Text
+  pub away : List Text
   pub words : List Text
 
 abbrev pub only : List Text → Sorted
-only words = record { status = []; log = []; words = words }
+only words = record { status = []; log = []; away = []; words = words }
 
 -- one value more in front
 abbrev pub with_value : Which → Text → Sorted → Sorted
 with_value options.Status value s = record s { status = value ∷ s.status }
 with_value options.Log value s = record s { log = value ∷ s.log }
+with_value options.Away value s = record s { away = value ∷ s.away }
 
 -- These words, sorted: the value of an option stands behind its `=` or is the next word, whatever that is, and is empty
 -- where there is none; behind `--` stand no options.
@@ -60,7 +64,7 @@ pub data IsApart : List Text → Sorted → Type 0 where
   next : (which : Which) (value : Text) {rest : List Text} {s : Sorted} → IsApart rest s → IsApart (flag_of which ∷ value ∷ rest) (with_value which value s)
   last : (which : Which) → IsApart (flag_of which ∷ []) (with_value which [] (only []))
   joined : (which : Which) (value : Text) {rest : List Text} {s : Sorted} → IsApart rest s → IsApart ((head_of which ++ value) ∷ rest) (with_value which value s)
-  other : {w : Text} {rest : List Text} {s : Sorted} → w ≢ codes "--" → IsNot options.Status w → IsNot options.Log w → IsApart rest s →
+  other : {w : Text} {rest : List Text} {s : Sorted} → w ≢ codes "--" → IsNot options.Status w → IsNot options.Log w → IsNot options.Away w → IsApart rest s →
       IsApart (w ∷ rest) (record s { words = w ∷ s.words })
 
 -- these words ask for `keep`
@@ -76,11 +80,11 @@ abbrev pub texts : List (Bor Text) → List Text
 texts words = map (λ w. w.now) words
 
 abbrev pub sorted_of : Apart → Sorted
-sorted_of apart = record { status = texts apart.status.items; log = texts apart.log.items; words = texts apart.words.items }
+sorted_of apart = record { status = texts apart.status.items; log = texts apart.log.items; away = texts apart.away.items; words = texts apart.words.items }
 
 -- what was found, and behind it what is sorted
 abbrev pub ahead : Apart → Sorted → Sorted
-ahead found s = record { status = texts found.status.items ++ s.status; log = texts found.log.items ++ s.log; words = texts found.words.items ++ s.words }
+ahead found s = record { status = texts found.status.items ++ s.status; log = texts found.log.items ++ s.log; away = texts found.away.items ++ s.away; words = texts found.words.items ++ s.words }
 
 -- a value of this option was found
 abbrev pub Given : Which → Text → Apart → Apart → Type 0
@@ -117,6 +121,12 @@ SaysLog [] form = form ≡ forms.None
 SaysLog (w ∷ []) form = IsFormOf w form
 SaysLog (v ∷ w ∷ words) form = ⊥
 
+abbrev pub SaysAway : List Text → ℕ → Type 0
+SaysAway [] n = n ≡ 30
+SaysAway (w ∷ []) n = IsNumber 0 86400 w × (n ≡ number_of w)
+SaysAway (v ∷ w ∷ words) n = ⊥
+
 -- what is asked for
 abbrev pub IsWatched : Sorted → Watching → Type 0
-IsWatched s watching = SaysStatus s.status watching.status × SaysLog s.log watching.log
+IsWatched s watching =
+    SaysStatus s.status watching.status × SaysLog s.log watching.log × SaysAway s.away watching.away

@@ -396,6 +396,9 @@ pub const SYNC_IS: &str = "WORD is `always`, or a number of milliseconds, 1 to 6
 /// What is said of a word that should say how often a status is written.
 pub const STATUS_IS: &str = "S is a number of seconds, 1 to 86400, given once";
 
+/// What is said of a word that should say how long a client may be away.
+pub const AWAY_IS: &str = "S is a number of seconds, 0 to 86400, given once";
+
 /// What is said of a word that should say how a log is written.
 pub const LOG_IS: &str = "WORD is `text`, `json` or `none`, given once";
 
@@ -406,6 +409,7 @@ pub const KEEP_USAGE: &str = "pathserve keep [OPTIONS] <FILE> <DIR> <PLACE>";
 pub const KEEP_MORE: &str =
     "      --status <S>                 DIR/status.prom is written each S seconds, 1 to 86400
       --log <WORD>                 A log on standard error: `text`, `json`, else `none`
+      --away <S>                   Away, a named client holds for S seconds, 0 to 86400; 30
 
 Takes up the objects as the journals in DIR have them, writes
 `listening PLACE`, and serves all clients in one loop, until it is stopped. What
@@ -426,6 +430,9 @@ Where an object has no journal yet, its values are those of the parts in DIR, as
 `serve` saves them. What its paths have counted they do not tell: of an object
 with a `;` say it, by `--past buffer:put:3` for three calls of `put` before all
 others. With several the calls are done one behind the other.
+
+Of an object with `hold a until b;` a client that is gone gives back what it
+held: at once, and one with a name when it was away for S seconds.
 
 With --stop-with-input it ends in order when standard input ends: what waits is
 cancelled, the parts are saved in DIR as `serve` does, and for each object

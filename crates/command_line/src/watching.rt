@@ -1,4 +1,5 @@
-//! What a kept server is to tell of itself: the options `--status S` and `--log WORD` of `keep`.
+//! What a kept server is to tell of itself, and how long who is gone keeps what it holds: the options `--status S`,
+//! `--log WORD` and `--away S` of `keep`.
 //!
 //! They are taken out of the words of a command line, and the parser has the others (`request`): so it is as if they were
 //! not there.
@@ -7,10 +8,10 @@ ghost use Rattle.std.specs.Prelude.{◌≡◌, ◌≢◌, ◌↔◌, ◌++◌, �
 ghost use Rattle.command_line.specs.Forms.{IsNumber, Text, number_of};
 ghost use Rattle.command_line.specs.Watching.{texts, flag_of, head_of, IsPart, IsPartAs, IsApart, IsTakenApart};
 ghost use Rattle.command_line.specs.Watching.{AsksKeep, sorted_of};
-ghost use Rattle.command_line.specs.Watching.{Ends, Given, Goes, IsFormOf, IsNot, IsWatched, SaysLog, SaysStatus};
+ghost use Rattle.command_line.specs.Watching.{Ends, Given, Goes, IsFormOf, IsNot, IsWatched, SaysAway, SaysLog, SaysStatus};
 ghost use Rattle.command_line.specs.declared.watching.LogForm.{LogForm as ALogForm};
 ghost use Rattle.command_line.specs.declared.watching.OptionStage.TheVariants.{Plain};
-ghost use Rattle.command_line.specs.declared.watching.Which.TheVariants.{Status, Log};
+ghost use Rattle.command_line.specs.declared.watching.Which.TheVariants.{Away, Status, Log};
 ghost use Rattle.command_line.specs.declared.watching.Watching.{Watching as AWatching};
 
 use crate::help;
@@ -27,13 +28,16 @@ pub enum LogForm {
     Json,
 }
 
-/// What `keep` is asked to tell of itself.
+/// What `keep` is asked to tell of itself, and of who is gone.
 #[derive(Clone, Copy, Debug, PartialEq, Eq)]
 pub struct Watching {
     /// A status each so many seconds, 1 to 86400; none where it is 0.
     pub status: u32,
     /// Its log.
     pub log: LogForm,
+    /// A client with a name may be away for so many seconds before what it holds is given back: 0 to 86400; 30 where that
+    /// is not said.
+    pub away: u32,
 }
 
 /// A value that is not what it should be: the word, its option, and what it should be.
@@ -44,24 +48,30 @@ pub struct OddOption<'a> {
     pub means: &'a str,
 }
 
-/// The words of a command line, taken apart: the values of `--status` and of `--log`, in order, and the other words.
+/// The words of a command line, taken apart: the values of `--status`, of `--log` and of `--away`, in order, and the other
+/// words.
 #[derive(Drop)]
 pub struct Apart<'a> {
     status: Vec<&'a str>,
     log: Vec<&'a str>,
+    away: Vec<&'a str>,
     words: Vec<&'a str>,
 }
 
 const MOST_SECONDS: u32 = 86_400;
 
-// One of the two options.
+// How long a client with a name may be away where that is not said.
+const USUAL_AWAY: u32 = 30;
+
+// One of the three options.
 #[derive(Clone, Copy)]
 enum Which {
     Status,
     Log,
+    Away,
 }
 
-// What a word is: one of the two options, the same with a value behind its `=`, or another word.
+// What a word is: one of the three options, the same with a value behind its `=`, or another word.
 #[derive(Clone, Copy)]
 enum OptionPart<'a> {
     Flag(Which),
@@ -84,6 +94,17 @@ fn seconds_in(word: &str) -> Option<u32>
 {
     match word.parse::<u32>() {
         Ok(seconds) if seconds > 0 && seconds <= MOST_SECONDS => Some(seconds),
+        _ => None,
+    }
+}
+
+// How many seconds a word says, if it is a value of `--away`.
+fn away_seconds(word: &str) -> Option<u32>
+    ensures some { IfSome result (λ n. IsNumber 0 86400 word.now × (n ≡ number_of word.now)) }
+    ensures none { result ≡ None → IsNumber 0 86400 word.now → ⊥ }
+{
+    match word.parse::<u32>() {
+        Ok(seconds) if seconds <= MOST_SECONDS => Some(seconds),
         _ => None,
     }
 }
@@ -111,6 +132,7 @@ fn flag(which: Which) -> &'static str
     match which {
         Which::Status => "--status",
         Which::Log => "--log",
+        Which::Away => "--away",
     }
 }
 
@@ -120,6 +142,7 @@ fn head(which: Which) -> &'static str
     match which {
         Which::Status => "--status=",
         Which::Log => "--log=",
+        Which::Away => "--away=",
     }
 }
 
@@ -151,7 +174,11 @@ fn part_in<'a>(word: &'a str) -> OptionPart<'a>
     match part_as(word, Which::Status) {
         OptionPart::Flag(which) => OptionPart::Flag(which),
         OptionPart::Given(which, value) => OptionPart::Given(which, value),
-        OptionPart::Other => part_as(word, Which::Log),
+        OptionPart::Other => match part_as(word, Which::Log) {
+            OptionPart::Flag(which) => OptionPart::Flag(which),
+            OptionPart::Given(which, value) => OptionPart::Given(which, value),
+            OptionPart::Other => part_as(word, Which::Away),
+        },
     }
 }
 
@@ -168,6 +195,10 @@ fn give<'a>(found: &mut Apart<'a>, which: Which, value: &'a str) -> Result<(), A
             found.log.push(value)?;
             Ok(())
         }
+        Which::Away => {
+            found.away.push(value)?;
+            Ok(())
+        }
     }
 }
 
@@ -181,6 +212,7 @@ fn is_dashes(word: &str) -> bool
 fn pass<'a>(found: &mut Apart<'a>, word: &'a str) -> Result<OptionStage, AllocError>
     requires status { IsNot Status word.now }
     requires log { IsNot Log word.now }
+    requires away { IsNot Away word.now }
     ensures { IfOk result (λ next. Goes Plain word.now found.old found.new next) }
 {
     found.words.push(word)?;
@@ -262,6 +294,14 @@ fn odd_log<'a>(word: &'a str) -> OddOption<'a> {
     }
 }
 
+fn odd_away<'a>(word: &'a str) -> OddOption<'a> {
+    OddOption {
+        word,
+        option: "--away <S>",
+        means: help::AWAY_IS,
+    }
+}
+
 // How many seconds the values of `--status` say; 0 where there is none.
 fn status_in<'a>(values: &[&'a str]) -> Result<u32, OddOption<'a>>
     ensures ok { IfOk result (λ n. SaysStatus (texts values.now) n) }
@@ -292,8 +332,23 @@ fn log_in<'a>(values: &[&'a str]) -> Result<LogForm, OddOption<'a>>
     }
 }
 
+// How many seconds the values of `--away` say; 30 where there is none.
+fn away_in<'a>(values: &[&'a str]) -> Result<u32, OddOption<'a>>
+    ensures ok { IfOk result (λ n. SaysAway (texts values.now) n) }
+    ensures odd { IfErr result (λ odd. (n : ℕ) → SaysAway (texts values.now) n → ⊥) }
+{
+    match values {
+        [] => Ok(USUAL_AWAY),
+        [word] => match away_seconds(word) {
+            Some(seconds) => Ok(seconds),
+            None => Err(odd_away(word)),
+        },
+        [_, word, ..] => Err(odd_away(word)),
+    }
+}
+
 impl<'a> Apart<'a> {
-    /// The words without the two options.
+    /// The words without the three options.
     pub fn words(&self) -> &[&'a str]
         ensures { texts result.now ≡ (sorted_of self.now).words }
     {
@@ -307,7 +362,8 @@ impl<'a> Apart<'a> {
     {
         let status = status_in(&self.status)?;
         let log = log_in(&self.log)?;
-        Ok(Watching { status, log })
+        let away = away_in(&self.away)?;
+        Ok(Watching { status, log, away })
     }
 }
 
@@ -334,6 +390,7 @@ fn gathered<'a>(alloc: Global, words: &'a [&'a str]) -> Result<Apart<'a>, AllocE
     let mut found = Apart {
         status: Vec::new(alloc),
         log: Vec::new(alloc),
+        away: Vec::new(alloc),
         words: Vec::new(alloc),
     };
     let mut stage = OptionStage::Plain;
@@ -346,7 +403,7 @@ fn gathered<'a>(alloc: Global, words: &'a [&'a str]) -> Result<Apart<'a>, AllocE
     Ok(found)
 }
 
-/// Takes the words of a command line apart: those of `keep` have the two options no more, each with the word behind it or
+/// Takes the words of a command line apart: those of `keep` have the three options no more, each with the word behind it or
 /// behind its `=`; behind `--` stand no options. The error is that memory was refused.
 pub fn taken_apart<'a>(alloc: Global, words: &'a [&'a str]) -> Result<Apart<'a>, AllocError>
     ensures { IfOk result (λ apart. IsTakenApart (texts words.now) (sorted_of apart)) }
@@ -358,6 +415,7 @@ pub fn taken_apart<'a>(alloc: Global, words: &'a [&'a str]) -> Result<Apart<'a>,
     Ok(Apart {
         status: Vec::new(alloc),
         log: Vec::new(alloc),
+        away: Vec::new(alloc),
         words: words.to_vec(alloc)?,
     })
 }

@@ -4,7 +4,8 @@ ghost use Rattle.std.specs.Prelude.{◌≡◌, ◌++◌, ◌∷◌, [], true, fa
 ghost use Rattle.decl_core.specs.ObjectMap.{object_of};
 ghost use Rattle.hosted_core.specs.Scene.{Scene};
 ghost use Rattle.hold_form.specs.HoldForm.{EveryForm};
-ghost use Rattle.told_core.specs.Custody.{Custody, IsOwed, MayMake, FollowsIn, IsFreeOf, HasNone, HasSome, held_lines_in};
+ghost use Rattle.hold_form.specs.HoldMap.{holds_of};
+ghost use Rattle.told_core.specs.Custody.{Custody, IsOwed, MayMake, FollowsIn, IsFreeOf, HasNone, HasSome, holds_by, held_by, held_lines_in};
 ghost use Rattle.custody_core.specs.Views.{custody_of};
 
 use crate::one::{HoldNote, all_ended, leaves_one, look_one, note_one, unwelcome};
@@ -12,6 +13,8 @@ use decl_core::object::Object;
 use gone_core::holder::Holder;
 use gone_core::holding::{Holding, OwedCall};
 use gone_core::ticking::Ticking;
+use hold_core::held::HeldCall;
+use hold_form::hold::Hold;
 use hold_front::lines::push_held;
 use hosted_core::hosted::Hosted;
 use live_core::call::Ran;
@@ -234,6 +237,17 @@ impl AllHeld {
                 None => None,
                 Some(object) => unwelcome(holding, object, name, second),
             },
+        }
+    }
+
+    /// The holds of the object at a place, and what is held of it, the oldest first; none where it says nothing of them.
+    pub fn held_of(&self, at: usize) -> (&[Hold], &[HeldCall])
+        ensures holds { holds_of result.0.now ≡ holds_by (slice_get self.now at) }
+        ensures held { result.1.now ≡ held_by (slice_get self.now at) }
+    {
+        match self.at(at) {
+            None => (&[], &[]),
+            Some(holding) => (holding.rules().holds.as_slice(), holding.holds().all()),
         }
     }
 

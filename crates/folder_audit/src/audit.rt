@@ -2,12 +2,16 @@
 
 ghost use Rattle.std.specs.Prelude.{◌++◌, IfOk};
 ghost use Rattle.decl_core.specs.ObjectMap.{object_of, objects_of};
-ghost use Rattle.folder_audit.specs.Said.{Adds, AddsAll, Hears, AreTold};
+ghost use Rattle.folder_audit.specs.Said.{Adds, AddsAll, GoesOn, Hears, AreTold};
 
 use crate::files::{FolderFault, bytes_of, first_of, journal_of, trace_of};
 use decl_core::object::Object;
 use exclude_core::analyse::Accepted;
+use hold_form::hold::{Hold, Rules};
+use hold_front::text::{HeldFront, cut_held, read_held};
 use line_core::reply::push_number;
+use recover_core::lines::line_ends;
+use recover_core::recover::RecoverFault;
 use recover_text::epochs::{EpochFault, Epochs, epoch_of};
 use recover_text::said::{push_fault, push_whole, stray_bytes};
 use std::alloc::{AllocError, Global};
@@ -36,10 +40,85 @@ fn push_note(notes: &mut Vec<u8>, name: &str, file: &[u8]) -> Result<(), AllocEr
     notes.extend_from_slice(b" bytes behind the first byte 0 are not 0\n")
 }
 
+// What stands in front of a place of a text, and behind it.
+fn parts_at(text: &[u8], place: usize) -> (&[u8], &[u8]) {
+    if place >= text.len() {
+        return (text, &[]);
+    }
+    text.split_at(place)
+}
+
+// The fault of a journal without its held lines, as it is of the whole one: so many lines stand in front of these, and so
+// many are these.
+fn moved(fault: RecoverFault, before: u64, count: u64) -> RecoverFault {
+    match fault {
+        RecoverFault::Contradicts(line) if line > before => {
+            RecoverFault::Contradicts(line.saturating_add(count))
+        }
+        RecoverFault::Line(line, fault) => RecoverFault::Line(line.saturating_add(count), fault),
+        other => other,
+    }
+}
+
+// The same, of an epoch.
+fn moved_by(fault: EpochFault, text: &[u8], read: &HeldFront) -> EpochFault {
+    match fault {
+        EpochFault::Epoch(epoch, fault) => {
+            let (front, rest) = parts_at(text, read.front);
+            let (held, _) = parts_at(rest, read.behind.saturating_sub(read.front));
+            EpochFault::Epoch(epoch, moved(fault, line_ends(front), line_ends(held)))
+        }
+        other => other,
+    }
+}
+
+// Hears the text of an epoch without the lines of what was held when it began.
+fn hear_cut(
+    alloc: Global,
+    object: &Object,
+    epochs: &mut Epochs,
+    text: &[u8],
+    read: &HeldFront,
+) -> Result<Result<(), EpochFault>, AllocError>
+    ensures { IfOk result (λ found. IfOk found (λ _. GoesOn (object_of object.now) epochs.old epochs.new)) }
+{
+    let cut = cut_held(alloc, text, read)?;
+    match epochs.hear(alloc, object, &cut)? {
+        Ok(()) => Ok(Ok(())),
+        Err(fault) => Ok(Err(moved_by(fault, text, read))),
+    }
+}
+
+// Hears the text of an epoch of an object with these holds.
+fn hear_text(
+    alloc: Global,
+    object: &Object,
+    holds: &[Hold],
+    epochs: &mut Epochs,
+    text: &[u8],
+) -> Result<Result<(), EpochFault>, AllocError>
+    ensures { IfOk result (λ found. IfOk found (λ _. GoesOn (object_of object.now) epochs.old epochs.new)) }
+{
+    if holds.is_empty() {
+        match epochs.hear(alloc, object, text)? {
+            Ok(()) => return Ok(Ok(())),
+            Err(fault) => return Ok(Err(fault)),
+        }
+    }
+    match read_held(alloc, object, holds, text)? {
+        Err(line) => Ok(Err(EpochFault::Front(line))),
+        Ok(read) => {
+            let found = hear_cut(alloc, object, epochs, text, &read)?;
+            Ok(found)
+        }
+    }
+}
+
 // Hears the text of an epoch, from a file of this name. False: it is refused, and that is said.
 fn hear(
     alloc: Global,
     object: &Object,
+    holds: &[Hold],
     epochs: &mut Epochs,
     name: &str,
     text: &[u8],
@@ -49,7 +128,7 @@ fn hear(
         said.new.lines.items) }
 {
     push_note(&mut said.notes, name, text)?;
-    match epochs.hear(alloc, object, text)? {
+    match hear_text(alloc, object, holds, epochs, text)? {
         Ok(()) => Ok(true),
         Err(fault) => {
             push_fault(&mut said.lines, name.as_bytes(), fault)?;
@@ -62,6 +141,7 @@ fn hear(
 fn hear_ended<R: Files + AllocGlobal>(
     rt: &R,
     object: &Object,
+    holds: &[Hold],
     folder: &str,
     name: &str,
     epoch: u64,
@@ -77,7 +157,15 @@ fn hear_ended<R: Files + AllocGlobal>(
         let Some(text) = bytes_of(rt, folder, file.as_str())? else {
             return Ok(true);
         };
-        if !hear(rt.alloc(), object, epochs, file.as_str(), &text, said)? {
+        if !hear(
+            rt.alloc(),
+            object,
+            holds,
+            epochs,
+            file.as_str(),
+            &text,
+            said,
+        )? {
             return Ok(false);
         }
     }
@@ -88,6 +176,7 @@ fn hear_ended<R: Files + AllocGlobal>(
 fn audit_journal<R: Files + AllocGlobal>(
     rt: &R,
     object: &Object,
+    holds: &[Hold],
     folder: &str,
     name: &str,
     journal: &[u8],
@@ -104,12 +193,13 @@ fn audit_journal<R: Files + AllocGlobal>(
         }
     };
     let mut epochs = Epochs::new();
-    if !hear_ended(rt, object, folder, name, epoch, &mut epochs, said)? {
+    if !hear_ended(rt, object, holds, folder, name, epoch, &mut epochs, said)? {
         return Ok(false);
     }
     if !hear(
         rt.alloc(),
         object,
+        holds,
         &mut epochs,
         file.as_str(),
         journal,
@@ -125,6 +215,7 @@ fn audit_journal<R: Files + AllocGlobal>(
 fn audit_object<R: Files + AllocGlobal>(
     rt: &R,
     object: &Object,
+    holds: &[Hold],
     folder: &str,
     said: &mut Said,
 ) -> Result<bool, FolderFault>
@@ -135,7 +226,7 @@ fn audit_object<R: Files + AllocGlobal>(
     };
     let file = journal_of(rt.alloc(), name)?;
     match bytes_of(rt, folder, file.as_str())? {
-        Some(journal) => audit_journal(rt, object, folder, name, &journal, said),
+        Some(journal) => audit_journal(rt, object, holds, folder, name, &journal, said),
         None => {
             said.lines.extend_from_slice(b" no journal\n")?;
             Ok(false)
@@ -147,6 +238,7 @@ fn audit_object<R: Files + AllocGlobal>(
 fn audit_named<R: Files + AllocGlobal>(
     rt: &R,
     object: &Object,
+    holds: &[Hold],
     folder: &str,
     said: &mut Said,
 ) -> Result<bool, FolderFault>
@@ -154,13 +246,22 @@ fn audit_named<R: Files + AllocGlobal>(
         said.new.lines.items) }
 {
     said.lines.extend_from_slice(object.name.as_bytes())?;
-    audit_object(rt, object, folder, said)
+    audit_object(rt, object, holds, folder, said)
 }
 
-// Says what these objects are in a folder, in order. False: not all of them are whole.
+// The holds of the first of some objects, and the rules of the others; none where there are no rules.
+fn holds_first(rules: &[Rules]) -> (&[Hold], &[Rules]) {
+    match rules {
+        [] => (&[], &[]),
+        [first, rest @ ..] => (&first.holds, rest),
+    }
+}
+
+// Says what these objects are in a folder, in order, by these rules. False: not all of them are whole.
 fn audit_objects<R: Files + AllocGlobal>(
     rt: &R,
     objects: &[Accepted],
+    rules: &[Rules],
     folder: &str,
     said: &mut Said,
 ) -> Result<bool, FolderFault>
@@ -169,19 +270,22 @@ fn audit_objects<R: Files + AllocGlobal>(
     let Some((accepted, rest)) = objects.split_first() else {
         return Ok(true);
     };
-    let one = audit_named(rt, accepted.object(), folder, said)?;
-    let others = audit_objects(rt, rest, folder, said)?;
+    let (holds, others_rules) = holds_first(rules);
+    let one = audit_named(rt, accepted.object(), holds, folder, said)?;
+    let others = audit_objects(rt, rest, others_rules, folder, said)?;
     Ok(one && others)
 }
 
 /// Says what objects are in a folder, in order: `NAME epochs E entries K whole` where its epochs, the oldest of which there
 /// is a file first, can have happened one after another; `NAME no journal`; `NAME FILE line N bad` of the first file whose
-/// front is not read; or `NAME epoch E ` and why that one is refused.
+/// front is not read; or `NAME epoch E ` and why that one is refused. `rules` are those of the objects, in order, or none
+/// where no object has any: where one has holds, the lines of a front that tell what was held are read as well.
 ///
 /// A failure is `Unread` of a file that is there and cannot be read, or `Memory`.
 pub fn audit_folder<R: Files + AllocGlobal>(
     rt: &R,
     objects: &[Accepted],
+    rules: &[Rules],
     folder: &str,
 ) -> Result<Said, FolderFault>
     ensures { IfOk result (λ said. AreTold (objects_of objects.now) said.is_whole said.lines.items) }
@@ -191,6 +295,6 @@ pub fn audit_folder<R: Files + AllocGlobal>(
         notes: Vec::new(rt.alloc()),
         is_whole: false,
     };
-    said.is_whole = audit_objects(rt, objects, folder, &mut said)?;
+    said.is_whole = audit_objects(rt, objects, rules, folder, &mut said)?;
     Ok(said)
 }

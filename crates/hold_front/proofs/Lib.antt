@@ -1,4 +1,5 @@
 mod Adding
+mod Ending
 mod Named
 mod Numerals
 mod Playing

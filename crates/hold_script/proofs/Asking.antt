@@ -1,44 +1,22 @@
 -- What the lines that ask are answered.
-use Rattle.std.proofs.Common.{◌≡◌, ℕ, ◌+◌, ◌<◌, ◌≤◌, List, [], ◌∷◌, ◌++◌, length, Option, Some, None, refl, sym, ap, subst, ◌∙◌, get_or, take, map, append_assoc, arith}
-use Rattle.std.specs.Prelude.{slice_get, option_map, sum, codes, decimal}
+use Rattle.std.proofs.Common.{◌≡◌, ℕ, ◌+◌, ◌≤◌, List, [], ◌∷◌, ◌++◌, length, Some, sym, ap, ◌∙◌, take, map, append_assoc, arith}
+use Rattle.std.specs.Prelude.{slice_get, sum}
 use Rattle.std.specs.List.{flat_map}
-use Rattle.std.proofs.lemmas.List.{append-nil, length-map}
-use Rattle.std.proofs.lemmas.Option.{slice_get-get_or, slice_get-map, slice_get_past}
+use Rattle.std.proofs.lemmas.List.{append-nil}
 use Rattle.std.proofs.lemmas.Grind.{flat_map-append}
 use Rattle.value_core.proofs.Encoding.{list_next}
 use Rattle.decl_core.specs.declared.object.Object.{Object}
 use Rattle.decl_core.specs.ObjectForm.{ObjectForm}
 use Rattle.decl_core.specs.ObjectMap.{object_of}
-use Rattle.word_core.specs.Words.{bare, line_of}
-use Rattle.word_core.specs.Data.{session_word}
-use Rattle.trace_core.specs.Text.{operation_name}
 use Rattle.board_core.specs.Board.{Board}
 use Rattle.inside_text.specs.Who.{Refused, who_line, waits_line}
 use Rattle.inside_desk.specs.Asked.{who}
 use Rattle.inside_desk.specs.Told.{AreWaitLines}
-use Rattle.hold_form.specs.declared.hold.Hold.{Hold}
 use Rattle.hold_form.specs.HoldForm.{HoldForm}
-use Rattle.hold_form.specs.HoldMap.{hold_of, holds_of}
 use Rattle.hold_core.specs.Held.{HeldCall}
 use Rattle.hold_core.proofs.Ending.{take_whole}
-use Rattle.hold_script.specs.Asked.{op_by, op_of, holds_line, held_who_text, IsHeldTold, who_holds}
-
--- the operation of the hold that a look finds, and where there is none
-pub op_there : (holds : List Hold) (place : ℕ) (hold : Hold) → place < length holds → hold ≡ get_or holds place hold → hold.op ≡ op_of (holds_of holds) place
-op_there holds place hold within is = sym (ap op_by (slice_get-map hold_of holds place ∙ ap (option_map hold_of) (slice_get-get_or holds place hold within ∙ ap Some (sym is))))
-
-pub op_nowhere : (holds : List Hold) (place : ℕ) → length holds ≤ place → 0 ≡ op_of (holds_of holds) place
-op_nowhere holds place past = sym (ap op_by (slice_get_past (holds_of holds) place (omega (arith, past, length-map holds hold_of))))
-
--- the line of a call that is held
-pub line_made : (o : ObjectForm) (holds : List HoldForm) (h : HeldCall) (old new name : List ℕ) (number session rule op : ℕ) →
-    new ≡ old ++ line_of (bare (codes "holds") ∷ bare (decimal number) ∷ session_word session ∷ bare name ∷ []) → number ≡ h.number → session ≡ h.session → rule ≡ h.rule → op ≡ op_of holds rule → name ≡ operation_name o op →
-    new ≡ old ++ holds_line o holds h
-line_made o holds h old new name number session rule op made numbered seated ruled is named =
-    made
-    ∙ ap (λ n. old ++ line_of (bare (codes "holds") ∷ bare (decimal n) ∷ session_word session ∷ bare name ∷ [])) numbered
-    ∙ ap (λ s. old ++ line_of (bare (codes "holds") ∷ bare (decimal h.number) ∷ session_word s ∷ bare name ∷ [])) seated
-    ∙ ap (λ xs. old ++ line_of (bare (codes "holds") ∷ bare (decimal h.number) ∷ session_word h.session ∷ bare xs ∷ [])) (named ∙ ap (operation_name o) (is ∙ ap (op_of holds) ruled))
+use Rattle.hold_text.specs.HeldTold.{holds_line}
+use Rattle.hold_script.specs.Asked.{held_who_text, IsHeldTold, who_holds}
 
 -- the lines of so many of the calls that are held
 abbrev pub AreTold : ObjectForm → List HoldForm → List HeldCall → ℕ → List ℕ → List ℕ → Type 0

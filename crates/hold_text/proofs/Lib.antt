@@ -1,1 +1,2 @@
 pub mod HeldReports
+pub mod HeldLine

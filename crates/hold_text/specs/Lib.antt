@@ -1,2 +1,3 @@
 pub mod HoldLines
 pub mod HeldReport
+pub mod HeldTold

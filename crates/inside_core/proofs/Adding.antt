@@ -7,9 +7,12 @@ use Rattle.decl_core.specs.ObjectMap.{object_of}
 use Rattle.trace_core.specs.Events.{Called}
 use Rattle.hosted_core.specs.Scene.{Scene}
 use Rattle.client_core.specs.declared.client.Opened.{Opened}
+use Rattle.hold_form.specs.HoldForm.{HoldForm}
+use Rattle.hold_core.specs.Held.{HeldCall}
+use Rattle.hold_text.specs.HeldTold.{holds_line}
 use Rattle.inside_text.specs.Who.{Sitting, Refused, seat_line, waits_line, who_line}
-use Rattle.told_core.specs.Inside.{Crowd, IsSeatOf, AreSeats, IsWaitOf, AreWaits, AreSitting, last_told, is_between, waiting_in, IsWho}
-use Rattle.inside_core.specs.Adds.{AddsSeats, AddsWaits}
+use Rattle.told_core.specs.Inside.{Crowd, IsSeatOf, AreSeats, IsWaitOf, AreWaits, AreSitting, last_told, is_between, waiting_in, held_in, IsWho}
+use Rattle.inside_core.specs.Adds.{AddsSeats, AddsWaits, AddsHeld}
 
 flat_map-append : {X Y : Type 0} (f : X → List Y) (xs ys : List X) → flat_map f (xs ++ ys) ≡ flat_map f xs ++ flat_map f ys
 flat_map-append f [] ys = refl
@@ -138,26 +141,36 @@ waits_more crowd seats object from last calls k n m d c before mid after inside 
     (waits_then crowd seats object (waiting_in from last (take k calls)) (waiting_in from last (c ∷ [])) n m before mid after one two)
 
 -- the whole answer
-pub who_is : (crowd : Crowd) (object : Scene) (from : ℕ) (all : List (ℕ × Opened)) (n count : ℕ) (seats lines head text : List ℕ) →
+pub who_is : (crowd : Crowd) (object : Scene) (holds : List HoldForm) (held : List HeldCall) (from : ℕ) (all : List (ℕ × Opened)) (n m count : ℕ) (seats waits lines head text : List ℕ) →
     AreSitting crowd.at from crowd.peers all → AddsSeats crowd (take 256 all) [] seats →
-    AddsWaits crowd (take 256 all) object (waiting_in from (last_told all) object.hall.waiting) n seats lines →
-    count ≡ length (take 256 all) + n → head ≡ who_line count → text ≡ head ++ lines → IsWho crowd object from text
-who_is crowd object from all n count seats lines head text are one two total first whole = record {
+    AddsWaits crowd (take 256 all) object (waiting_in from (last_told all) object.hall.waiting) n seats waits →
+    AddsHeld (object_of object.hall.object) holds (take 256 (held_in from (last_told all) held)) m waits lines →
+    count ≡ length (take 256 all) + n + m → head ≡ who_line count → text ≡ head ++ lines → IsWho crowd object holds held from text
+who_is crowd object holds held from all n m count seats waits lines head text are one two three total first whole = record {
   all = all;
   are_all = are;
   seats = one.rows;
   are_seats = one.are;
   calls = two.rows;
   are_calls = two.are;
-  text_is = whole ∙ ap (λ l. l ++ lines) (first ∙ ap who_line so) ∙ ap (λ l. who_line many ++ l) (two.added ∙ ap (λ l. l ++ waits) one.added)
-      ∙ sym (append_assoc (who_line many) (flat_map (λ s. seat_line s.seat s.name) one.rows) waits);
+  text_is = whole ∙ ap (λ l. l ++ lines) (first ∙ ap who_line so) ∙ ap (λ l. who_line many ++ l) (three.added ∙ ap (λ l. l ++ holding) (two.added ∙ ap (λ l. l ++ waiting) one.added))
+      ∙ sym (append_assoc (who_line many) (sitting ++ waiting) holding) ∙ ap (λ l. l ++ holding) (sym (append_assoc (who_line many) sitting waiting));
 }
   where
-    many : ℕ
-    many = length one.rows + sum (map (λ c. length c.whys) two.rows)
+    told : List HeldCall
+    told = take 256 (held_in from (last_told all) held)
 
-    waits : List ℕ
-    waits = flat_map (λ c. flat_map (waits_line (object_of object.hall.object) c.call) c.whys) two.rows
+    many : ℕ
+    many = length one.rows + sum (map (λ c. length c.whys) two.rows) + length told
+
+    sitting : List ℕ
+    sitting = flat_map (λ s. seat_line s.seat s.name) one.rows
+
+    waiting : List ℕ
+    waiting = flat_map (λ c. flat_map (waits_line (object_of object.hall.object) c.call) c.whys) two.rows
+
+    holding : List ℕ
+    holding = flat_map (holds_line (object_of object.hall.object) holds) told
 
     so : count ≡ many
-    so = let a = seats_count crowd (take 256 all) one.rows one.are in let b = two.count in omega (arith, total, a, b)
+    so = let a = seats_count crowd (take 256 all) one.rows one.are in let b = two.count in let d = three.count in omega (arith, total, a, b, d)

@@ -1,4 +1,5 @@
 pub mod Adding
+pub mod Holding
 pub mod Listing
 pub mod People
 pub mod Sitting

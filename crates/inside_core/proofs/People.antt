@@ -1,5 +1,5 @@
 -- What is known of clients, by their places.
-use Rattle.std.proofs.Common.{◌≡◌, ◌∙◌, ap, sym, ℕ, List}
+use Rattle.std.proofs.Common.{◌≡◌, ◌∙◌, ap, sym, ℕ}
 use Rattle.std.specs.Prelude.{Option, slice_get}
 use Rattle.std.proofs.lemmas.Option.{slice_get-map}
 use Rattle.client_core.specs.declared.clients.Clients.{Clients}

@@ -1,5 +1,6 @@
 -- Lines that are added to an answer to `who`.
 use Rattle.std.specs.Prelude.{◌≡◌, ℕ, List, ◌++◌, map, flat_map, length, sum}
+use Rattle.decl_core.specs.ObjectForm.{ObjectForm}
 use Rattle.decl_core.specs.ObjectMap.{object_of}
 use Rattle.trace_core.specs.Events.{Called}
 use Rattle.live_core.specs.Hall.{Every}
@@ -7,6 +8,9 @@ use Rattle.hosted_core.specs.Scene.{Scene}
 use Rattle.client_core.specs.declared.client.Opened.{Opened}
 use Rattle.client_core.specs.declared.clients.Clients.{Clients}
 use Rattle.client_core.specs.People.{people_of}
+use Rattle.hold_form.specs.HoldForm.{HoldForm}
+use Rattle.hold_core.specs.Held.{HeldCall}
+use Rattle.hold_text.specs.HeldTold.{holds_line}
 use Rattle.inside_text.specs.Who.{Sitting, Refused, seat_line, waits_line}
 use Rattle.told_core.specs.State.{peers_of}
 use Rattle.why_core.specs.Found.{whys_of}
@@ -30,6 +34,11 @@ pub record AddsWaits (crowd : Crowd) (seats : List (ℕ × Opened)) (object : Sc
   pub are : AreWaits crowd seats object calls rows
   pub count : n ≡ sum (map (λ r. length r.whys) rows)
   pub added : after ≡ before ++ flat_map (λ r. flat_map (waits_line (object_of object.hall.object) r.call) r.whys) rows
+
+-- the lines of these calls that are held are added, so many
+pub record AddsHeld (o : ObjectForm) (holds : List HoldForm) (held : List HeldCall) (n : ℕ) (before after : List ℕ) : Type 0 where
+  pub count : n ≡ length held
+  pub added : after ≡ before ++ flat_map (holds_line o holds) held
 
 -- what is known of operations are the nodes that refuse a start of them now
 abbrev pub AreKnown : Scene → List Refusing → Type 0

@@ -1,4 +1,4 @@
-//! Who is there, and what waits.
+//! Who is there, what waits, and what is held.
 
 ghost use Rattle.std.specs.Prelude.{◌≡◌, ◌+◌, ◌-◌, ◌++◌, ◌∷◌, [], ℕ, Some, flat_map, length, option_map, take, true, false};
 ghost use Rattle.std.specs.Prelude.{IfNone, IfOk, IfSome, OnOk, slice_get};
@@ -8,16 +8,20 @@ ghost use Rattle.client_core.specs.People.{people_of, name_in, since_in, called_
 ghost use Rattle.live_core.specs.Hall.{Every};
 ghost use Rattle.told_core.specs.State.{peers_of, opened_in};
 ghost use Rattle.told_core.specs.Inside.{is_asked, sits_in, sitting_from, AreSitting, seat_name, last_told, is_between, waiting_in};
-ghost use Rattle.told_core.specs.Inside.{is_caller, calls_at, AreWhys, WaitsFor, IsWho};
+ghost use Rattle.told_core.specs.Inside.{is_caller, calls_at, AreWhys, WaitsFor, held_in, IsWho};
 ghost use Rattle.decl_core.specs.ObjectMap.{object_of};
 ghost use Rattle.hosted_core.specs.Scene.{Scene, told_of};
 ghost use Rattle.why_core.specs.Found.{whys_of};
 ghost use Rattle.inside_text.specs.Who.{waits_line};
-ghost use Rattle.inside_core.specs.Adds.{crowd_of, AddsSeats, AddsWaits, AreKnown};
+ghost use Rattle.hold_form.specs.HoldMap.{holds_of};
+ghost use Rattle.inside_core.specs.Adds.{crowd_of, AddsSeats, AddsWaits, AddsHeld, AreKnown};
 
 use crate::why::reasons_of;
 use client_core::client::Opened;
 use client_core::clients::Clients;
+use hold_core::held::HeldCall;
+use hold_form::hold::Hold;
+use hold_text::held::push_held_call;
 use hosted_core::hosted::Hosted;
 use inside_text::who::{Seat, Waiting, push_seat, push_waits, push_who};
 use live_core::call::Call;
@@ -28,6 +32,9 @@ use why_core::reason::Reason;
 
 // At most so many sessions are told.
 const MOST_TOLD: usize = 256;
+
+// At most so many of the calls that are held are told.
+const MOST_HELD: usize = 256;
 
 // The lines of a session and of its call that waits have some so many bytes.
 const USUAL_LINES: usize = 96;
@@ -496,14 +503,76 @@ fn sum_of(lines: usize, more: usize) -> Result<usize, AllocError>
     }
 }
 
-/// Who is there, the first 256 of those who are asked for by their numbers, and what waits of these.
+// Adds the line of a call that is held.
+#[tactic(auto, using(crate::proofs::Holding::held_one))]
+fn push_row(
+    out: &mut Vec<u8>,
+    object: &Hosted,
+    holds: &[Hold],
+    held: &HeldCall,
+) -> Result<(), AllocError>
+    ensures { OnOk result (AddsHeld (object_of object.now.hall.object) (holds_of holds.now) (held.now ∷ []) 1 out.old.items
+        out.new.items) }
+{
+    push_held_call(out, object.live().object(), holds, held)?;
+    Ok(())
+}
+
+// Adds the line of a call that is held, where its session is told. It answers how many.
+#[tactic(auto, using(crate::proofs::Holding::held_left_out, crate::proofs::Holding::held_told))]
+fn push_held_if(
+    out: &mut Vec<u8>,
+    object: &Hosted,
+    holds: &[Hold],
+    whom: Whom,
+    last: Option<u16>,
+    held: &HeldCall,
+) -> Result<usize, AllocError>
+    ensures { IfOk result (λ n. AddsHeld (object_of object.now.hall.object) (holds_of holds.now)
+        (held_in whom.from last (held.now ∷ [])) n out.old.items out.new.items) }
+{
+    if !is_between(held.session(), whom.from, last) {
+        return Ok(0);
+    }
+    push_row(out, object, holds, held)?;
+    Ok(1)
+}
+
+// Adds the lines of the first 256 that are held by sessions that are told. It answers how many.
+fn push_held(
+    out: &mut Vec<u8>,
+    object: &Hosted,
+    holds: &[Hold],
+    whom: Whom,
+    last: Option<u16>,
+    held: &[HeldCall],
+) -> Result<usize, AllocError>
+    ensures { IfOk result (λ n. AddsHeld (object_of object.now.hall.object) (holds_of holds.now)
+        (take 256 (held_in whom.from last held.now)) n out.old.items out.new.items) }
+{
+    let mut lines: usize = 0;
+    for place in 0..held.len() {
+        if lines >= MOST_HELD {
+            return Ok(lines);
+        }
+        let more = push_held_if(out, object, holds, whom, last, &held[place])?;
+        lines = sum_of(lines, more)?;
+    }
+    Ok(lines)
+}
+
+/// Who is there, the first 256 of those who are asked for by their numbers, what waits of these, and the first 256 of what
+/// is held by them or by who is gone, where the object has these holds, and this is held of it, the oldest first.
 pub fn who_of(
     alloc: Global,
     clients: &Clients,
     object: &Hosted,
     whom: Whom,
+    holds: &[Hold],
+    held: &[HeldCall],
 ) -> Result<Vec<u8>, AllocError>
-    ensures { IfOk result (λ text. IsWho (crowd_of clients.now whom) object.now whom.from text.items) }
+    ensures { IfOk result (λ text. IsWho (crowd_of clients.now whom) object.now (holds_of holds.now) held.now whom.from
+        text.items) }
 {
     let all = seated(alloc, clients, whom)?;
     let seats = told(&all);
@@ -511,7 +580,9 @@ pub fn who_of(
     push_seats(&mut lines, clients, whom, seats)?;
     let last = last_told(&all);
     let calls = push_calls(alloc, &mut lines, clients, object, whom, seats, last)?;
-    let count = sum_of(seats.len(), calls)?;
+    let kept = push_held(&mut lines, object, holds, whom, last, held)?;
+    let rows = sum_of(seats.len(), calls)?;
+    let count = sum_of(rows, kept)?;
     let mut out = Vec::with_capacity(alloc, lines.len().saturating_add(USUAL_LINES))?;
     push_who(&mut out, count as u64)?;
     out.extend_from_slice(&lines)?;

@@ -215,7 +215,7 @@ begun_then o j t turns was mid now (inr m) (inl (more, on)) = inr (record {
   is = on ∙ m.is;
 })
 
-lives_on : (first last : Table) (turns : List Turn) (accounts : List Account) (j : ℕ) (o : ObjectForm) (b : Begun) (earlier : List Epoch) → AreTold first turns accounts last →
+pub lives_on : (first last : Table) (turns : List Turn) (accounts : List Account) (j : ℕ) (o : ObjectForm) (b : Begun) (earlier : List Epoch) → AreTold first turns accounts last →
     (l : HasLived first j o b earlier) → Lives last j o turns b (first_opening (epoch_in l) earlier) (all_ends o (epoch_in l) earlier) (ends_in o j accounts)
 lives_on first last [] [] j o b earlier told l =
     subst (λ (t : Table). Lives t j o [] b (first_opening (epoch_in l) earlier) (all_ends o (epoch_in l) earlier) []) (sym told)

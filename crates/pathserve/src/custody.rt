@@ -78,27 +78,53 @@ fn moved_by(why: NotBegun, text: &[u8], front: usize, behind: usize) -> NotBegun
     }
 }
 
-// The fault of a front that could not be read with what is held: an object of which nothing can be held had holds when its
-// journal was begun.
-fn fault_of(rules: &Rules, line: u64) -> RecoverFault {
-    if rules.holds.is_empty() {
-        return RecoverFault::Changed;
+// Whether the line of this number, the first of which is 1, begins as one that tells what is held.
+fn tells_held(text: &[u8], line: u64) -> bool {
+    let mut count: u64 = 1;
+    for place in 0..text.len() {
+        if count == line {
+            return text[place..].starts_with(b"held ");
+        }
+        if text[place] == b'\n' {
+            count = count.saturating_add(1);
+        }
     }
-    RecoverFault::Front(line)
+    false
 }
 
-/// Begins one object behind the lines of its journal, which has held lines or none.
+// A fault of a journal: a line that tells what is held, and that cannot be read, was written of other holds.
+fn told_as(text: &[u8], fault: RecoverFault) -> RecoverFault {
+    match fault {
+        RecoverFault::Front(line) if tells_held(text, line) => RecoverFault::Changed,
+        RecoverFault::Line(line, _) if tells_held(text, line) => RecoverFault::Changed,
+        fault => fault,
+    }
+}
+
+// Begins one object of which nothing can be held.
+fn begin_bare(alloc: Global, object: Object, lines: &[u8]) -> Result<BegunHeld, AllocError> {
+    match begin_plain(alloc, object, lines, Holds::new(alloc))? {
+        Err(NotBegun::Refused(fault)) => Ok(Err(NotBegun::Refused(told_as(lines, fault)))),
+        begun => Ok(begun),
+    }
+}
+
+/// Begins one object behind the lines of its journal. Where its front tells that something is held which this object does
+/// not hold so, it was changed.
 pub(crate) fn begin_held(
     alloc: Global,
     object: Object,
     rules: &Rules,
     lines: &[u8],
 ) -> Result<BegunHeld, AllocError> {
-    if rules.holds.is_empty() && rules.everies.is_empty() {
-        return begin_plain(alloc, object, lines, Holds::new(alloc));
+    if rules.holds.is_empty() {
+        return begin_bare(alloc, object, lines);
     }
     match read_held(alloc, &object, &rules.holds, lines)? {
-        Err(line) => Ok(Err(NotBegun::Refused(fault_of(rules, line)))),
+        Err(line) => {
+            let fault = told_as(lines, RecoverFault::Front(line));
+            Ok(Err(NotBegun::Refused(fault)))
+        }
         Ok(read) => begin_read(alloc, object, rules, lines, read),
     }
 }

@@ -573,9 +573,10 @@ fn is_begun(rt: &HostRuntime, folder: &str, name: &str) -> io::Result<bool> {
 }
 
 /// `pathserve keep`: serves these objects, which nobody else serves from the folder, to who connects at the listener, until
-/// the server is to end, by these rules, of each object in their order, or none; and says how that ended: each was kept, or lines say why one is not begun with. `pasts` are what
-/// was done before parts were made, where an object begins with parts. Before it serves, `error` gets a line of each object
-/// that is known to get stuck. At its end the parts of each are saved.
+/// the server is to end, by these rules, those of each object in their order, or none where no object has any; and says how
+/// that ended: each was kept, or lines say why one is not begun with. `pasts` are what was done before parts were made,
+/// where an object begins with parts. Before it serves, `error` gets a line of each object that is known to get stuck. At
+/// its end the parts of each are saved.
 ///
 /// A failure is `Usage` where a past is told of an object that has a journal, `ReadFault` where the folder could not be
 /// read, `WriteFault` where a journal, a part or a line could not be written, or `Memory`. What was answered is on the

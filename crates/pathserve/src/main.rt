@@ -50,13 +50,16 @@ use explain_line::files::Files;
 use explain_line::kept::Kept;
 use folder_audit::audit::audit_folder;
 use folder_audit::files::FolderFault;
+use hold_form::hold::Rules;
 use keep::{is_kept, keep_objects};
 use lack::{Lacking, Unmet, Wanted, tell_lack};
 use line_core::write_whole;
 use mio::net::{TcpListener as PortListener, UnixListener as PathListener};
 use mio_core::stream::Listener as Ears;
 use pasts::pasts_in;
-use plain::{WithoutHolds, plain_source, run_check, run_script, without_holds};
+use plain::{
+    Ruled, WithoutHolds, plain_source, ruled_source, run_check, run_script, without_holds,
+};
 use serve::{ServedSource, place_of, serve_objects};
 use serve_core::gate::{Gate, Listener};
 use serve_core::serve::Place;
@@ -444,9 +447,14 @@ fn written(rt: &HostRuntime, lines: &[u8], status: u8) -> Result<u8, Failure> {
     }
 }
 
-// Tells what objects are in a folder.
-fn tell_folder(rt: &HostRuntime, objects: &[Accepted], folder: &str) -> Result<u8, Failure> {
-    match audit_folder(rt, objects, folder) {
+// Tells what objects are in a folder, by these rules.
+fn tell_folder(
+    rt: &HostRuntime,
+    objects: &[Accepted],
+    rules: &[Rules],
+    folder: &str,
+) -> Result<u8, Failure> {
+    match audit_folder(rt, objects, rules, folder) {
         Ok(said) => {
             let _ = write_whole(&mut rt.stderr(), &said.notes);
             let status = if said.is_whole { ACCEPTED } else { REFUSED };
@@ -465,12 +473,12 @@ fn run_folder(rt: &HostRuntime, files: Files<'_>, when: Explain) -> Result<u8, F
         Ok(source) => source,
         Err(lacking) => return Err(told(rt, lacking, files.source)),
     };
-    let source = match without_holds(rt, source, telling_of(rt, when), files.source)? {
-        WithoutHolds::Plain(source) => source,
-        WithoutHolds::Told(status) => return Ok(status),
+    let (source, rules) = match ruled_source(rt, source, telling_of(rt, when), files.source)? {
+        Ruled::By(source, rules) => (source, rules),
+        Ruled::Told(status) => return Ok(status),
     };
     match judge(rt.alloc(), &source)? {
-        Judged::Ready(objects) => tell_folder(rt, &objects, files.text),
+        Judged::Ready(objects) => tell_folder(rt, &objects, &rules, files.text),
         Judged::Told(lines) => {
             let ended = written(rt, &lines, REFUSED);
             explained(

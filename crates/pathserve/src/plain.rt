@@ -13,6 +13,7 @@ use command_line::request::Explain;
 use explain_hold::pairs::explain_pairs;
 use explain_line::files::Files;
 use explain_line::kept::Kept;
+use hold_form::hold::Rules;
 use hold_read::read::{Held, Look, look_at};
 use line_core::write_whole;
 use std::io;
@@ -63,6 +64,32 @@ pub(crate) fn plain_source(
             Ok(WithoutHolds::Told(status))
         }
         Look::Faulty(_) => without_holds(rt, source, telling, file),
+    }
+}
+
+/// A source without the holds of its objects, and what each of them says of gone clients and of time, in their order; or
+/// the exit status, where a fault of the holds was told.
+pub(crate) enum Ruled {
+    /// Go on with these; the rules are none where no object has any.
+    By(Vec<u8>, Vec<Rules>),
+    /// It is refused, and that is told.
+    Told(u8),
+}
+
+/// A source and its rules, for a server that follows them.
+pub(crate) fn ruled_source(
+    rt: &HostRuntime,
+    source: Vec<u8>,
+    telling: Telling,
+    file: &str,
+) -> Result<Ruled, Failure> {
+    match look_at(rt.alloc(), &source)? {
+        Look::Plain => Ok(Ruled::By(source, Vec::new(rt.alloc()))),
+        Look::Held(held) => Ok(Ruled::By(held.cut, held.rules)),
+        Look::Faulty(_) => match without_holds(rt, source, telling, file)? {
+            WithoutHolds::Plain(_) => Ok(Ruled::Told(REFUSED)),
+            WithoutHolds::Told(status) => Ok(Ruled::Told(status)),
+        },
     }
 }
 

@@ -347,7 +347,7 @@ why_none object number text (inr is) = subst SaysNoReply (sym is.text_is) (state
 sees : (place : ℕ) (inside : Sight) → TellsBy (Sees place inside)
 sees place (insides.Why number) old new said added (people, now, is) = tells_only place is.text (why_none is.object number is.text is.is) old new said added is.only
 sees place (insides.Who from) old new said added (people, now, is) =
-    tells_only place is.text (subst SaysNoReply (sym is.is.text_is) (who_plain (object_of is.object.hall.object) is.is.seats is.is.calls)) old new said added is.only
+    tells_only place is.text (subst SaysNoReply (sym is.is.text_is) (who_plain (object_of is.object.hall.object) _ is.is.seats is.is.calls _)) old new said added is.only
 sees place insides.List old new said added (people, now, is) =
     tells_only place is.text (subst SaysNoReply (sym is.is) (list_plain (map (λ (x : Scene). x.hall.object.name) old.objects) (form_at old.objects (object_in (opened_at old place))))) old new said added is.only
 

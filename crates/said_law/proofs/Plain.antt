@@ -7,14 +7,17 @@ use Rattle.decl_core.specs.ObjectForm.{ObjectForm}
 use Rattle.why_core.specs.Lacks.{Why}
 use Rattle.inside_text.specs.declared.why.State.{State}
 use Rattle.inside_text.specs.Why.{state_line, why_text}
-use Rattle.inside_text.specs.Who.{Sitting, Refused as Waits, who_text}
+use Rattle.inside_text.specs.Who.{Sitting, Refused as Waits}
 use Rattle.inside_text.specs.List.{list_text}
 use Rattle.script_text.specs.Answers.{kept_line, cancelled_line, finished_line}
 use Rattle.session_text.specs.Lines.{accepted_text, bye_text, ended_text, line_text, opened_text, withdrawn_text}
 use Rattle.session_text.specs.declared.line.Line.{Line}
 use Rattle.session_text.specs.declared.line.Line.TheVariants as lines
 use Rattle.told_core.specs.Asked.{IsRefusal}
+use Rattle.hold_form.specs.HoldForm.{HoldForm}
+use Rattle.hold_core.specs.Held.{HeldCall}
 use Rattle.told_core.specs.Custody.{not_held_text}
+use Rattle.told_core.specs.Inside.{who_held_text}
 use Rattle.said_law.specs.Said.{SaysNoReply}
 
 -- a text that begins with this byte
@@ -148,8 +151,8 @@ why_plain o n whys = says_none 119 (why_text o n whys []) of_w (_, refl)
 pub state_plain : (n : ℕ) (state : State) → SaysNoReply (state_line n state)
 state_plain n state = says_none 119 (state_line n state) of_w (_, refl)
 
-pub who_plain : (o : ObjectForm) (seats : List Sitting) (calls : List Waits) → SaysNoReply (who_text o seats calls)
-who_plain o seats calls = says_none 119 (who_text o seats calls) of_w (_, refl)
+pub who_plain : (o : ObjectForm) (holds : List HoldForm) (seats : List Sitting) (calls : List Waits) (held : List HeldCall) → SaysNoReply (who_held_text o holds seats calls held)
+who_plain o holds seats calls held = says_none 119 (who_held_text o holds seats calls held) of_w (_, refl)
 
 pub list_plain : (names : List (List ℕ)) (opened : Option ObjectForm) → SaysNoReply (list_text names opened)
 list_plain names opened = says_none 108 (list_text names opened) of_l (_, refl)

@@ -11,6 +11,9 @@ use Rattle.client_core.specs.declared.ask.Sight.TheVariants as insides
 use Rattle.client_core.specs.declared.client.Opened.{Opened}
 use Rattle.hosted_core.specs.Scene.{Scene}
 use Rattle.client_core.specs.People.{Person}
+use Rattle.hold_form.specs.HoldForm.{HoldForm}
+use Rattle.hold_core.specs.Held.{HeldCall}
+use Rattle.told_core.specs.Custody.{Custody, holds_by, held_by}
 use Rattle.told_core.specs.State.{State, opened_at}
 use Rattle.told_core.specs.Deeds.{Texts, OnlyTold}
 use Rattle.told_core.specs.Asked.{IsRefusal, IsRefused, AnswersInside}
@@ -63,7 +66,7 @@ why_shown a b old new people now place number opened (Err e) by is brings =
     brings_as (IsRefused place) (LooksOf people now place (insides.Why number)) a b old new (λ said added refused. inr refused) brings
 
 pub who_shown : (a b : Post) (old new : State) (people : List Person) (now place from : ℕ) (opened : Opened) (text : Result (Vec ℕ) AllocError) → Some opened ≡ opened_at old place →
-    IfOk text (λ t. (object : Scene) × (slice_get old.objects opened.object ≡ Some object) × IsWho (record { peers = old.peers; people = people; now = now; at = opened.object }) object from t.items) →
+    IfOk text (λ t. (object : Scene) × (slice_get old.objects opened.object ≡ Some object) × IsWho (record { peers = old.peers; people = people; now = now; at = opened.object }) object (holds_by (slice_get old.custody opened.object)) (held_by (slice_get old.custody opened.object)) from t.items) →
     Brings (Shows place text) a old b new → Brings (LooksOf people now place (insides.Who from)) a old b new
 who_shown a b old new people now place from opened (Ok t) by (object, there, is) brings =
     brings_as (ShowsText place t.items) (LooksOf people now place (insides.Who from)) a b old new
@@ -87,7 +90,9 @@ pub why_there : (objects : List Scene) (at number : ℕ) (object : Scene) (text 
 why_there objects at number object (Ok t) there is = (object, there, is)
 why_there objects at number object (Err e) there is = tt
 
-pub who_there : (objects : List Scene) (crowd : Crowd) (at from : ℕ) (object : Scene) (text : Result (Vec ℕ) AllocError) → slice_get objects at ≡ Some object →
-    IfOk text (λ t. IsWho crowd object from t.items) → IfOk text (λ t. (x : Scene) × (slice_get objects at ≡ Some x) × IsWho crowd x from t.items)
-who_there objects crowd at from object (Ok t) there is = (object, there, is)
-who_there objects crowd at from object (Err e) there is = tt
+pub who_there : (objects : List Scene) (crowd : Crowd) (at from : ℕ) (object : Scene) (custody : Option Custody) (holds : List HoldForm) (held : List HeldCall) (text : Result (Vec ℕ) AllocError) →
+    slice_get objects at ≡ Some object → holds ≡ holds_by custody → held ≡ held_by custody → IfOk text (λ t. IsWho crowd object holds held from t.items) →
+    IfOk text (λ t. (x : Scene) × (slice_get objects at ≡ Some x) × IsWho crowd x (holds_by custody) (held_by custody) from t.items)
+who_there objects crowd at from object custody holds held (Ok t) there one two is =
+    (object, there, subst (λ l. IsWho crowd object (holds_by custody) l from t.items) two (subst (λ l. IsWho crowd object l held from t.items) one is))
+who_there objects crowd at from object custody holds held (Err e) there one two is = tt

@@ -3,10 +3,11 @@
 //! Each such call is an ordinary one: it has the next number, and where its session has a name the next key of that. Nobody
 //! is told that it was taken. Where no object says anything of gone clients and of time, all of this is held lines alone.
 
-ghost use Rattle.std.specs.Prelude.{◌≡◌, ◌++◌, [], List, Bool, Some, None, Ok, true, false, OnOk, IfOk, IfSome, MatchOption, slice_get};
+ghost use Rattle.std.specs.Prelude.{◌≡◌, ◌<◌, ◌++◌, [], List, Bool, Some, None, Ok, true, false, OnOk, IfOk, IfSome, MatchOption, length, slice_get};
 ghost use Rattle.hosted_core.specs.Scene.{Scene};
 ghost use Rattle.client_core.specs.declared.client.Opened.{Opened as AnOpened};
 ghost use Rattle.post_core.specs.Posts.{Tells};
+ghost use Rattle.tally_core.specs.Tallies.{CountsTaken};
 ghost use Rattle.told_core.specs.Asked.{Opens, Follows};
 ghost use Rattle.told_core.specs.Custody.{Custody, HasNone, not_held_text};
 ghost use Rattle.told_core.specs.Deeds.{OnlyTold};
@@ -162,8 +163,10 @@ impl Table {
 
     // A call was taken: it is counted, and what is held follows from those that ran.
     pub(crate) fn follow(&mut self, at: usize, taken: &Taken) -> Result<(), AllocError>
-        ensures { OnOk result ((object : Scene) → slice_get self.old.objects.items at ≡ Some object
+        ensures follows { OnOk result ((object : Scene) → slice_get self.old.objects.items at ≡ Some object
             → Follows at object taken.now.ran.items (seen self.old) (seen self.new)) }
+        ensures counts { OnOk result (at < length self.old.tallies.objects.items
+            → CountsTaken at taken.now self.old.tallies.objects.items self.new.tallies.objects.items) }
     {
         self.tallies.count(at, taken);
         self.custody.ended(at, &self.objects, &taken.ran)?;
@@ -543,8 +546,10 @@ impl Table {
 
     // It was made: each that ran is told to who made it, and what is held follows.
     fn made_owed(&mut self, at: usize, taken: &Taken, post: &mut Post) -> Result<(), AllocError>
-        ensures { OnOk result ((object : Scene) → slice_get self.old.objects.items at ≡ Some object
+        ensures brings { OnOk result ((object : Scene) → slice_get self.old.objects.items at ≡ Some object
             → Brings (EndsAll at object taken.now.ran.items) post.old (seen self.old) post.new (seen self.new)) }
+        ensures counts { OnOk result (at < length self.old.tallies.objects.items
+            → CountsTaken at taken.now self.old.tallies.objects.items self.new.tallies.objects.items) }
     {
         self.all_ended(at, &taken.ran, post)?;
         self.follow(at, taken)?;

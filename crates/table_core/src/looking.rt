@@ -6,6 +6,7 @@ ghost use Rattle.client_core.specs.declared.ask.Sight.TheVariants as insides;
 ghost use Rattle.client_core.specs.People.{people_of};
 ghost use Rattle.inside_core.specs.Adds.{crowd_of};
 ghost use Rattle.told_core.specs.Asked.{AnswersInside};
+ghost use Rattle.told_core.specs.Custody.{holds_by, held_by};
 ghost use Rattle.told_core.specs.Inside.{IsWhy, IsWho, object_in};
 ghost use Rattle.told_core.specs.State.{opened_in, peers_of};
 ghost use Rattle.table_core.specs.Brings.{Brings};
@@ -19,6 +20,7 @@ use crate::tell::tell;
 use ask_core::answer::SubmitFault;
 use client_core::ask::Sight;
 use client_core::clients::Clients;
+use custody_core::all::AllHeld;
 use hosted_core::hosted::Hosted;
 use inside_core::list::list_of;
 use inside_core::who::{Whom, who_of};
@@ -43,19 +45,24 @@ fn why_at(
     }
 }
 
-// Who is there, of the object at a place.
+// Who is there, of the object at a place, and what is held of it.
 fn who_at(
     alloc: Global,
     clients: &Clients,
     objects: &[Hosted],
+    custody: &AllHeld,
     whom: Whom,
 ) -> Option<Result<Vec<u8>, AllocError>>
     ensures { IfSome result (λ r. IfOk r (λ text. (object : Scene) × (slice_get objects.now whom.at ≡ Some object)
-        × IsWho (crowd_of clients.now whom) object whom.from text.items)) }
+        × IsWho (crowd_of clients.now whom) object (holds_by (slice_get custody.now whom.at))
+        (held_by (slice_get custody.now whom.at)) whom.from text.items)) }
 {
     match objects.get(whom.at) {
         None => None,
-        Some(object) => Some(who_of(alloc, clients, object, whom)),
+        Some(object) => {
+            let (holds, held) = custody.held_of(whom.at);
+            Some(who_of(alloc, clients, object, whom, holds, held))
+        }
     }
 }
 
@@ -143,7 +150,13 @@ impl Table {
             from,
             second: self.second,
         };
-        match who_at(self.alloc, &self.clients, &self.objects, whom) {
+        match who_at(
+            self.alloc,
+            &self.clients,
+            &self.objects,
+            &self.custody,
+            whom,
+        ) {
             None => {
                 self.refuse(place, Refusal::NoObject, post)?;
                 Ok(())

@@ -306,7 +306,7 @@ impl Table {
         }
     }
 
-    // A call was taken: it is told, and what is held follows.
+    // A call was taken: it is told and counted, and what is held follows.
     fn taken_all(
         &mut self,
         place: usize,
@@ -314,16 +314,17 @@ impl Table {
         taken: &Taken,
         post: &mut Post,
     ) -> Result<(), AllocError>
-        ensures { OnOk result ((object : Scene) → slice_get self.old.objects.items seat.object ≡ Some object
+        ensures brings { OnOk result ((object : Scene) → slice_get self.old.objects.items seat.object ≡ Some object
             → Brings (TellsAll place seat taken.now object) post.old (seen self.old) post.new (seen self.new)) }
+        ensures counts { OnOk result (seat.object < length self.old.tallies.objects.items
+            → CountsTaken seat.object taken.now self.old.tallies.objects.items self.new.tallies.objects.items) }
     {
         self.taken(place, seat, taken, post)?;
         self.follow(seat.object, taken)?;
         Ok(())
     }
 
-    // A call was taken: its client is told so, and each client of those that ran the last line of its call. All that is
-    // counted.
+    // A call was taken: its client is told so, and each client of those that ran the last line of its call.
     fn taken(
         &mut self,
         place: usize,
@@ -333,15 +334,13 @@ impl Table {
     ) -> Result<(), AllocError>
         ensures brings { OnOk result ((object : Scene) → slice_get self.old.objects.items seat.object ≡ Some object
             → Brings (TellsTaken place seat taken.now object) post.old (seen self.old) post.new (seen self.new)) }
-        ensures counts { OnOk result (seat.object < length self.old.tallies.objects.items
-            → CountsTaken seat.object taken.now self.old.tallies.objects.items self.new.tallies.objects.items) }
+        ensures uncounted { self.new.tallies ≡ self.old.tallies }
     {
         let at = seat.object;
         let told = told_at(&self.objects, at, taken.number);
         tell_accepted(&self.clients, &mut self.line, place, told, post)?;
         open_called(&mut self.clients, place, counted(seat, told), self.second);
         self.all_ended(at, &taken.ran, post)?;
-        self.tallies.count(at, taken);
         Ok(())
     }
 

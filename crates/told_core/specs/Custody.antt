@@ -22,6 +22,16 @@ pub record Custody : Type 0 where
 abbrev pub Custodies : Type 0
 Custodies = List Custody
 
+-- the holds of an object; none, where it says nothing of them
+abbrev pub holds_by : Option Custody → List HoldForm
+holds_by None = []
+holds_by (Some c) = c.rules.holds
+
+-- what is held of it, the oldest first
+abbrev pub held_by : Option Custody → List HeldCall
+held_by None = []
+held_by (Some c) = c.held
+
 -- now this is held
 abbrev pub holding_now : Custody → List HeldCall → Custody
 holding_now c held = record c { held = held }

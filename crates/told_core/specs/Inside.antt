@@ -1,6 +1,6 @@
 -- What is told to one that asks to see something.
-use Rattle.std.specs.Prelude.{◌≡◌, ◌≢◌, ◌⊎◌, ℕ, suc, ◌-◌, ◌==◌, ◌&&◌, not, nat_lt, Bool, true, false, List, [], ◌∷◌, ◌++◌, Option, Some, None}
-use Rattle.std.specs.Prelude.{slice_get, option_map, map, flat_map, take, MatchOption, if◌then◌else◌}
+use Rattle.std.specs.Prelude.{◌≡◌, ◌≢◌, ◌⊎◌, ℕ, suc, ◌+◌, ◌-◌, ◌==◌, ◌&&◌, not, nat_lt, Bool, true, false, List, [], ◌∷◌, ◌++◌, Option, Some, None}
+use Rattle.std.specs.Prelude.{slice_get, option_map, length, map, flat_map, sum, take, MatchOption, if◌then◌else◌}
 use Rattle.std.specs.List.Sorted.{IsPermutation, IsNonDecreasingBy}
 use Rattle.decl_core.specs.ObjectMap.{object_of}
 use Rattle.decl_core.specs.ObjectForm.{ObjectForm}
@@ -16,8 +16,12 @@ use Rattle.why_core.specs.Tells.{Tells}
 use Rattle.inside_text.specs.declared.why.State.{State as CallState}
 use Rattle.inside_text.specs.declared.why.State.TheVariants as states
 use Rattle.inside_text.specs.Why.{state_line, why_text}
-use Rattle.inside_text.specs.Who.{Sitting, Refused, who_text}
+use Rattle.inside_text.specs.Who.{Sitting, Refused, who_line, seat_line, waits_line}
 use Rattle.inside_text.specs.List.{list_text}
+use Rattle.hold_form.specs.HoldForm.{HoldForm}
+use Rattle.hold_core.specs.Held.{HeldCall}
+use Rattle.hold_text.specs.HeldTold.{holds_line}
+use Rattle.told_core.specs.Custody.{holds_by, held_by}
 use Rattle.told_core.specs.State.{Peer, State, opened_in, opened_at}
 use Rattle.told_core.specs.Deeds.{Texts, Deed, OnlyTold}
 
@@ -139,15 +143,26 @@ AreWaits crowd seats object [] [] = Unit {0}
 AreWaits crowd seats object (c ∷ calls) (r ∷ rows) = IsWaitOf crowd seats object c r × AreWaits crowd seats object calls rows
 AreWaits crowd seats object calls rows = ⊥
 
--- What is said of those who are there: the first 256 sessions, and what waits of these.
-pub record IsWho (crowd : Crowd) (object : Scene) (from : ℕ) (text : List ℕ) : Type 0 where
+-- what these sessions hold, also those that are gone, the oldest first
+abbrev pub held_in : ℕ → Option ℕ → List HeldCall → List HeldCall
+held_in from last held = flat_map (λ (h : HeldCall). if is_between from last h.session then h ∷ [] else []) held
+
+-- the whole of an answer: so many lines, those of sessions, those of calls that wait, and behind them what is held
+abbrev pub who_held_text : ObjectForm → List HoldForm → List Sitting → List Refused → List HeldCall → List ℕ
+who_held_text o holds seats calls held =
+    who_line (length seats + sum (map (λ c. length c.whys) calls) + length held) ++ flat_map (λ s. seat_line s.seat s.name) seats
+    ++ flat_map (λ c. flat_map (waits_line o c.call) c.whys) calls ++ flat_map (holds_line o holds) held
+
+-- What is said of those who are there, where the object has these holds and this is held: the first 256 sessions, what
+-- waits of these, and the first 256 of what these hold, and of what is held by who is gone.
+pub record IsWho (crowd : Crowd) (object : Scene) (holds : List HoldForm) (held : List HeldCall) (from : ℕ) (text : List ℕ) : Type 0 where
   pub all : List (ℕ × Opened)
   pub are_all : AreSitting crowd.at from crowd.peers all
   pub seats : List Sitting
   pub are_seats : AreSeats crowd (take 256 all) seats
   pub calls : List Refused
   pub are_calls : AreWaits crowd (take 256 all) object (waiting_in from (last_told all) object.hall.waiting) calls
-  pub text_is : text ≡ who_text (object_of object.hall.object) seats calls
+  pub text_is : text ≡ who_held_text (object_of object.hall.object) holds seats calls (take 256 (held_in from (last_told all) held))
 
 -- the object that is open
 abbrev pub form_at : List Scene → Option ℕ → Option ObjectForm
@@ -178,7 +193,8 @@ pub record SeesWho (people : List Person) (now place from : ℕ) (old : State) (
   pub object : Scene
   pub there : slice_get old.objects opened.object ≡ Some object
   pub text : List ℕ
-  pub is : IsWho (record { peers = old.peers; people = people; now = now; at = opened.object }) object from text
+  pub is : IsWho (record { peers = old.peers; people = people; now = now; at = opened.object }) object (holds_by (slice_get old.custody opened.object))
+      (held_by (slice_get old.custody opened.object)) from text
   pub only : OnlyTold place text old said added new
 
 -- or which objects there are

@@ -1,4 +1,4 @@
-use Rattle.std.proofs.Common.{◌≡◌, ◌++◌, ◌∙◌, ap, inr, refl, subst, List, [], ℕ}
+use Rattle.std.proofs.Common.{◌++◌, ◌∙◌, ap, inr, refl, subst, List, [], ℕ}
 use Rattle.std.specs.Prelude.{Bool, true}
 use Rattle.decl_core.specs.ObjectMap.{object_of}
 use Rattle.recover_text.specs.Said.{epoch_words, whole_words}

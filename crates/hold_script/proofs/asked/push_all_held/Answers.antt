@@ -11,8 +11,8 @@ held-init c = told_none (object_of c.args.object.now) (holds_of c.args.rules.now
 pub held-preserved : goal.held-preserved
 held-preserved c =
     let h = c.index-held-place.result in
-    told_more (object_of c.args.object.now) (holds_of c.args.rules.now) c.args.held.now c.held.place h c.args.out.now.items c.held.out.items c.push_held.new.out.items c.held.invariant
-    (slice_get-get_or c.args.held.now c.held.place h c.held-test.true ∙ ap Some (sym c.index-held-place.is)) c.in_ok-push_held.ensures
+    told_more (object_of c.args.object.now) (holds_of c.args.rules.now) c.args.held.now c.held.place h c.args.out.now.items c.held.out.items c.push_held_call.new.out.items c.held.invariant
+    (slice_get-get_or c.args.held.now c.held.place h c.held-test.true ∙ ap Some (sym c.index-held-place.is)) c.in_ok-push_held_call.ensures
 
 pub returns : goal.returns
 returns c = told_all (object_of c.args.object.now) (holds_of c.args.rules.now) c.args.held.now c.held.place c.args.out.now.items c.held.out.items c.held-test.false c.held.invariant

@@ -1,4 +1,3 @@
-use Rattle.std.proofs.Common.{◌≡◌, ◌∙◌, ap}
 use Rattle.why_core.specs.Found.{whys_of}
 use Rattle.inside_text.specs.Who.{Refused}
 use Rattle.inside_core.specs.Adds.{crowd_of}

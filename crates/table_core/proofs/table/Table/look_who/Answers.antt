@@ -4,6 +4,7 @@ use Rattle.client_core.specs.declared.ask.Sight.TheVariants as insides
 use Rattle.session_text.specs.declared.line.Line.TheVariants as lines
 use Rattle.session_text.specs.declared.line.Refusal.TheVariants as refusals
 use Rattle.hosted_core.specs.Scene.{Scene}
+use Rattle.told_core.specs.Custody.{holds_by, held_by}
 use Rattle.told_core.specs.Inside.{IsWho}
 use Rattle.client_core.specs.People.{people_of}
 use Rattle.inside_core.specs.Adds.{crowd_of}
@@ -22,6 +23,6 @@ returns-in_ok-refuse-in-None c = look_refused c.args.post.now c.refuse-in-None.n
 pub returns-in_ok-show-in-Some-who_at : goal.returns-in_ok-show-in-Some-who_at
 returns-in_ok-show-in-Some-who_at c = who_shown c.args.post.now c.show.new.post (seen c.args.self.now) (seen c.show.new.self) (people_of c.args.self.now.clients) c.args.self.now.second c.args.place c.args.from c.in-Some.opened
     c.in-Some-who_at.text c.in-Some.ensures
-    (subst (λ (l : List Scene). IfOk c.in-Some-who_at.text (λ t. (x : Scene) × (slice_get l c.in-Some.opened.object ≡ Some x) × IsWho (crowd_of c.args.self.now.clients (record { at = c.in-Some.opened.object; from = c.args.from; second = c.args.self.now.second })) x c.args.from t.items))
+    (subst (λ (l : List Scene). IfOk c.in-Some-who_at.text (λ t. (x : Scene) × (slice_get l c.in-Some.opened.object ≡ Some x) × IsWho (crowd_of c.args.self.now.clients (record { at = c.in-Some.opened.object; from = c.args.from; second = c.args.self.now.second })) x (holds_by (slice_get c.args.self.now.custody c.in-Some.opened.object)) (held_by (slice_get c.args.self.now.custody c.in-Some.opened.object)) c.args.from t.items))
     c.deref.ensures.value c.in-Some-who_at.ensures)
     c.in_ok-show-in-Some-who_at.ensures

@@ -7,12 +7,12 @@ use Rattle.table_core.specs.Seen.{seen}
 use Rattle.table_core.proofs.Settling.{ends_all, ends_same}
 use Rattle.table_core.proofs.table.Table.made_owed.Goals as goal
 
-pub returns : goal.returns
-returns c = λ object there.
+pub returns-clause-brings : goal.returns-clause-brings
+returns-clause-brings c = λ object there.
     let told : Brings (AllEnd c.args.at object c.args.taken.now.ran.items) c.args.post.now (seen c.args.self.now) c.all_ended.new.post (seen c.all_ended.new.self) =
     subst (λ (l : List Ran). Brings (AllEnd c.args.at object l) c.args.post.now (seen c.args.self.now) c.all_ended.new.post (seen c.all_ended.new.self))
     c.deref.ensures.value (c.in_ok-all_ended.ensures.brings object there) in
     ends_all c.args.post.now c.all_ended.new.post (seen c.args.self.now) (seen c.all_ended.new.self) (seen c.follow.new.self) c.args.at object c.args.taken.now.ran.items told
-    (c.in_ok-follow.ensures object
+    (c.in_ok-follow.ensures.follows object
     (ap (λ (l : List Scene). slice_get l c.args.at)
     (ends_same c.args.post.now c.all_ended.new.post (seen c.args.self.now) (seen c.all_ended.new.self) c.args.at object c.args.taken.now.ran.items told) ∙ there))

@@ -11,4 +11,4 @@ returns-in_ok-made_owed-in-Ok c = owed_made c.args.post.now c.make_call.new.post
     (seen c.made_owed.new.self) c.args.at c.args.session c.args.operation c.args.arguments.items c.seat_of.result c.in-Ok.taken c.seat_of.ensures
     c.requires.apart c.requires.owed
     (subst (λ (r : Result Taken SubmitFault). MakesAt c.seat_of.result c.args.operation c.args.arguments.items r c.args.post.now (seen c.args.self.now)
-    c.make_call.new.post (seen c.make_call.new.self)) c.in-Ok.is c.in_ok-make_call.ensures) c.in_ok-made_owed-in-Ok.ensures
+    c.make_call.new.post (seen c.make_call.new.self)) c.in-Ok.is c.in_ok-make_call.ensures) c.in_ok-made_owed-in-Ok.ensures.brings

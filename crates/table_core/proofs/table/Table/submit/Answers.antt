@@ -13,4 +13,4 @@ returns-in_ok-reject-in-Err c = submit_refused c.args.post.now c.make_call.new.p
 
 pub returns-in_ok-taken_all-in-Ok : goal.returns-in_ok-taken_all-in-Ok
 returns-in_ok-taken_all-in-Ok c = submit_taken c.args.post.now c.make_call.new.post c.taken_all.new.post (seen c.args.self.now) (seen c.make_call.new.self) (seen c.taken_all.new.self) c.args.place c.args.ready.seat
-    c.args.ready.operation c.args.arguments.items c.in-Ok.taken (subst (λ (r : Result Taken SubmitFault). MakesAt c.args.ready.seat c.args.ready.operation c.args.arguments.items r c.args.post.now (seen c.args.self.now) c.make_call.new.post (seen c.make_call.new.self)) c.in-Ok.is c.in_ok-fault.ensures) c.in_ok-taken_all-in-Ok.ensures
+    c.args.ready.operation c.args.arguments.items c.in-Ok.taken (subst (λ (r : Result Taken SubmitFault). MakesAt c.args.ready.seat c.args.ready.operation c.args.arguments.items r c.args.post.now (seen c.args.self.now) c.make_call.new.post (seen c.make_call.new.self)) c.in-Ok.is c.in_ok-fault.ensures) c.in_ok-taken_all-in-Ok.ensures.brings

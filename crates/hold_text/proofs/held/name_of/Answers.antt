@@ -1,6 +1,6 @@
 use Rattle.std.proofs.Common.{◌≡◌, ◌<◌, length, get_or, ◌∙◌, ap, subst}
 use Rattle.trace_core.proofs.Places.{name_at}
-use Rattle.hold_script.proofs.asked.name_of.Goals as goal
+use Rattle.hold_text.proofs.held.name_of.Goals as goal
 
 pub returns-in-Some : goal.returns-in-Some
 returns-in-Some c =

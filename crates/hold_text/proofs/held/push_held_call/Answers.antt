@@ -1,7 +1,7 @@
 use Rattle.decl_core.specs.ObjectMap.{object_of}
 use Rattle.hold_form.specs.HoldMap.{holds_of}
-use Rattle.hold_script.proofs.Asking.{line_made}
-use Rattle.hold_script.proofs.asked.push_held.Goals as goal
+use Rattle.hold_text.proofs.HeldLine.{line_made}
+use Rattle.hold_text.proofs.held.push_held_call.Goals as goal
 
 pub returns : goal.returns
 returns c =

@@ -1,0 +1,13 @@
+pub mod Acting
+pub mod Beginning
+pub mod Calling
+pub mod Deeds
+pub mod Ends
+pub mod Heard
+pub mod Lines
+pub mod Lists
+pub mod Looking
+pub mod Making
+pub mod Places
+pub mod Runs
+pub mod Turning
