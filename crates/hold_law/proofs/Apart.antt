@@ -1,5 +1,5 @@
 -- Rules that are read: each operation that ends a hold ends one alone.
-use Rattle.std.proofs.Common.{◌≡◌, ◌≢◌, ◌⊎◌, inl, inr, ◌∙◌, ap, sym, subst, refl, arith, ℕ, zero, suc, ◌+◌, List, [], ◌∷◌, ◌++◌, length}
+use Rattle.std.proofs.Common.{◌≡◌, ◌⊎◌, inl, inr, ◌∙◌, ap, sym, subst, refl, arith, ℕ, zero, suc, List, [], ◌∷◌, ◌++◌, length}
 use Rattle.std.specs.Prelude.{Bool, true, false, ◌==◌, ◌||◌, if◌then◌else◌, Option, Some, None, slice_get}
 use Rattle.std.proofs.lemmas.Bool.Decides.{eqb_tells}
 use Rattle.std.proofs.lemmas.Option.{same_Some}
@@ -7,9 +7,9 @@ use Rattle.path_tree.specs.Known.{next}
 use Rattle.path_tree.specs.Lexeme.{Lexeme}
 use Rattle.body_read.specs.Series.{IsSeries, no_more, and_another}
 use Rattle.decl_core.specs.ObjectForm.{OperationForm}
-use Rattle.hold_form.specs.HoldForm.{HoldForm, EveryForm, RulesForm, IsEvery, is_one_of, named_in, ending_in}
+use Rattle.hold_form.specs.HoldForm.{HoldForm, EveryForm, is_one_of, named_in, ending_in}
 use Rattle.hold_core.specs.Held.{hold_ended}
-use Rattle.hold_read.specs.Holds.{is_taken, IsUndo, IsNextUndo, IsUndos, IsHoldItem, IsEveryItem, IsRules}
+use Rattle.hold_read.specs.Holds.{IsUndo, IsNextUndo, IsUndos, IsHoldItem, IsEveryItem}
 use Rattle.hold_read.specs.Holds.IsUndo.{undo}
 use Rattle.hold_read.specs.Holds.IsNextUndo.{next_undo}
 use Rattle.hold_read.specs.Holds.IsUndos.{undos}
@@ -17,7 +17,7 @@ use Rattle.hold_read.specs.Holds.IsHoldItem.{a_hold}
 use Rattle.hold_read.specs.Holds.IsEveryItem.{an_every}
 use Rattle.hold_read.specs.Holds.IsRules.{rules as are_rules}
 use Rattle.hold_read.proofs.HoldSteps.{named_step, ending_step}
-use Rattle.hold_law.specs.Keeps.{AreApart, ReadAreApart}
+use Rattle.hold_law.specs.Keeps.{ReadAreApart}
 
 or_parts : (a b : Bool) → (a || b) ≡ false → (a ≡ false) × (b ≡ false)
 or_parts true b is = absurd cc

@@ -1,6 +1,6 @@
 -- Each call that waits may still be made, behind what an object passes.
-use Rattle.std.proofs.Common.{◌≡◌, ◌≢◌, ◌⊎◌, inl, inr, ◌∙◌, ap, sym, subst, refl, ℕ, zero, suc, List, [], ◌∷◌, ◌++◌}
-use Rattle.std.specs.Prelude.{Bool, false, Option, Some, None, slice_get}
+use Rattle.std.proofs.Common.{◌≡◌, ◌≢◌, ◌⊎◌, inl, inr, ◌∙◌, ap, sym, subst, refl, ℕ, List, [], ◌∷◌, ◌++◌}
+use Rattle.std.specs.Prelude.{Option, Some, None, slice_get}
 use Rattle.value_core.specs.declared.datum.Datum.{Datum}
 use Rattle.value_core.specs.declared.kind.Elem.{Elem}
 use Rattle.decl_core.specs.ObjectForm.{ObjectForm}
@@ -14,16 +14,15 @@ use Rattle.hosted_core.specs.Calls.{Does}
 use Rattle.hosted_core.specs.Scene.{Scene}
 use Rattle.hosted_core.specs.Steps as hosted
 use Rattle.hosted_core.specs.Steps.{Steps}
-use Rattle.written_law.specs.Happens.{happens}
 use Rattle.hold_form.specs.HoldForm.{HoldForm, RulesForm}
-use Rattle.hold_core.specs.Held.{HeldCall, Fits, HoldsOwn, MayUndo, MayUndoBy, hold_ended}
+use Rattle.hold_core.specs.Held.{HeldCall, Fits, MayUndo, MayUndoBy, hold_ended}
 use Rattle.hold_core.specs.Undo.{taken_by, IsUndoOf}
 use Rattle.told_core.specs.Custody.{Custody, HeldBehindAll, IsOwed, MayMake, holding_now}
 use Rattle.told_core.specs.Custody.IsOwed.{gives_back, again}
 use Rattle.hold_law.specs.Ended.{ends_of}
 use Rattle.hold_law.specs.Keeps.{AreApart, Keeps}
-use Rattle.hold_law.proofs.Holding.{happened_by, steps_of, quiet_none, calls_end, both_end}
-use Rattle.hold_law.proofs.Keeping.{AreOfOwn, every_get, ran_ends, all_keep, joined_own, joined_keeps, less_keeps}
+use Rattle.hold_law.proofs.Holding.{happened_by, quiet_none, calls_end, both_end}
+use Rattle.hold_law.proofs.Keeping.{every_get, ran_ends, all_keep, joined_own, joined_keeps, less_keeps}
 use Rattle.hold_law.proofs.Passing.{May, Behind, IsQuiet, Passes, stays, quiet, calls, both}
 
 -- What is kept of an object at a moment.

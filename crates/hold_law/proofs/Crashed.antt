@@ -1,8 +1,7 @@
 -- What a crash leaves of what is held.
 use Rattle.std.proofs.Common.{◌≡◌, ◌⊎◌, inl, inr, ◌∙◌, ap, sym, subst, refl, ℕ, ◌<◌, List, [], ◌∷◌, ◌++◌, append_assoc}
-use Rattle.std.specs.Prelude.{Option, Some, None, slice_get}
+use Rattle.std.specs.Prelude.{Option, Some, None}
 use Rattle.std.proofs.lemmas.List.{append_cancel_left}
-use Rattle.std.proofs.lemmas.Option.{same_Some}
 use Rattle.decl_core.specs.ObjectForm.{ObjectForm}
 use Rattle.decl_core.specs.ObjectMap.{object_of}
 use Rattle.trace_core.specs.Events.{Happened as Ended}
@@ -11,22 +10,20 @@ use Rattle.hold_front.specs.HeldLines.{held_text}
 use Rattle.hosted_core.specs.Scene.{Scene}
 use Rattle.post_core.specs.Texts.{Begins, to}
 use Rattle.post_core.specs.Turns.{Turn, Runs, added_by}
-use Rattle.keep_loop.specs.declared.keep.Limits.{Limits}
-use Rattle.keep_loop.specs.Seen.{Happened}
-use Rattle.keep_loop.specs.Seen.Happened.{Changed}
-use Rattle.keep_loop.specs.Epochs.{rules_of, front_in, before_in, since_in, Agrees, AgreesIn, HasBegun, IsAhead, LastBegan, change_to}
-use Rattle.keep_loop.specs.Stands.{IsBetween, Survives}
+use Rattle.keep_loop.specs.Epochs.{rules_of, front_in, before_in, since_in, Agrees, HasBegun, LastBegan, change_to, BeginsNone}
+use Rattle.keep_loop.specs.Stands.{Survives}
 use Rattle.told_core.specs.Custody.{Custody, held_lines, held_lines_in}
 use Rattle.table_core.specs.Moves.{Gives, Fronts}
-use Rattle.table_core.specs.Seen.{seen as seen_of}
 use Rattle.table_core.specs.declared.table.Table.{Table}
 use Rattle.kept_law.specs.Kept.{Stood, LeavesAnswered}
 use Rattle.kept_law.proofs.Empty.{no_bytes, front_change, since_change}
 use Rattle.kept_law.proofs.Going.{objects_stand, crash_leaves_answered}
 use Rattle.kept_law.proofs.Living.{turns_have_one_history}
-use Rattle.hold_law.specs.Crashed.{IsHeldBehind, IsHeldAhead, CrashLeavesHeld}
+use Rattle.front_core.specs.declared.past.PastRun.{PastRun}
+use Rattle.hold_law.specs.Played.{LeavesHeld}
+use Rattle.hold_law.specs.Crashed.{IsHeldBehind, IsHeldAhead, CrashLeavesHeld, HasStarted, start_text}
 use Rattle.hold_law.specs.Ended.{HoldsBy}
-use Rattle.hold_law.proofs.Playing.{next_leaves_held}
+use Rattle.hold_law.proofs.Playing.{next_leaves_held, start_leaves_held}
 use Rattle.hold_law.proofs.Turning.{turns_hold}
 
 runs_split : (old new : Table) (ts us : List Turn) → Runs Gives old (ts ++ us) new → (mid : Table) × Runs Gives old ts mid × Runs Gives mid us new
@@ -86,10 +83,14 @@ module _ (first last : Table) (j : ℕ) (o : ObjectForm) (rules : RulesForm) (pa
 one_text : {a b : List ℕ} → ◌≡◌ {A = Option (List ℕ)} (Some a) (Some b) → a ≡ b
 one_text is = cc
 
+some_none : {a : List ℕ} → ◌≡◌ {A = Option (List ℕ)} (Some a) None → ⊥
+some_none is = cc
+
 pub crash_leaves_held : CrashLeavesHeld
 crash_leaves_held first limits seen found waits honest between = record {
   answered = left;
   held = λ j o rules past text within is s h. by j o rules past text within is s h (left.left.begun j within);
+  at_first = λ j o rules past events within none s h. from_start j o rules past events within none s h (left.left.begun j within);
 }
   where
     left : LeavesAnswered first limits seen found
@@ -109,3 +110,13 @@ crash_leaves_held first limits seen found waits honest between = record {
         let since = (between j within).nothing_else in
         inr (ahead first l.last j o rules past (l.answered ++ l.later) l.runs s h text (found j) (subst (λ (x : List ℕ). Fronts l.last j x) same so.stands)
         (no_bytes (found j) since.0 (sym (ap (since_in j) so.just ∙ since_change j so.front so.before) ∙ since.1)))
+
+    from_start : (j : ℕ) (o : ObjectForm) (rules : RulesForm) (past : List Ended) (events : List PastRun) → j < limits.journals → front_in j seen ≡ None → (s : HasStarted first j o events) →
+        (h : HoldsBy first j rules past) → HasBegun (rules_of Gives Fronts) l.last j seen (l.answered ++ l.later) → LeavesHeld first j o rules past (start_text rules s h.custody) (found j)
+    from_start j o rules past events within none s h (inl agrees) =
+        let so : BeginsNone j (l.answered ++ l.later) × (before_in j seen ≡ []) = subst (λ (x : Option (List ℕ)). Agrees j x (before_in j seen) (l.answered ++ l.later)) none agrees in
+        start_leaves_held first l.last j o rules past s.scene events (found j) (l.answered ++ l.later) s.there
+        (record { scene = s.scene; there = s.there; names = s.names; stands = s.stands; goes_on = so.0 }) s.waiting s.carried l.runs h
+        (subst (λ (x : List ℕ). Begins (x ++ found j) (added_by j (l.answered ++ l.later))) so.1 (l.only j within))
+    from_start j o rules past events within none s h (inr ahead) =
+        absurd (some_none (sym (front_change j ahead.front ahead.before) ∙ ap (front_in j) (sym ahead.just) ∙ none))

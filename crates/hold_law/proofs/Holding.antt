@@ -1,8 +1,7 @@
 -- What is held follows from the calls that ended.
-use Rattle.std.proofs.Common.{◌≡◌, ◌≢◌, ◌⊎◌, inl, inr, ◌∙◌, ap, sym, subst, refl, arith, ℕ, List, [], ◌∷◌, ◌++◌, append_assoc, eqb-true}
-use Rattle.std.specs.Prelude.{Bool, true, false, ◌==◌, Option, Some, None, Result, Ok, Err, slice_get, if◌then◌else◌}
+use Rattle.std.proofs.Common.{◌≡◌, ◌∙◌, ap, sym, subst, refl, ℕ, List, [], ◌∷◌, ◌++◌, append_assoc}
+use Rattle.std.specs.Prelude.{Bool, true, false, Option, Some, None, Result, Ok, Err, slice_get, if◌then◌else◌}
 use Rattle.std.proofs.lemmas.List.{append-nil}
-use Rattle.std.proofs.lemmas.Option.{same_Some}
 use Rattle.decl_core.specs.ObjectForm.{ObjectForm}
 use Rattle.apply_core.specs.History.{End}
 use Rattle.trace_core.specs.Events.{Called, Happened, ended, end_of, history_of}
@@ -15,7 +14,7 @@ use Rattle.hold_form.specs.HoldForm.{HoldForm, RulesForm}
 use Rattle.hold_core.specs.Held.{HeldCall, AreHeld}
 use Rattle.hold_core.specs.Held.AreHeld.{at_end}
 use Rattle.replay_core.specs.Steps.{Step, ran, cancelled, named, happened_of}
-use Rattle.hosted_core.specs.Scene.{Scene, told_of}
+use Rattle.hosted_core.specs.Scene.{Scene}
 use Rattle.hosted_core.specs.Steps as hosted
 use Rattle.hosted_core.specs.Steps.{Steps}
 use Rattle.written_law.specs.Happens.{with_ran, with_entered, with_cancelled, happens, all_happen}

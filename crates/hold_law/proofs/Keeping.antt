@@ -1,6 +1,6 @@
 -- What each waiting call may still end, behind the end of one.
-use Rattle.std.proofs.Common.{◌≡◌, ◌≢◌, ◌⊎◌, inl, inr, ◌∙◌, ap, sym, subst, refl, arith, ℕ, zero, suc, ◌+◌, ◌-◌, ◌<◌, List, [], ◌∷◌, ◌++◌, length, append_assoc}
-use Rattle.std.specs.Prelude.{Bool, true, false, Option, Some, None, All, slice_get, take, drop}
+use Rattle.std.proofs.Common.{◌≡◌, ◌≢◌, ◌⊎◌, inl, inr, ◌∙◌, ap, sym, subst, refl, arith, ℕ, zero, suc, ◌+◌, ◌-◌, ◌<◌, List, [], ◌∷◌, ◌++◌}
+use Rattle.std.specs.Prelude.{false, Option, Some, None, All, slice_get, take, drop}
 use Rattle.std.proofs.lemmas.Bool.{cases_lt, cases_eq}
 use Rattle.std.proofs.lemmas.Option.{slice_get_within, get_or_from_slice_get, same_Some}
 use Rattle.value_core.specs.declared.datum.Datum.{Datum}
@@ -12,14 +12,14 @@ use Rattle.live_core.specs.declared.call.Ran.{Ran}
 use Rattle.live_core.specs.Hall.{Every, EachPair, Told}
 use Rattle.live_core.specs.Settles.{Settles, rests, runs}
 use Rattle.hold_form.specs.HoldForm.{HoldForm}
-use Rattle.hold_core.specs.Held.{HeldCall, Fits, NoneOwn, NoneFits, IsEnded, GivesOne, GivesBy, Gives, hold_ended, hold_of_op, begun_by, begun, is_loose, AreHeld, at_first, at_begin, at_end, HoldsOwn, MayUndoBy, MayUndo, KeepsHolds}
+use Rattle.hold_core.specs.Held.{HeldCall, Fits, NoneOwn, NoneFits, IsEnded, GivesOne, GivesBy, Gives, hold_ended, hold_of_op, begun_by, begun, is_loose, AreHeld, at_first, at_begin, at_end, HoldsOwn, MayUndoBy, MayUndo}
 use Rattle.hosted_core.specs.Scene.{Scene, told_of}
 use Rattle.told_core.specs.Custody.{HeldBehindAll, as_told}
 use Rattle.hold_law.specs.Keeps.{Keeps}
 
 -- lists
 
-at_place : (P : HeldCall → Type 0) (xs : List HeldCall) (k : ℕ) (x : HeldCall) → slice_get xs k ≡ Some x → All P xs → P x
+pub at_place : (P : HeldCall → Type 0) (xs : List HeldCall) (k : ℕ) (x : HeldCall) → slice_get xs k ≡ Some x → All P xs → P x
 at_place P xs k x e all = subst P (get_or_from_slice_get xs k x x e) (all k x (slice_get_within xs k x e))
 
 behind_get : (xs : List HeldCall) (n j : ℕ) → slice_get (drop n xs) j ≡ slice_get xs (n + j)
@@ -79,7 +79,7 @@ every_drop P (suc n) [] all = tt
 every_drop P (suc n) (x ∷ xs) all = every_drop P n xs all.1
 
 -- one of some, and the others
-every_here : {X : Type 0} (P : X → Type 0) (front behind : List X) (x : X) → Every P (front ++ x ∷ behind) → P x
+pub every_here : {X : Type 0} (P : X → Type 0) (front behind : List X) (x : X) → Every P (front ++ x ∷ behind) → P x
 every_here P [] behind x all = all.0
 every_here P (y ∷ front) behind x all = every_here P front behind x all.1
 

@@ -8,3 +8,4 @@ pub mod Turning
 pub mod Playing
 pub mod Older
 pub mod Crashed
+pub mod Newest

@@ -1,6 +1,6 @@
 -- Lines tell of one and the same steps.
-use Rattle.std.proofs.Common.{◌≡◌, ◌∙◌, ap, sym, subst, refl, arith, ℕ, zero, suc, ◌+◌, List, [], ◌∷◌, ◌++◌, length, append_assoc}
-use Rattle.std.specs.Prelude.{Bool, false, ◌==◌}
+use Rattle.std.proofs.Common.{◌≡◌, ◌∙◌, ap, sym, subst, refl, arith, ℕ, suc, ◌+◌, List, [], ◌∷◌, ◌++◌, length, append_assoc}
+use Rattle.std.specs.Prelude.{false, ◌==◌}
 use Rattle.std.proofs.lemmas.List.{length-append}
 use Rattle.decl_core.specs.ObjectForm.{ObjectForm}
 use Rattle.replay_core.specs.Steps.{Step, Begun, Heard}
@@ -12,7 +12,7 @@ use Rattle.hosted_core.specs.Steps.{Steps}
 use Rattle.named_law.specs.Named.{IsNamed}
 use Rattle.written_law.specs.Happens.{all_happen}
 use Rattle.written_law.specs.Stands.{Stands}
-use Rattle.written_law.specs.Told.{heard_of, AreTold}
+use Rattle.written_law.specs.Told.{heard_of}
 use Rattle.written_law.proofs.Telling.{steps_are_told}
 use Rattle.said_law.proofs.Going.{all_more}
 

@@ -1,5 +1,5 @@
 -- What a turn makes of one object, and of what is held of it.
-use Rattle.std.proofs.Common.{◌≡◌, ◌≢◌, ◌⊎◌, ◌∙◌, ap, sym, subst, refl, arith, ℕ, zero, suc, inl, inr, List, [], ◌∷◌, ◌++◌, append_assoc, eqb-true}
+use Rattle.std.proofs.Common.{◌≡◌, ◌≢◌, ◌⊎◌, ◌∙◌, ap, sym, subst, refl, arith, ℕ, zero, suc, inl, inr, List, [], ◌∷◌, ◌++◌, eqb-true}
 use Rattle.std.specs.Prelude.{Bool, true, false, ◌==◌, Option, Some, None, Result, Ok, Err, slice_get, slice_set, length, if◌then◌else◌}
 use Rattle.std.specs.declared.alloc.AllocError.{AllocError}
 use Rattle.std.proofs.lemmas.Bool.{eqb-false}
@@ -34,7 +34,6 @@ use Rattle.told_core.specs.Deeds.{Texts, Deed, Nothing, OnlyTold, Then}
 use Rattle.told_core.specs.Asked.{IsRefused, Opens, Ends, AllEnd, Follows, Submits, GetsNumber, Sits, AnswersCall, LetsGo, AnswersCancel, AnswersInside, LeavesObject, Goes, Acts, Heeds}
 use Rattle.told_core.specs.Gone.{CallsFor, SeatsOne, Frees, Settles}
 use Rattle.told_core.specs.Gone.Settles.{rests as settled, goes_on as settles_on, calls as calls_for_one, seats as seats_for_one, frees as frees_for_one}
-use Rattle.told_core.specs.Inside.{Sees}
 use Rattle.told_core.specs.Turns.HearsLine.{does, cancels, sees, puts_off, holds, refuses}
 use Rattle.told_core.specs.Turns.GoesOn.{rests, does as does_more}
 use Rattle.told_core.specs.Turns.EndsHeld.{all, quits, goes_on}

@@ -1,19 +1,17 @@
 -- What a start plays is what was held.
-use Rattle.std.proofs.Common.{◌≡◌, ◌⊎◌, inl, inr, ◌∙◌, ap, sym, subst, refl, arith, ℕ, zero, suc, ◌+◌, ◌-◌, ◌^◌, ◌<◌, ◌≤◌, List, [], ◌∷◌, ◌++◌, append_assoc}
-use Rattle.std.specs.Prelude.{Bool, true, false, ◌==◌, Option, Some, None, map, min, slice_get, slice_set, slice_index_or}
-use Rattle.std.specs.Str.{str_to_ascii_lowercase}
+use Rattle.std.proofs.Common.{◌≡◌, inl, inr, ◌∙◌, ap, sym, subst, refl, arith, ℕ, zero, suc, ◌+◌, ◌-◌, ◌^◌, ◌≤◌, List, [], ◌∷◌, ◌++◌, append_assoc}
+use Rattle.std.specs.Prelude.{Option, Some, map, min, slice_get, slice_index_or}
 use Rattle.std.proofs.lemmas.Option.{same_Some}
 use Rattle.decl_core.specs.ObjectForm.{ObjectForm}
 use Rattle.decl_core.specs.ObjectMap.{object_of}
-use Rattle.apply_core.specs.declared.reply.Reply.{Reply}
 use Rattle.trace_core.specs.Events.{Called, Happened, ended}
 use Rattle.front_core.specs.declared.front.CarriedCall.{CarriedCall}
 use Rattle.front_core.specs.Front.{Opening}
 use Rattle.front_core.specs.Text.{front_text}
-use Rattle.hold_form.specs.HoldForm.{HoldForm, RulesForm}
-use Rattle.hold_core.specs.Held.{HeldCall, AreHeld}
+use Rattle.hold_form.specs.HoldForm.{RulesForm}
+use Rattle.hold_core.specs.Held.{AreHeld}
 use Rattle.hold_front.specs.HeldLines.{held_text}
-use Rattle.hold_front.specs.HeldPlay.{PlaysLines, told_ends, told_call}
+use Rattle.hold_front.specs.HeldPlay.{told_ends}
 use Rattle.front_law.proofs.Holding.{written_has_held}
 use Rattle.replay_core.specs.Said.{Says, Asked, a_start, an_end, a_cancel, a_name}
 use Rattle.replay_core.specs.Steps.{Step, ran, cancelled, named, Begun, Heard, nothing_heard}
@@ -23,26 +21,17 @@ use Rattle.replay_core.proofs.Saying.{says_once}
 use Rattle.recover_core.specs.Carried.{told_by, told_or}
 use Rattle.recover_core.specs.Lines.{IsLine, AreLines, joined}
 use Rattle.recover_core.specs.Playing.{begun_by}
-use Rattle.recover_core.specs.Recovered.{IsBehind}
-use Rattle.recover_core.specs.declared.recover.House.{House}
-use Rattle.recover_core.specs.declared.recover.Recovered.{Recovered}
 use Rattle.hosted_core.specs.Fronts.{carried_from, front_of}
 use Rattle.hosted_core.specs.Scene.{Scene, told_of, next_base, next_epoch}
 use Rattle.written_law.specs.Read.{Adds}
 use Rattle.written_law.specs.Stands.{Stands}
 use Rattle.written_law.specs.Told.{heard_of}
 use Rattle.written_law.proofs.Beginning.{followed_stands}
-use Rattle.post_core.specs.Texts.{Begins}
-use Rattle.post_core.specs.Turns.{Turn, Runs, added_by}
-use Rattle.post_core.specs.Turns.Asked.{Changes}
-use Rattle.keep_loop.specs.Epochs.{BeginsNone}
+use Rattle.post_core.specs.Turns.{added_by}
 use Rattle.told_core.specs.Custody.{Custody, Custodies, held_lines, held_lines_in}
-use Rattle.table_core.specs.Moves.{Gives}
-use Rattle.table_core.specs.declared.table.Table.{Table}
-use Rattle.kept_law.specs.Kept.{Stood}
 use Rattle.kept_law.proofs.Going.{set_at, runs_are_steps}
-use Rattle.hold_law.specs.Ended.{ends_of, HoldsBy}
-use Rattle.hold_law.specs.Played.{IsNumbered, PlayedIsHeld, LeavesHeld, NextLeavesHeld}
+use Rattle.hold_law.specs.Ended.{ends_of}
+use Rattle.hold_law.specs.Played.{IsNumbered, PlayedIsHeld, NextLeavesHeld, StartLeavesHeld}
 use Rattle.hold_law.proofs.Once.{first_once, tell_once, no_end, line_head, line_tail}
 
 -- numbers
@@ -187,4 +176,26 @@ next_leaves_held before after last j o rules past text found since gives runs no
       played = λ room house bytes r new b p.
           played_is_held o house f bytes found r rules.holds h.custody.held new past now b
           (record { carried = by.followed.carried ∙ sym (carried_told was 0 was.hall.waiting); base = by.followed.base; room = room }) h.are p;
+    }
+
+pub start_leaves_held : StartLeavesHeld
+start_leaves_held t last j o rules past s events found since there served idle none runs h within =
+    let f = front_of s s.epoch events s.base in
+    let same : served.scene ≡ s = same_Some served.scene s (sym served.there ∙ there) in
+    let went = runs_are_steps t last since j s runs served.goes_on there in
+    let adds : Adds o f (added_by j since) =
+    record { names = served.names; old = s; new = went.0; all = went.2; stands = subst (λ (x : Scene). Stands o (begun_by f) nothing_heard x) same served.stands } in
+    let carried : s.carried ≡ map (λ (c : CarriedCall). c.told) f.carried =
+    none ∙ sym (ap (λ (l : List Called). map (λ (c : CarriedCall). c.told) (carried_from s 0 l)) idle) in
+    record {
+      holds = h;
+      scene = s;
+      there = there;
+      front = f;
+      text_is = refl;
+      says = λ rows each.
+          (written_has_held o rules.holds f h.custody.held ((front_text o f ++ held_text o rules.holds h.custody.held) ++ found) (added_by j since) found within.0 rows each adds within.1
+          (append_assoc (front_text o f) (held_text o rules.holds h.custody.held) found)).0;
+      played = λ room house bytes r new b p.
+          played_is_held o house f bytes found r rules.holds h.custody.held new past s b (record { carried = carried; base = refl; room = room }) h.are p;
     }

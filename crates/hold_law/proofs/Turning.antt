@@ -1,6 +1,6 @@
 -- What is held, turn by turn.
-use Rattle.std.proofs.Common.{◌≡◌, ◌≢◌, ◌⊎◌, inl, inr, ◌∙◌, ap, sym, subst, refl, arith, ℕ, zero, suc, List, [], ◌∷◌, ◌++◌, append_assoc, eqb-true}
-use Rattle.std.specs.Prelude.{◌+◌, Bool, true, false, ◌==◌, Option, Some, None, slice_get, slice_set}
+use Rattle.std.proofs.Common.{◌≡◌, ◌≢◌, ◌∙◌, ap, sym, subst, refl, arith, ℕ, List, [], ◌∷◌, ◌++◌, append_assoc, eqb-true}
+use Rattle.std.specs.Prelude.{◌+◌, Bool, true, false, ◌==◌, Option, Some, slice_get, slice_set}
 use Rattle.std.proofs.lemmas.Bool.{eqb-false}
 use Rattle.std.proofs.lemmas.List.{append-nil}
 use Rattle.std.proofs.lemmas.Option.{same_Some}
@@ -8,15 +8,14 @@ use Rattle.decl_core.specs.ObjectForm.{ObjectForm}
 use Rattle.apply_core.specs.History.{End}
 use Rattle.trace_core.specs.Events.{Called, Happened, history_of}
 use Rattle.live_core.specs.Epochs.{numbered_from}
-use Rattle.live_core.specs.Hall.{Every, IsHeld}
+use Rattle.live_core.specs.Hall.{Every}
 use Rattle.hold_form.specs.HoldForm.{RulesForm}
-use Rattle.hold_core.specs.Held.{HeldCall, MayUndo, is_loose}
+use Rattle.hold_core.specs.Held.{HeldCall, MayUndo}
 use Rattle.hold_core.proofs.Given.{each_given_once, never_more_given}
 use Rattle.replay_core.specs.Steps.{Step, told_by, happened_of}
 use Rattle.hosted_core.specs.Scene.{Scene}
-use Rattle.hosted_core.specs.Steps.{Steps}
 use Rattle.post_core.specs.Texts.{to}
-use Rattle.post_core.specs.Turns.{Asked, Turn, Runs}
+use Rattle.post_core.specs.Turns.{Asked}
 use Rattle.post_core.specs.Turns.Asked.{Heard, Noted, Changes}
 use Rattle.told_core.specs.Custody.{Custody, Custodies}
 use Rattle.told_core.specs.Deeds.{Texts}
@@ -27,14 +26,14 @@ use Rattle.table_core.specs.Moves.{Gives}
 use Rattle.table_core.specs.Seen.{seen}
 use Rattle.table_core.specs.declared.table.Table.{Table}
 use Rattle.kept_law.specs.Kept.{Stood}
-use Rattle.kept_law.specs.Replied.{AreTold, ends_in}
+use Rattle.kept_law.specs.Replied.{ends_in}
 use Rattle.kept_law.proofs.Going.{set_other, set_at, objects_stand}
-use Rattle.hold_law.specs.Ended.{ends_of, HoldsBy, EndsOver, HoldsOver, TurnsHold}
-use Rattle.hold_law.specs.Keeps.{AreApart, Keeps, KeepsAt, TurnsKeepHolds, GivenOnce, TurnsGiveOnce}
+use Rattle.hold_law.specs.Ended.{ends_of, HoldsBy, TurnsHold}
+use Rattle.hold_law.specs.Keeps.{AreApart, Keeps, KeepsAt, TurnsKeepHolds, TurnsGiveOnce}
 use Rattle.hold_law.proofs.Calling.{KeptNow, passes_keep}
 use Rattle.hold_law.proofs.Holding.{happened_by, steps_of, HeldNow, passes_hold, history_ends}
 use Rattle.hold_law.proofs.Once.{one_account}
-use Rattle.hold_law.proofs.Passing.{Passes, PassesAt, stays, heard_passes, noted_passes}
+use Rattle.hold_law.proofs.Passing.{Passes, PassesAt, heard_passes, noted_passes}
 
 -- an object passes a turn in which it begins no epoch, and just these calls have ended
 record Passed (old new : Table) (j : ℕ) (s : Scene) (steps : List Step) : Type 0 where

@@ -1,5 +1,5 @@
 -- What not everybody may give back is given back once, over any turns.
-use Rattle.std.specs.Prelude.{◌≡◌, ◌≢◌, ◌≤◌, ◌+◌, ℕ, false, List, Option, Some, None, slice_get}
+use Rattle.std.specs.Prelude.{◌≡◌, ◌≢◌, ◌≤◌, ◌+◌, ℕ, false, List, Some, None, slice_get}
 use Rattle.decl_core.specs.ObjectForm.{ObjectForm}
 use Rattle.path_tree.specs.Lexeme.{Lexeme}
 use Rattle.decl_core.specs.ObjectForm.{OperationForm}
@@ -15,7 +15,6 @@ use Rattle.told_core.specs.Custody.{Custody}
 use Rattle.said_law.specs.Said.{Account}
 use Rattle.table_core.specs.declared.table.Table.{Table}
 use Rattle.kept_law.specs.Kept.{Stood}
-use Rattle.kept_law.specs.Replied.{AreTold}
 use Rattle.hold_law.specs.Ended.{HoldsBy, EndsOver}
 
 -- each operation that ends a hold ends that one, and what is called again and again ends none

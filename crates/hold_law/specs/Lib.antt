@@ -3,3 +3,4 @@ pub mod Keeps
 pub mod Played
 pub mod Older
 pub mod Crashed
+pub mod Newest

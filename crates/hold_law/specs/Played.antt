@@ -1,8 +1,9 @@
 -- What a start plays is what was held.
-use Rattle.std.specs.Prelude.{◌≡◌, ℕ, ◌+◌, ◌<◌, ◌^◌, true, List, [], ◌∷◌, ◌++◌, Some, map, slice_get}
+use Rattle.std.specs.Prelude.{◌≡◌, ℕ, ◌+◌, ◌<◌, ◌^◌, true, List, [], ◌++◌, Some, map, slice_get}
 use Rattle.decl_core.specs.ObjectForm.{ObjectForm}
 use Rattle.trace_core.specs.Events.{Happened}
 use Rattle.front_core.specs.declared.front.CarriedCall.{CarriedCall}
+use Rattle.front_core.specs.declared.past.PastRun.{PastRun}
 use Rattle.front_core.specs.Front.{Opening, HasRows, Every}
 use Rattle.front_core.specs.Text.{front_text}
 use Rattle.hold_form.specs.HoldForm.{HoldForm, RulesForm}
@@ -14,15 +15,15 @@ use Rattle.recover_core.specs.declared.recover.House.{House}
 use Rattle.recover_core.specs.declared.recover.Recovered.{Recovered}
 use Rattle.recover_core.specs.Playing.{begun_by}
 use Rattle.recover_core.specs.Recovered.{IsBehind}
+use Rattle.hosted_core.specs.Fronts.{front_of}
 use Rattle.hosted_core.specs.Scene.{Scene}
 use Rattle.post_core.specs.Texts.{Begins}
 use Rattle.post_core.specs.Turns.{Turn, Runs, added_by}
 use Rattle.post_core.specs.Turns.Asked.{Changes}
 use Rattle.keep_loop.specs.Epochs.{BeginsNone}
-use Rattle.told_core.specs.Custody.{Custody}
 use Rattle.table_core.specs.Moves.{Gives}
 use Rattle.table_core.specs.declared.table.Table.{Table}
-use Rattle.kept_law.specs.Kept.{Stood}
+use Rattle.kept_law.specs.Kept.{Stood, IsServed}
 use Rattle.hold_law.specs.Ended.{ends_of, HoldsBy}
 
 -- A front gives the calls of an epoch the numbers by which they are told; all of these have 64 bits.
@@ -43,7 +44,7 @@ PlayedIsHeld =
 -- bytes. The text is a front, and the lines of what was held then, by what had happened; it says that this was held, where
 -- each line of it says something by itself; and what is played of it, and of what was found, is what the calls have left that
 -- are recovered.
-pub record LeavesHeld (before after : Table) (j : ℕ) (o : ObjectForm) (rules : RulesForm) (past : List Happened) (text found : List ℕ) : Type 0 where
+pub record LeavesHeld (after : Table) (j : ℕ) (o : ObjectForm) (rules : RulesForm) (past : List Happened) (text found : List ℕ) : Type 0 where
   pub holds : HoldsBy after j rules past
   pub scene : Scene
   pub there : slice_get after.objects.items j ≡ Some scene
@@ -57,4 +58,12 @@ abbrev pub NextLeavesHeld : Type 0
 NextLeavesHeld =
     (before after last : Table) (j : ℕ) (o : ObjectForm) (rules : RulesForm) (past : List Happened) (text found : List ℕ) (since : List Turn) →
     Gives before (Changes j text true) [] [] after → Runs Gives after since last → BeginsNone j since → Stood before j o → HoldsBy before j rules past →
-    Begins found (added_by j since) → LeavesHeld before after j o rules past text found
+    Begins found (added_by j since) → LeavesHeld after j o rules past text found
+
+-- So it is of the front that a start writes for an object, of which no call waits, and of the lines of what it then holds.
+abbrev pub StartLeavesHeld : Type 0
+StartLeavesHeld =
+    (t last : Table) (j : ℕ) (o : ObjectForm) (rules : RulesForm) (past : List Happened) (s : Scene) (events : List PastRun) (found : List ℕ) (since : List Turn) →
+    slice_get t.objects.items j ≡ Some s → IsServed t j o (front_of s s.epoch events s.base) since → s.hall.waiting ≡ [] → s.carried ≡ [] → Runs Gives t since last →
+    (h : HoldsBy t j rules past) → Begins found (added_by j since) →
+    LeavesHeld t j o rules past (front_text o (front_of s s.epoch events s.base) ++ held_text o rules.holds h.custody.held) found

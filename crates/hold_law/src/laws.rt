@@ -2,7 +2,8 @@
 
 ghost use Rattle.hold_law.specs.Ended.{TurnsHold};
 ghost use Rattle.hold_law.specs.Keeps.{ReadAreApart, TurnsKeepHolds, TurnsGiveOnce};
-ghost use Rattle.hold_law.specs.Played.{PlayedIsHeld, NextLeavesHeld};
+ghost use Rattle.hold_law.specs.Newest.{DueStays, DueGivesNewest};
+ghost use Rattle.hold_law.specs.Played.{PlayedIsHeld, NextLeavesHeld, StartLeavesHeld};
 ghost use Rattle.hold_law.specs.Older.{RecoveredIsOlder, LifeKeepsHolds};
 ghost use Rattle.hold_law.specs.Crashed.{CrashLeavesHeld};
 
@@ -40,6 +41,11 @@ pub fn next_leaves_held()
     ensures { NextLeavesHeld }
 {}
 
+/// So it is of the front that a start writes for an object, and of what the object then holds.
+pub fn start_leaves_held()
+    ensures { StartLeavesHeld }
+{}
+
 /// What is recovered behind a front is the first of what ended in these turns: all else ended later.
 pub fn recovered_is_older()
     ensures { RecoveredIsOlder }
@@ -54,4 +60,15 @@ pub fn life_keeps_holds()
 /// calls have left that had ended until then, and those that are recovered behind it.
 pub fn crash_leaves_held()
     ensures { CrashLeavesHeld }
+{}
+
+/// A call that gives back the newest that its session holds, and not everybody may give back, is due for the same hold while
+/// it waits, whichever calls of others end.
+pub fn due_stays()
+    ensures { DueStays }
+{}
+
+/// When it ends it has given back that hold, and no other.
+pub fn due_gives_newest()
+    ensures { DueGivesNewest }
 {}
