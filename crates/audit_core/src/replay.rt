@@ -103,10 +103,8 @@ fn is_done_so(
     if !all_fit(operation, parts) {
         return Ok(false);
     }
-    // The reply is looked at where it lies: it is a kilobyte.
-    let given = apply_all(alloc, operation, arguments, parts);
-    match &given {
-        Ok(given) => Ok(told.is_same(given)),
-        Err(_) => Err(AllocError),
+    match apply_all(alloc, operation, arguments, parts) {
+        Ok(given) => Ok(told.is_same(&given)),
+        Err(refused) => Err(refused),
     }
 }

@@ -1,6 +1,6 @@
 //! Words that are the same.
 
-ghost use Rattle.std.specs.Prelude.{◌≡◌, length};
+ghost use Rattle.std.specs.Prelude.{◌≡◌};
 ghost use Rattle.std.specs.Str.{bytes_eq};
 
 /// Whether two words are the same, byte by byte: for short ones, which most lines begin with.

@@ -13,4 +13,6 @@ pub apply_all-requires-clause-held : goal.apply_all-requires-clause-held
 apply_all-requires-clause-held c = subst (HoldsReads c.args.operation.now) c.deref.ensures.value (c.all_fit.ensures.0 c.if-not-all_fit.false)
 
 pub returns-in-Ok : goal.returns-in-Ok
-returns-in-Ok c = ?
+returns-in-Ok c =
+    judged c.args.operation.now c.args.arguments.now (told_view c.args.told.now) c.in-Ok.given c.args.parts.now.items c.apply_all.new.parts.items c.is_same.result
+    (record { tells = c.in-Ok.ensures.reply; leaves = c.in-Ok.ensures.parts; kinds = c.in-Ok.ensures.kinds }) c.is_same.ensures
