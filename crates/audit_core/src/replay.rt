@@ -65,6 +65,7 @@ fn is_of(value: &Value, kind: Option<Kind>) -> bool
 }
 
 // Whether there are as many parts as kinds, and each of these that is known is that of its part.
+#[tactic(auto, using(crate::proofs::Held::none_held, crate::proofs::Held::more_held))]
 fn are_held(kinds: &[Option<Kind>], parts: &[Value]) -> bool
     ensures { IsTrue result → (p : ℕ) → HoldsItsKind parts.now kinds.now p }
 {
@@ -77,6 +78,7 @@ fn are_held(kinds: &[Option<Kind>], parts: &[Value]) -> bool
 
 // Whether each part that the operation reads has a value of its kind. Mostly each part that it names has one, which is
 // seen without a look at its body.
+#[tactic(auto, using(crate::proofs::Held::reads_held))]
 fn all_fit(operation: &Operation, parts: &[Value]) -> bool
     ensures { IsTrue result ↔ HoldsReads operation.now parts.now }
 {
