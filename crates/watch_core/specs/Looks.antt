@@ -68,14 +68,14 @@ AreTallies h ends k (t ∷ ts) = IsTally h ends k t × AreTallies h ends (k + 1)
 -- What is told of an object, which so many have opened by a session, where so many seconds are told of the longest wait and
 -- so many calls are held: its name, how many numbers of the epoch are taken, how many of its calls neither ended nor wait, and
 -- each of its operations.
-pub record Shows (object : Scene) (tally : Option ObjectTally) (sessions longest held : ℕ) (seen : SeenObject) : Type 0 where
+pub record Shows (object : Scene) (tally : Option ObjectTally) (sessions longest kept : ℕ) (seen : SeenObject) : Type 0 where
   pub name : seen.name.items ≡ object.hall.object.name
   pub sat : seen.sessions ≡ sessions
   pub given : seen.given ≡ 65536 - left_of object.hall
   pub limit : seen.limit ≡ 65536
   pub cancelled : seen.cancelled ≡ taken_of tally - sum_of (ends_of tally) - length object.hall.waiting
   pub waited : seen.waited ≡ longest
-  pub held : seen.held ≡ held
+  pub held : seen.held ≡ kept
   pub operations : AreTallies object.hall (ends_of tally) 0 seen.operations.items
   pub all : length seen.operations.items ≡ length object.hall.object.operations.items
 
