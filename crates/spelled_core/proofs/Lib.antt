@@ -1,0 +1,4 @@
+pub mod Strips
+pub mod Theres
+pub mod Skips
+pub mod Cuts

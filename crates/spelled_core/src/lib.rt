@@ -1,0 +1,7 @@
+//! Values in the bytes that spell them: what stands where in the bytes, and bytes with a change in them.
+#![tactic(auto)]
+
+mod find;
+mod skip;
+mod splice;
+mod strip;
