@@ -2,3 +2,6 @@ pub mod Strips
 pub mod Theres
 pub mod Skips
 pub mod Cuts
+pub mod Shapes
+pub mod Queues
+pub mod Tables

@@ -1,5 +1,5 @@
 -- What stands at the front is passed by its length.
-use Rattle.std.proofs.Common.{◌≡◌, ℕ, ◌+◌, ◌<◌, ◌^◌, List, [], ◌++◌, ◌∷◌, drop, suc, zero, ◌≤◌, length, refl, sym, ap, ◌∙◌, subst, arith, length-append}
+use Rattle.std.proofs.Common.{◌≡◌, ℕ, ◌+◌, ◌<◌, ◌^◌, List, [], ◌++◌, ◌∷◌, drop, suc, zero, ◌≤◌, ◌-◌, length, refl, sym, ap, ◌∙◌, subst, arith, length-append}
 use Rattle.std.specs.Int.{w16, w32, to_be_bytes}
 use Rattle.std.specs.Prelude.{All}
 use Rattle.std.specs.List.{flat_map}
@@ -92,3 +92,9 @@ pub none_to_pass : (e : Elem) (bytes rest : List ℕ) (place count : ℕ) → Is
 none_to_pass e bytes rest place count so less none xs each spelled few =
     let at = stands_next e bytes rest place count so less xs each spelled few in
     none at.0 (flat_map spelled_datum (drop (place + 1) xs)) at.1 at.2
+
+-- the bytes before the end
+pub before_end : (bytes rest front first last : List ℕ) → bytes ≡ first ++ last → length first ≡ length bytes - length rest → bytes ≡ front ++ rest → first ≡ front
+before_end bytes rest front first last cut long parts =
+    let sum : length bytes ≡ length front + length rest = ap length parts ∙ length-append front rest in
+    (fronts first front last rest (omega (arith, long, sum)) (sym cut ∙ parts)).0

@@ -13,6 +13,12 @@ entries_of (array e xs) = map spelled_datum xs
 entries_of (queue e xs) = map spelled_datum xs
 entries_of (table e m) = map spelled_row (maps.entries m)
 
+-- the bytes behind the header
+abbrev pub behind_header : Contents → List ℕ
+behind_header (array e xs) = flat_map spelled_datum xs
+behind_header (queue e xs) = flat_map spelled_datum xs
+behind_header (table e m) = flat_map spelled_row (maps.entries m)
+
 -- bytes one behind the other
 abbrev pub joined : List (List ℕ) → List ℕ
 joined = flat_map (λ bytes. bytes)

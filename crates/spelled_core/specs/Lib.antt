@@ -1,3 +1,4 @@
 pub mod There
 pub mod Entries
 pub mod Cuts
+pub mod Remade

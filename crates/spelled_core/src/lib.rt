@@ -2,6 +2,9 @@
 #![tactic(auto)]
 
 mod find;
+mod header;
+pub mod queue;
 mod skip;
 mod splice;
 mod strip;
+pub mod table;

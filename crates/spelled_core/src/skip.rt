@@ -23,6 +23,14 @@ fn cut(bytes: &[u8], len: usize) -> (&[u8], &[u8])
     bytes.split_at(len)
 }
 
+/// The bytes before those that are the end of these.
+pub fn before<'a>(bytes: &'a [u8], rest: &[u8]) -> &'a [u8]
+    ensures { (front : List ℕ) → bytes.now ≡ front ++ rest.now → result.now ≡ front }
+{
+    let (front, _) = cut(bytes, bytes.len().saturating_sub(rest.len()));
+    front
+}
+
 /// The bytes of the text at the front, where one stands there, and what is behind it. It looks at its length alone.
 pub fn split_text(bytes: &[u8]) -> Option<(&[u8], &[u8])>
     ensures some { IfSome result (λ r. (text rest : List ℕ) → IsText text → bytes.now ≡ spelled_text text ++ rest →

@@ -1,6 +1,6 @@
 use Rattle.std.proofs.Common.{rules}
 use Rattle.known_core.proofs.Undoing.{one_more}
-use Rattle.known_core.proofs.act.erase.Goals as goal
+use Rattle.known_core.proofs.logged.erase.Goals as goal
 
 pub returns-clause-back : goal.returns-clause-back
 returns-clause-back c =

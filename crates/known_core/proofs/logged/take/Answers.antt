@@ -1,6 +1,6 @@
 use Rattle.std.proofs.Common.{rules}
 use Rattle.known_core.proofs.Undoing.{one_more}
-use Rattle.known_core.proofs.act.take.Goals as goal
+use Rattle.known_core.proofs.logged.take.Goals as goal
 
 pub returns-clause-back : goal.returns-clause-back
 returns-clause-back c =
