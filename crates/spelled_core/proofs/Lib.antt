@@ -5,3 +5,5 @@ pub mod Cuts
 pub mod Shapes
 pub mod Queues
 pub mod Tables
+pub mod Arrays
+pub mod Holding

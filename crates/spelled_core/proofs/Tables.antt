@@ -1,6 +1,6 @@
 -- What the operations on a table do to its bytes.
 use Rattle.std.proofs.Common.{◌≡◌, ℕ, suc, ◌+◌, ◌-◌, ◌<◌, ◌≤◌, Bool, true, false, cond, T, List, [], ◌∷◌, ◌++◌, Option, Some, None, length, Result, Ok, Err, IsOk, inl, inr, refl, sym, ap, ◌∙◌, subst, append_assoc, arith, length-append}
-use Rattle.std.specs.Prelude.{All, map, nat_lt, ◌||◌, ◌&&◌, if◌then◌else◌, is_some, ok_or}
+use Rattle.std.specs.Prelude.{All, map, nat_lt, ◌||◌, ◌&&◌, if◌then◌else◌, is_some, ok_or, IsTrue, IsFalse}
 use Rattle.std.specs.List.{flat_map, AllByRecursion}
 use Rattle.std.specs.List.Sorted.{IsStrictlySortedBy}
 use Rattle.std.specs.Map.{remove_entry}
@@ -275,3 +275,10 @@ module _ (bytes entries : List ℕ) (e : Elem) (count : ℕ) (key rest : List �
   new_ok d room =
       let t = rows_in bytes entries e count v is opened in
       subst IsOk (sym (ap (λ w. with_row w key d) t.1 ∙ one_fits t.0 (gap t.0 t.4) d t.3 room)) refl
+
+-- whether a table has a key
+pub has_is : (bytes entries : List ℕ) (e : Elem) (count : ℕ) (key rest value : List ℕ) (v : Contents) → Spells bytes (kind.Table e) v → IsOpened bytes count entries v → (b : Bool)
+    → (IsTrue b → (m : maps.FinMap text_cmp Datum) → SpellRows Second entries e count m → StandsIn (maps.entries m) key entries rest value)
+    → (IsFalse b → (m : maps.FinMap text_cmp Datum) → SpellRows Second entries e count m → GapIn (maps.entries m) key entries rest) → b ≡ has_key v key
+has_is bytes entries e count key rest value v is opened true stands gap = sym (is_there bytes entries e count key rest value (stands refl) v is opened)
+has_is bytes entries e count key rest value v is opened false stands gap = sym (is_missing bytes entries e count key rest (gap refl) v is opened)

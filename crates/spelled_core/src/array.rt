@@ -58,6 +58,8 @@ pub fn set(
     let Some(next) = skip(sort, rest) else {
         return Err(GrowFault::Refused(Refusal::Index));
     };
-    let out = with_datum(alloc, Kind::Array(count, sort), count, front, datum, next)?;
-    Ok(out)
+    match with_datum(alloc, Kind::Array(count, sort), count, front, datum, next) {
+        Ok(out) => Ok(out),
+        Err(_) => Err(GrowFault::Memory),
+    }
 }

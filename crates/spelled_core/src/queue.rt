@@ -42,12 +42,12 @@ pub fn take(alloc: Global, sort: Elem, bytes: &[u8]) -> Result<Vec<u8>, GrowFaul
     if count == 0 {
         return Err(GrowFault::Refused(Refusal::Empty));
     }
-    match skip(sort, entries) {
-        Some(rest) => {
-            let out = joined(alloc, Kind::Queue(sort), count.saturating_sub(1), &[], rest)?;
-            Ok(out)
-        }
-        None => Err(GrowFault::Refused(Refusal::Empty)),
+    let Some(rest) = skip(sort, entries) else {
+        return Err(GrowFault::Refused(Refusal::Empty));
+    };
+    match joined(alloc, Kind::Queue(sort), count - 1, &[], rest) {
+        Ok(out) => Ok(out),
+        Err(_) => Err(GrowFault::Memory),
     }
 }
 
@@ -64,6 +64,8 @@ pub fn append(alloc: Global, sort: Elem, bytes: &[u8], datum: &Datum) -> Result<
     if count >= MOST_ELEMENTS {
         return Err(GrowFault::Refused(Refusal::Full));
     }
-    let out = with_datum(alloc, Kind::Queue(sort), count + 1, entries, datum, &[])?;
-    Ok(out)
+    match with_datum(alloc, Kind::Queue(sort), count + 1, entries, datum, &[]) {
+        Ok(out) => Ok(out),
+        Err(_) => Err(GrowFault::Memory),
+    }
 }

@@ -87,7 +87,7 @@ pub fn skip(sort: Elem, bytes: &[u8]) -> Option<&[u8]>
 }
 
 /// What is behind so many elements, where there are so many.
-pub fn behind(sort: Elem, count: u16, bytes: &[u8]) -> &[u8]
+pub fn behind(sort: Elem, count: usize, bytes: &[u8]) -> &[u8]
     ensures { (xs : List Datum) → All (IsElement sort) xs → bytes.now ≡ flat_map spelled_datum xs →
         count ≤ length xs → result.now ≡ flat_map spelled_datum (drop count xs) }
 {

@@ -1,10 +1,11 @@
 //! A value that is held in the bytes that spell it.
 
 ghost use Rattle.std.specs.Prelude.{◌≡◌, IfOk, IsErrOf};
+ghost use Rattle.value_core.specs.declared.kind.Kind.TheVariants as kinds;
 ghost use Rattle.value_core.specs.Datum.{elem_of, IsElement};
 ghost use Rattle.value_core.specs.Kinds.{sort_of, IsArray, IsQueue, IsTable};
 ghost use Rattle.value_core.specs.Contents.{Contents, kind_of, IsContents};
-ghost use Rattle.value_core.specs.Meaning.{element_at, with_element, oldest_of, without_oldest};
+ghost use Rattle.value_core.specs.Meaning.{opening_of, element_at, with_element, oldest_of, without_oldest};
 ghost use Rattle.value_core.specs.Meaning.{with_newest, has_key, under_key, with_row, without_key, count_of};
 ghost use Rattle.value_core.specs.Spelling.{Spells};
 ghost use Rattle.spelled_core.specs.Remade.{Turned};
@@ -12,8 +13,9 @@ ghost use Rattle.spelled_core.specs.Remade.{Turned};
 use crate::array;
 use crate::header::{count, spell};
 use crate::queue;
+use crate::splice::joined;
 use crate::table;
-use std::alloc::Global;
+use std::alloc::{AllocError, Global};
 use std::marker::Model;
 use text_core::text::Text;
 use value_core::datum::Datum;
@@ -59,6 +61,17 @@ impl Spelled {
         Ok(Spelled { kind, bytes })
     }
 
+    /// The queue without an element.
+    pub fn none(alloc: Global, sort: Elem) -> Result<Spelled, AllocError>
+        ensures { IfOk result (λ s. s ≡ opening_of (kinds.Queue sort)) }
+    {
+        let bytes = joined(alloc, Kind::Queue(sort), 0, &[], &[])?;
+        Ok(Spelled {
+            kind: Kind::Queue(sort),
+            bytes,
+        })
+    }
+
     /// Its kind: an array's with its length.
     pub fn kind(&self) -> Kind
         ensures kind { result ≡ kind_of self.now }
@@ -83,7 +96,7 @@ impl Spelled {
 
     // What its entries are.
     fn sort(&self) -> Elem
-        ensures sort { result ≡ sort_of (kind_of self.now) }
+        ensures { result ≡ sort_of (kind_of self.now) }
     {
         self.kind.sort()
     }
@@ -113,9 +126,13 @@ impl Spelled {
         ensures change { Turned result (with_element self.old index datum.now) self.old self.new }
         ensures kind { kind_of self.new ≡ kind_of self.old }
     {
-        let bytes = array::set(*self.bytes.allocator(), self.sort(), &self.bytes, index, datum)?;
-        self.bytes = bytes;
-        Ok(())
+        match array::set(*self.bytes.allocator(), self.sort(), &self.bytes, index, datum) {
+            Ok(bytes) => {
+                self.bytes = bytes;
+                Ok(())
+            }
+            Err(fault) => Err(fault),
+        }
     }
 
     /// The oldest element of a queue. Refused `empty` where there is none.
@@ -134,9 +151,13 @@ impl Spelled {
         ensures change { Turned result (without_oldest self.old) self.old self.new }
         ensures kind { kind_of self.new ≡ kind_of self.old }
     {
-        let bytes = queue::take(*self.bytes.allocator(), self.sort(), &self.bytes)?;
-        self.bytes = bytes;
-        Ok(())
+        match queue::take(*self.bytes.allocator(), self.sort(), &self.bytes) {
+            Ok(bytes) => {
+                self.bytes = bytes;
+                Ok(())
+            }
+            Err(fault) => Err(fault),
+        }
     }
 
     /// Adds an element to a queue, as its newest. Refused `full` at 1,024 elements, then `Memory`; nothing changes in
@@ -147,9 +168,13 @@ impl Spelled {
         ensures change { Turned result (with_newest self.old datum.now) self.old self.new }
         ensures kind { kind_of self.new ≡ kind_of self.old }
     {
-        let bytes = queue::append(*self.bytes.allocator(), self.sort(), &self.bytes, datum)?;
-        self.bytes = bytes;
-        Ok(())
+        match queue::append(*self.bytes.allocator(), self.sort(), &self.bytes, datum) {
+            Ok(bytes) => {
+                self.bytes = bytes;
+                Ok(())
+            }
+            Err(fault) => Err(fault),
+        }
     }
 
     /// Whether a table has a key.
@@ -177,9 +202,13 @@ impl Spelled {
         ensures change { Turned result (with_row self.old key.now datum.now) self.old self.new }
         ensures kind { kind_of self.new ≡ kind_of self.old }
     {
-        let bytes = table::store(*self.bytes.allocator(), self.sort(), &self.bytes, key, datum)?;
-        self.bytes = bytes;
-        Ok(())
+        match table::store(*self.bytes.allocator(), self.sort(), &self.bytes, key, datum) {
+            Ok(bytes) => {
+                self.bytes = bytes;
+                Ok(())
+            }
+            Err(fault) => Err(fault),
+        }
     }
 
     /// Removes a key of a table. Refused `missing` where the table has no such key, then `Memory`; nothing changes in
@@ -189,8 +218,12 @@ impl Spelled {
         ensures change { Turned result (without_key self.old key.now) self.old self.new }
         ensures kind { kind_of self.new ≡ kind_of self.old }
     {
-        let bytes = table::erase(*self.bytes.allocator(), self.sort(), &self.bytes, key)?;
-        self.bytes = bytes;
-        Ok(())
+        match table::erase(*self.bytes.allocator(), self.sort(), &self.bytes, key) {
+            Ok(bytes) => {
+                self.bytes = bytes;
+                Ok(())
+            }
+            Err(fault) => Err(fault),
+        }
     }
 }

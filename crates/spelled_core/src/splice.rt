@@ -161,3 +161,19 @@ pub fn with_row(
     out.extend_from_slice(rest)?;
     Ok(out)
 }
+
+/// As `with_row`, in the place of another row.
+pub fn over_row(
+    alloc: Global,
+    kind: Kind,
+    count: u16,
+    front: &[u8],
+    key: &Text,
+    datum: &Datum,
+    rest: &[u8],
+) -> Result<Vec<u8>, AllocError>
+    ensures { IfOk result (λ out.
+        out.items ≡ ((header kind count ++ front.now) ++ spelled_row (key.now, datum.now)) ++ rest.now) }
+{
+    with_row(alloc, kind, count, front, key, datum, rest)
+}

@@ -12,10 +12,10 @@ ghost use Rattle.value_core.specs.Meaning.{has_key, under_key, with_row as with_
 ghost use Rattle.value_core.specs.Spelling.{Spells};
 ghost use Rattle.spelled_core.specs.Remade.{Remade};
 
-use crate::find::find;
+use crate::find::find_text;
 use crate::header::opened;
 use crate::skip::{before, datum_at, skip};
-use crate::splice::{joined, with_row};
+use crate::splice::{joined, over_row, with_row};
 use std::alloc::Global;
 use text_core::text::Text;
 use value_core::datum::Datum;
@@ -28,7 +28,7 @@ pub fn has(sort: Elem, bytes: &[u8], key: &Text) -> bool
     ensures { (v : Contents) → Spells bytes.now (kinds.Table sort) v → result ≡ has_key v key.now }
 {
     let (count, entries) = opened(bytes);
-    let (there, _, _) = find(sort, count, entries, key.bytes());
+    let (there, _, _) = find_text(sort, count, entries, key);
     there
 }
 
@@ -38,7 +38,7 @@ pub fn lookup(sort: Elem, bytes: &[u8], key: &Text) -> Result<Datum, Refusal>
     ensures sort { IfOk result (IsElement sort) }
 {
     let (count, entries) = opened(bytes);
-    let (there, _, value) = find(sort, count, entries, key.bytes());
+    let (there, _, value) = find_text(sort, count, entries, key);
     if !there {
         return Err(Refusal::Missing);
     }
@@ -61,24 +61,28 @@ pub fn store(
     ensures { (v : Contents) → Spells bytes.now (kinds.Table sort) v →
         Remade (kinds.Table sort) result (with_this v key.now datum.now) }
 {
-    // Called for its contract alone: this is a datum.
+    // Called for their contracts alone: this is a datum, and a key is a text.
     let _sort = datum.elem();
-    let text = key.bytes();
+    let _bytes = key.bytes();
     let (count, entries) = opened(bytes);
-    let (there, rest, value) = find(sort, count, entries, text);
+    let (there, rest, value) = find_text(sort, count, entries, key);
     let front = before(entries, rest);
     if there {
         let Some(next) = skip(sort, value) else {
             return Err(GrowFault::Refused(Refusal::Full));
         };
-        let out = with_row(alloc, Kind::Table(sort), count, front, key, datum, next)?;
-        return Ok(out);
+        return match over_row(alloc, Kind::Table(sort), count, front, key, datum, next) {
+            Ok(out) => Ok(out),
+            Err(_) => Err(GrowFault::Memory),
+        };
     }
     if count >= MOST_ELEMENTS {
         return Err(GrowFault::Refused(Refusal::Full));
     }
-    let out = with_row(alloc, Kind::Table(sort), count + 1, front, key, datum, rest)?;
-    Ok(out)
+    match with_row(alloc, Kind::Table(sort), count + 1, front, key, datum, rest) {
+        Ok(out) => Ok(out),
+        Err(_) => Err(GrowFault::Memory),
+    }
 }
 
 /// The bytes without a key of the table that these spell. Refused `missing` where the table has no such key, then
@@ -88,7 +92,7 @@ pub fn erase(alloc: Global, sort: Elem, bytes: &[u8], key: &Text) -> Result<Vec<
         Remade (kinds.Table sort) result (without_key v key.now) }
 {
     let (count, entries) = opened(bytes);
-    let (there, rest, value) = find(sort, count, entries, key.bytes());
+    let (there, rest, value) = find_text(sort, count, entries, key);
     if !there {
         return Err(GrowFault::Refused(Refusal::Missing));
     }
@@ -96,6 +100,8 @@ pub fn erase(alloc: Global, sort: Elem, bytes: &[u8], key: &Text) -> Result<Vec<
     let Some(next) = skip(sort, value) else {
         return Err(GrowFault::Refused(Refusal::Missing));
     };
-    let out = joined(alloc, Kind::Table(sort), count.saturating_sub(1), front, next)?;
-    Ok(out)
+    match joined(alloc, Kind::Table(sort), count.saturating_sub(1), front, next) {
+        Ok(out) => Ok(out),
+        Err(_) => Err(GrowFault::Memory),
+    }
 }

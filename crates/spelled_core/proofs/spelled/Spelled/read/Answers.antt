@@ -1,0 +1,12 @@
+use Rattle.std.proofs.Common.{sym, subst, rules}
+use Rattle.std.specs.Prelude.{IsTrue}
+use Rattle.value_core.specs.Spelling.{Spells}
+use Rattle.spelled_core.specs.There.{contents_there}
+use Rattle.spelled_core.proofs.Holding.{found}
+use Rattle.spelled_core.proofs.spelled.Spelled.read.Goals as goal
+
+pub invariant_of-result : goal.invariant_of-result
+invariant_of-result c =
+    let yes : IsTrue c.spell.result = search rules in
+    let one = c.spell.ensures.yes yes in
+    subst (λ b. Spells b c.args.kind (contents_there c.args.kind b)) (sym c.in_ok-bytes.ensures) (found c.args.kind c.args.bytes.now one.0 one.1)
