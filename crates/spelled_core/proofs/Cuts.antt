@@ -1,5 +1,5 @@
 -- A search for a key from the first row on, and what its place tells.
-use Rattle.std.proofs.Common.{◌≡◌, ℕ, zero, suc, ◌+◌, ◌<◌, Bool, true, false, cond, T, List, [], ◌∷◌, ◌++◌, Option, Some, None, length, refl, sym, ap, ◌∙◌, subst, append_assoc, arith, length-append}
+use Rattle.std.proofs.Common.{◌≡◌, ℕ, zero, suc, ◌+◌, ◌<◌, Bool, true, false, cond, T, List, [], ◌∷◌, ◌++◌, Option, Some, None, length, ◌⊎◌, inl, inr, refl, sym, ap, ◌∙◌, subst, append_assoc, arith, length-append}
 use Rattle.std.specs.Prelude.{All, is_some, ◌&&◌}
 use Rattle.std.specs.List.{flat_map}
 use Rattle.std.specs.declared.cmp.Ordering.{Ordering}
@@ -192,3 +192,50 @@ gap_behind e count key bytes rest place cut all m is =
       front = so.front;
       back = so.back;
     }
+
+-- a key stands among rows that rise, or has a gap there
+pub record Stands (rows : List (List ℕ × Datum)) (key : List ℕ) : Type 0 where
+  pub before : List (List ℕ × Datum)
+  pub d : Datum
+  pub later : List (List ℕ × Datum)
+  pub parts : rows ≡ before ++ (key, d) ∷ later
+  pub lower : All (IsLower key) before
+
+pub record Gap (rows : List (List ℕ × Datum)) (key : List ℕ) : Type 0 where
+  pub before : List (List ℕ × Datum)
+  pub later : List (List ℕ × Datum)
+  pub parts : rows ≡ before ++ later
+  pub lower : All (IsLower key) before
+  pub higher : All (IsHigher key) later
+
+stands_later : (r : List ℕ × Datum) (rows : List (List ℕ × Datum)) (key : List ℕ) → text_cmp r.0 key ≡ Less → Stands rows key → Stands (r ∷ rows) key
+stands_later r rows key less so = record {
+  before = r ∷ so.before; d = so.d; later = so.later;
+  parts = ap (λ (l : List (List ℕ × Datum)). r ∷ l) so.parts;
+  lower = All-cons (IsLower key) r so.before less so.lower;
+}
+
+gap_later : (r : List ℕ × Datum) (rows : List (List ℕ × Datum)) (key : List ℕ) → text_cmp r.0 key ≡ Less → Gap rows key → Gap (r ∷ rows) key
+gap_later r rows key less so = record {
+  before = r ∷ so.before; later = so.later;
+  parts = ap (λ (l : List (List ℕ × Datum)). r ∷ l) so.parts;
+  lower = All-cons (IsLower key) r so.before less so.lower;
+  higher = so.higher;
+}
+
+by_order_of : (r : List ℕ × Datum) (rows : List (List ℕ × Datum)) (key : List ℕ) → T (is_sorted text_cmp (r ∷ rows)) → (o : Ordering) → text_cmp r.0 key ≡ o → (Stands rows key ⊎ Gap rows key) → Stands (r ∷ rows) key ⊎ Gap (r ∷ rows) key
+by_order_of r rows key sorted Less is (inl so) = inl (stands_later r rows key is so)
+by_order_of r rows key sorted Less is (inr so) = inr (gap_later r rows key is so)
+by_order_of r rows key sorted Equal is later = inl (record {
+  before = []; d = r.1; later = rows;
+  parts = ap (λ (k : List ℕ). (k, r.1) ∷ rows) (exact_texts r.0 key is);
+  lower = All-nil (IsLower key);
+})
+by_order_of r rows key sorted Greater is later = inr (record {
+  before = []; later = r ∷ rows; parts = refl; lower = All-nil (IsLower key);
+  higher = above_first key r rows is sorted;
+})
+
+pub cut_rows : (rows : List (List ℕ × Datum)) (key : List ℕ) → T (is_sorted text_cmp rows) → Stands rows key ⊎ Gap rows key
+cut_rows [] key sorted = inr (record { before = []; later = []; parts = refl; lower = All-nil (IsLower key); higher = All-nil (IsHigher key) })
+cut_rows (r ∷ rows) key sorted = by_order_of r rows key sorted (text_cmp r.0 key) refl (cut_rows rows key (second_of _ _ sorted))

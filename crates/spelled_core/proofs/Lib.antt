@@ -7,3 +7,4 @@ pub mod Queues
 pub mod Tables
 pub mod Arrays
 pub mod Holding
+pub mod Splices

@@ -46,34 +46,34 @@ itself : (key : List ℕ) → text_cmp key key ≡ Equal
 itself key = tied_itself nat_list_cmp_total key
 
 -- a search passes lower keys,
-find_past : (key : List ℕ) (before rest : List (List ℕ × Datum)) → All (IsLower key) before → find text_cmp key (before ++ rest) ≡ find text_cmp key rest
+pub find_past : (key : List ℕ) (before rest : List (List ℕ × Datum)) → All (IsLower key) before → find text_cmp key (before ++ rest) ≡ find text_cmp key rest
 find_past key [] rest lower = refl
 find_past key (r ∷ before) rest lower =
     rw (turned r.0 key Less (head (IsLower key) r before lower)) (find_past key before rest (tail (IsLower key) r before lower))
 
 -- and ends at higher ones
-find_none : (key : List ℕ) (later : List (List ℕ × Datum)) → All (IsHigher key) later → find text_cmp key later ≡ None
+pub find_none : (key : List ℕ) (later : List (List ℕ × Datum)) → All (IsHigher key) later → find text_cmp key later ≡ None
 find_none key [] higher = refl
 find_none key (r ∷ later) higher =
     rw (turned r.0 key Greater (head (IsHigher key) r later higher)) (find_none key later (tail (IsHigher key) r later higher))
 
-find_here : (key : List ℕ) (d : Datum) (later : List (List ℕ × Datum)) → find text_cmp key ((key, d) ∷ later) ≡ Some d
+pub find_here : (key : List ℕ) (d : Datum) (later : List (List ℕ × Datum)) → find text_cmp key ((key, d) ∷ later) ≡ Some d
 find_here key d later = rw (itself key) refl
 
-put_past : (key : List ℕ) (v : Datum) (before rest : List (List ℕ × Datum)) → All (IsLower key) before → put text_cmp key v (before ++ rest) ≡ before ++ put text_cmp key v rest
+pub put_past : (key : List ℕ) (v : Datum) (before rest : List (List ℕ × Datum)) → All (IsLower key) before → put text_cmp key v (before ++ rest) ≡ before ++ put text_cmp key v rest
 put_past key v [] rest lower = refl
 put_past key v (r ∷ before) rest lower =
     ap (λ o. by_order o ((key, v) ∷ r ∷ before ++ rest) ((r.0, v) ∷ before ++ rest) (r ∷ put text_cmp key v (before ++ rest))) (turned r.0 key Less (head (IsLower key) r before lower))
     ∙ ap (λ (l : List (List ℕ × Datum)). r ∷ l) (put_past key v before rest (tail (IsLower key) r before lower))
 
-put_here : (key : List ℕ) (v d : Datum) (later : List (List ℕ × Datum)) → put text_cmp key v ((key, d) ∷ later) ≡ (key, v) ∷ later
+pub put_here : (key : List ℕ) (v d : Datum) (later : List (List ℕ × Datum)) → put text_cmp key v ((key, d) ∷ later) ≡ (key, v) ∷ later
 put_here key v d later = ap (λ o. by_order o ((key, v) ∷ (key, d) ∷ later) ((key, v) ∷ later) ((key, d) ∷ put text_cmp key v later)) (itself key)
 
-put_front : (key : List ℕ) (v : Datum) (later : List (List ℕ × Datum)) → All (IsHigher key) later → put text_cmp key v later ≡ (key, v) ∷ later
+pub put_front : (key : List ℕ) (v : Datum) (later : List (List ℕ × Datum)) → All (IsHigher key) later → put text_cmp key v later ≡ (key, v) ∷ later
 put_front key v [] higher = refl
 put_front key v (r ∷ later) higher = ap (λ o. by_order o ((key, v) ∷ r ∷ later) ((r.0, v) ∷ later) (r ∷ put text_cmp key v later)) (turned r.0 key Greater (head (IsHigher key) r later higher))
 
-remove_past : (key : List ℕ) (d : Datum) (before later : List (List ℕ × Datum)) → All (IsLower key) before → remove_entry (is_at (text_cmp key)) (before ++ (key, d) ∷ later) ≡ before ++ later
+pub remove_past : (key : List ℕ) (d : Datum) (before later : List (List ℕ × Datum)) → All (IsLower key) before → remove_entry (is_at (text_cmp key)) (before ++ (key, d) ∷ later) ≡ before ++ later
 remove_past key d [] later lower = rw (itself key) refl
 remove_past key d (r ∷ before) later lower =
     rw (turned r.0 key Less (head (IsLower key) r before lower)) (ap (λ (l : List (List ℕ × Datum)). r ∷ l) (remove_past key d before later (tail (IsLower key) r before lower)))
@@ -108,7 +108,7 @@ remade_map : (m : maps.FinMap text_cmp Datum) → maps.from_entries {R = text_cm
 remade_map m = maps.same_entries_map _ _ (in_order (λ d. d) (maps.entries m) (rise_of (maps.entries m) (maps.entries_sorted m)) ∙ same_data (maps.entries m))
 
 -- the rows without a key
-removed_entries : (m : maps.FinMap text_cmp Datum) (key : List ℕ) → maps.entries (maps.remove m key) ≡ remove_entry (is_at (text_cmp key)) (maps.entries m)
+pub removed_entries : (m : maps.FinMap text_cmp Datum) (key : List ℕ) → maps.entries (maps.remove m key) ≡ remove_entry (is_at (text_cmp key)) (maps.entries m)
 removed_entries m key =
     let es = maps.entries m in
     let rise = rise_of es (maps.entries_sorted m) in

@@ -4,6 +4,7 @@
 pub mod array;
 mod find;
 mod header;
+pub mod laws;
 pub mod queue;
 mod skip;
 pub mod spelled;
