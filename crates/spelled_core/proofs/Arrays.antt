@@ -80,10 +80,10 @@ module _ (bytes entries : List ℕ) (e : Elem) (count i : ℕ) (n : ℕ) (v : Co
     element_is : (a : ArrayIn bytes n e v) → IsElement e (at a).x
     element_is a = head (IsElement e) (at a).x (at a).later (each_behind (IsElement e) (at a).before ((at a).x ∷ (at a).later) (each_at a))
 
-    pub element_there : (d : Datum) → ((x : Datum) (r : List ℕ) → IsElement e x → rest ≡ spelled_datum x ++ r → d ≡ x) → Ok d ≡ element_at v i
+    pub element_there : (d : Datum) → ((x : Datum) (r : List ℕ) → IsElement e x → rest ≡ spelled_datum x ++ r → d ≡ x) → Ok {E = Refusal} d ≡ element_at v i
     element_there d read =
         let a = array_in bytes n e v is in
-        ap Ok (read (at a).x (flat_map spelled_datum (at a).later) (element_is a) (stands a)) ∙ sym (ap (λ w. element_at w i) a.is ∙ ap (λ o. ok_or o Index) (at a).got)
+        ap (λ (y : Datum). Ok {E = Refusal} y) (read (at a).x (flat_map spelled_datum (at a).later) (element_is a) (stands a)) ∙ sym (ap (λ w. element_at w i) a.is ∙ ap (λ o. ok_or o Index) (at a).got)
 
     pub some_there : ((x : Datum) (r : List ℕ) → IsElement e x → rest ≡ spelled_datum x ++ r → ⊥) → ⊥
     some_there none =

@@ -37,7 +37,7 @@ pub record First (bytes entries : List ℕ) (e : Elem) (v : Contents) : Type 0 w
   pub few : length (x ∷ later) ≤ most_elements
   pub front : entries ≡ spelled_datum x ++ flat_map spelled_datum later
 
-pub first_in : (bytes entries : List ℕ) (e : Elem) (count : ℕ) (v : Contents) → Spells bytes (kind.Queue e) v → IsOpened bytes count entries v → (count ≡ 0 → ⊥) → First bytes entries e v
+pub first_in : (bytes entries : List ℕ) (e : Elem) (count : ℕ) (v : Contents) → Spells bytes (kind.Queue e) v → IsOpened bytes count entries v → 0 < count → First bytes entries e v
 first_in bytes entries e count v is opened some =
     let q = queue_in bytes e v is in
     let long : count ≡ length q.xs = opened.0 ∙ q.count in
@@ -65,28 +65,25 @@ oldest_none bytes entries e count v is opened none = ap oldest_of (none_oldest b
 pub taken_none : (bytes entries : List ℕ) (e : Elem) (count : ℕ) (v : Contents) → Spells bytes (kind.Queue e) v → IsOpened bytes count entries v → count ≡ 0 → without_oldest v ≡ Err Empty
 taken_none bytes entries e count v is opened none = ap without_oldest (none_oldest bytes entries e count v is opened none)
 
-pub oldest_is : (bytes entries : List ℕ) (e : Elem) (count : ℕ) (d : Datum) (v : Contents) → Spells bytes (kind.Queue e) v → IsOpened bytes count entries v → (count ≡ 0 → ⊥)
-    → ((x : Datum) (r : List ℕ) → IsElement e x → entries ≡ spelled_datum x ++ r → d ≡ x) → Ok d ≡ oldest_of v
+pub oldest_is : (bytes entries : List ℕ) (e : Elem) (count : ℕ) (d : Datum) (v : Contents) → Spells bytes (kind.Queue e) v → IsOpened bytes count entries v → 0 < count
+    → ((x : Datum) (r : List ℕ) → IsElement e x → entries ≡ spelled_datum x ++ r → d ≡ x) → Ok {E = Refusal} d ≡ oldest_of v
 oldest_is bytes entries e count d v is opened some read =
     let f = first_in bytes entries e count v is opened some in
-    ap Ok (read f.x (flat_map spelled_datum f.later) (head (IsElement e) f.x f.later f.each) f.front) ∙ sym (ap oldest_of f.value)
+    ap (λ (y : Datum). Ok {E = Refusal} y) (read f.x (flat_map spelled_datum f.later) (head (IsElement e) f.x f.later f.each) f.front) ∙ sym (ap oldest_of f.value)
 
 -- an element stands at the front of a queue that has some
-pub no_oldest : (bytes entries : List ℕ) (e : Elem) (count : ℕ) (v : Contents) → Spells bytes (kind.Queue e) v → IsOpened bytes count entries v → (count ≡ 0 → ⊥)
+pub no_oldest : (bytes entries : List ℕ) (e : Elem) (count : ℕ) (v : Contents) → Spells bytes (kind.Queue e) v → IsOpened bytes count entries v → 0 < count
     → ((x : Datum) (r : List ℕ) → IsElement e x → entries ≡ spelled_datum x ++ r → ⊥) → ⊥
 no_oldest bytes entries e count v is opened some none =
     let f = first_in bytes entries e count v is opened some in
     none f.x (flat_map spelled_datum f.later) (head (IsElement e) f.x f.later f.each) f.front
-
-one_some : (n : ℕ) → nat_lt 0 (n + 1) ≡ true
-one_some n = is_less 0 (n + 1) (omega arith)
 
 taken_value : (e : Elem) (x : Datum) (later : List Datum) → without_oldest (queue e (x ∷ later)) ≡ Ok (queue e later)
 taken_value e x later =
     ap (λ b. if b then Ok {E = Refusal} (queue e later) else Err Empty) (is_less 0 (length (x ∷ later)) (omega arith))
 
 -- without the oldest
-pub taken : (bytes entries rest out : List ℕ) (e : Elem) (count : ℕ) (v : Contents) → Spells bytes (kind.Queue e) v → IsOpened bytes count entries v → (count ≡ 0 → ⊥)
+pub taken : (bytes entries rest out : List ℕ) (e : Elem) (count : ℕ) (v : Contents) → Spells bytes (kind.Queue e) v → IsOpened bytes count entries v → 0 < count
     → ((x : Datum) (r : List ℕ) → IsElement e x → entries ≡ spelled_datum x ++ r → rest ≡ r) → out ≡ (header (kind.Queue e) (count - 1) ++ []) ++ rest → SpellNew (kind.Queue e) out (without_oldest v)
 taken bytes entries rest out e count v is opened some skipped made =
     let f = first_in bytes entries e count v is opened some in
@@ -96,7 +93,7 @@ taken bytes entries rest out e count v is opened some skipped made =
       queue_spells out e (count - 1) f.later (tail (IsElement e) f.x f.later f.each) (omega (arith, f.few)) many
       (made ∙ (λ i. append-nil (header (kind.Queue e) (count - 1)) i ++ behind i)))
 
-pub taken_ok : (bytes entries : List ℕ) (e : Elem) (count : ℕ) (v : Contents) → Spells bytes (kind.Queue e) v → IsOpened bytes count entries v → (count ≡ 0 → ⊥) → IsOk (without_oldest v)
+pub taken_ok : (bytes entries : List ℕ) (e : Elem) (count : ℕ) (v : Contents) → Spells bytes (kind.Queue e) v → IsOpened bytes count entries v → 0 < count → IsOk (without_oldest v)
 taken_ok bytes entries e count v is opened some =
     let f = first_in bytes entries e count v is opened some in
     subst IsOk (sym (ap without_oldest f.value ∙ taken_value e f.x f.later)) refl

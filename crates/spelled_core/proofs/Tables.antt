@@ -141,12 +141,12 @@ module _ (bytes entries : List ℕ) (e : Elem) (count : ℕ) (key rest value : L
       let t = rows_in bytes entries e count v is opened in
       ap (λ w. has_key w key) t.1 ∙ has_it t.0 (stands t.0 t.4)
 
-  pub under_it : (d : Datum) → ((x : Datum) (r : List ℕ) → IsElement e x → value ≡ spelled_datum x ++ r → d ≡ x) → under_key v key ≡ Ok d
+  pub under_it : (d : Datum) → ((x : Datum) (r : List ℕ) → IsElement e x → value ≡ spelled_datum x ++ r → d ≡ x) → under_key v key ≡ Ok {E = Refusal} d
   under_it d read =
       let t = rows_in bytes entries e count v is opened in
       let so = stands t.0 t.4 in
       let same : d ≡ so.d = read so.d (flat_map spelled_row so.later) (element t.0 so t.2) so.back in
-      ap (λ w. under_key w key) t.1 ∙ ap (λ o. ok_or o Missing) (got t.0 so) ∙ ap Ok (sym same)
+      ap (λ w. under_key w key) t.1 ∙ ap (λ o. ok_or o Missing) (got t.0 so) ∙ ap (λ (y : Datum). Ok {E = Refusal} y) (sym same)
 
   pub no_value_there : ((x : Datum) (r : List ℕ) → IsElement e x → value ≡ spelled_datum x ++ r → ⊥) → ⊥
   no_value_there none =
