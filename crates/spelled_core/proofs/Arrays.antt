@@ -16,7 +16,7 @@ use Rattle.value_core.specs.Meaning.{element_at, with_element}
 use Rattle.value_core.specs.Spelling.{spelled_datum, header, Spells}
 use Rattle.value_core.proofs.TableRows.{head, tail}
 use Rattle.spelled_core.specs.Remade.{SpellNew}
-use Rattle.spelled_core.proofs.Shapes.{ArrayIn, array_in, array_spells, is_less, not_less}
+use Rattle.spelled_core.proofs.Shapes.{ArrayIn, array_in, array_spells, is_less, not_less, ok_of}
 use Rattle.spelled_core.proofs.Queues.{IsOpened}
 
 -- a list around one of its places
@@ -64,7 +64,7 @@ module _ (bytes entries : List ℕ) (e : Elem) (count i : ℕ) (n : ℕ) (v : Co
   pub none_put : (d : Datum) → count ≤ i → with_element v i d ≡ Err Index
   none_put d past =
       let a = array_in bytes n e v is in
-      ap (λ w. with_element w i d) a.is ∙ ap (λ b. if b then Ok {E = Refusal} (array e (slice_set a.xs i d)) else Err Index) (not_less i (length a.xs) (omega (arith, past, long a)))
+      ap (λ w. with_element w i d) a.is ∙ ap (λ b. if b then ok_of (array e (slice_set a.xs i d)) else Err Index) (not_less i (length a.xs) (omega (arith, past, long a)))
 
   -- what is behind so many elements begins with the one at the index
   module _ (inside : i < count) (rest : List ℕ) (passed : (xs : List Datum) → All (IsElement e) xs → entries ≡ flat_map spelled_datum xs → i ≤ length xs → rest ≡ flat_map spelled_datum (drop i xs)) where
@@ -80,10 +80,10 @@ module _ (bytes entries : List ℕ) (e : Elem) (count i : ℕ) (n : ℕ) (v : Co
     element_is : (a : ArrayIn bytes n e v) → IsElement e (at a).x
     element_is a = head (IsElement e) (at a).x (at a).later (each_behind (IsElement e) (at a).before ((at a).x ∷ (at a).later) (each_at a))
 
-    pub element_there : (d : Datum) → ((x : Datum) (r : List ℕ) → IsElement e x → rest ≡ spelled_datum x ++ r → d ≡ x) → Ok {E = Refusal} d ≡ element_at v i
+    pub element_there : (d : Datum) → ((x : Datum) (r : List ℕ) → IsElement e x → rest ≡ spelled_datum x ++ r → d ≡ x) → ok_of d ≡ element_at v i
     element_there d read =
         let a = array_in bytes n e v is in
-        ap (λ (y : Datum). Ok {E = Refusal} y) (read (at a).x (flat_map spelled_datum (at a).later) (element_is a) (stands a)) ∙ sym (ap (λ w. element_at w i) a.is ∙ ap (λ o. ok_or o Index) (at a).got)
+        ap (λ (y : Datum). ok_of y) (read (at a).x (flat_map spelled_datum (at a).later) (element_is a) (stands a)) ∙ sym (ap (λ w. element_at w i) a.is ∙ ap (λ o. ok_or o Index) (at a).got)
 
     pub some_there : ((x : Datum) (r : List ℕ) → IsElement e x → rest ≡ spelled_datum x ++ r → ⊥) → ⊥
     some_there none =
@@ -91,7 +91,7 @@ module _ (bytes entries : List ℕ) (e : Elem) (count i : ℕ) (n : ℕ) (v : Co
         none (at a).x (flat_map spelled_datum (at a).later) (element_is a) (stands a)
 
     put_value : (a : ArrayIn bytes n e v) (d : Datum) → with_element v i d ≡ Ok (array e (slice_set a.xs i d))
-    put_value a d = ap (λ w. with_element w i d) a.is ∙ ap (λ b. if b then Ok {E = Refusal} (array e (slice_set a.xs i d)) else Err Index) (is_less i (length a.xs) (omega (arith, inside, long a)))
+    put_value a d = ap (λ w. with_element w i d) a.is ∙ ap (λ b. if b then ok_of (array e (slice_set a.xs i d)) else Err Index) (is_less i (length a.xs) (omega (arith, inside, long a)))
 
     pub put_ok : (d : Datum) → IsOk (with_element v i d)
     put_ok d = let a = array_in bytes n e v is in subst IsOk (sym (put_value a d)) refl
@@ -107,7 +107,7 @@ module _ (bytes entries : List ℕ) (e : Elem) (count i : ℕ) (n : ℕ) (v : Co
         let next_is : next ≡ flat_map spelled_datum so.later = skipped so.x (flat_map spelled_datum so.later) (element_is a) (stands a) in
         let same : length xs ≡ length a.xs = omega (arith, length-append so.before (d ∷ so.later), length-append so.before (so.x ∷ so.later), ap length so.parts) in
         let count_is : count ≡ n = long a ∙ a.long in
-        (array e xs, put_value a d ∙ ap (λ (l : List Datum). Ok {E = Refusal} (array e l)) (so.put d),
+        (array e xs, put_value a d ∙ ap (λ (l : List Datum). ok_of (array e l)) (so.put d),
           array_spells out n e xs (each_put (IsElement e) so.before so.later so.x d (each_at a) element) (omega (arith, same, a.few)) (same ∙ a.long)
           (made ∙ put_together (header (kind.Array count e) count) front next so.before so.later d front_is next_is ∙ ap (λ c. header (kind.Array c e) c ++ flat_map spelled_datum xs) count_is))
       where

@@ -18,7 +18,7 @@ use Rattle.value_core.proofs.TableRows.{head, tail}
 use Rattle.value_core.proofs.Decoding.{All-push, length-push}
 use Rattle.spelled_core.specs.Entries.{behind_header}
 use Rattle.spelled_core.specs.Remade.{SpellNew}
-use Rattle.spelled_core.proofs.Shapes.{QueueIn, queue_in, queue_spells, is_less, not_less}
+use Rattle.spelled_core.proofs.Shapes.{QueueIn, queue_in, queue_spells, is_less, not_less, ok_of}
 
 -- what the header told
 abbrev pub IsOpened : List ℕ → ℕ → List ℕ → Contents → Type 0
@@ -66,10 +66,10 @@ pub taken_none : (bytes entries : List ℕ) (e : Elem) (count : ℕ) (v : Conten
 taken_none bytes entries e count v is opened none = ap without_oldest (none_oldest bytes entries e count v is opened none)
 
 pub oldest_is : (bytes entries : List ℕ) (e : Elem) (count : ℕ) (d : Datum) (v : Contents) → Spells bytes (kind.Queue e) v → IsOpened bytes count entries v → 0 < count
-    → ((x : Datum) (r : List ℕ) → IsElement e x → entries ≡ spelled_datum x ++ r → d ≡ x) → Ok {E = Refusal} d ≡ oldest_of v
+    → ((x : Datum) (r : List ℕ) → IsElement e x → entries ≡ spelled_datum x ++ r → d ≡ x) → ok_of d ≡ oldest_of v
 oldest_is bytes entries e count d v is opened some read =
     let f = first_in bytes entries e count v is opened some in
-    ap (λ (y : Datum). Ok {E = Refusal} y) (read f.x (flat_map spelled_datum f.later) (head (IsElement e) f.x f.later f.each) f.front) ∙ sym (ap oldest_of f.value)
+    ap (λ (y : Datum). ok_of y) (read f.x (flat_map spelled_datum f.later) (head (IsElement e) f.x f.later f.each) f.front) ∙ sym (ap oldest_of f.value)
 
 -- an element stands at the front of a queue that has some
 pub no_oldest : (bytes entries : List ℕ) (e : Elem) (count : ℕ) (v : Contents) → Spells bytes (kind.Queue e) v → IsOpened bytes count entries v → 0 < count
@@ -80,7 +80,7 @@ no_oldest bytes entries e count v is opened some none =
 
 taken_value : (e : Elem) (x : Datum) (later : List Datum) → without_oldest (queue e (x ∷ later)) ≡ Ok (queue e later)
 taken_value e x later =
-    ap (λ b. if b then Ok {E = Refusal} (queue e later) else Err Empty) (is_less 0 (length (x ∷ later)) (omega arith))
+    ap (λ b. if b then ok_of (queue e later) else Err Empty) (is_less 0 (length (x ∷ later)) (omega arith))
 
 -- without the oldest
 pub taken : (bytes entries rest out : List ℕ) (e : Elem) (count : ℕ) (v : Contents) → Spells bytes (kind.Queue e) v → IsOpened bytes count entries v → 0 < count
@@ -99,7 +99,7 @@ taken_ok bytes entries e count v is opened some =
     subst IsOk (sym (ap without_oldest f.value ∙ taken_value e f.x f.later)) refl
 
 added_value : (e : Elem) (xs : List Datum) (d : Datum) → length xs < most_elements → with_newest (queue e xs) d ≡ Ok (queue e (xs ++ d ∷ []))
-added_value e xs d room = ap (λ b. if b then Ok {E = Refusal} (queue e (xs ++ d ∷ [])) else Err Full) (is_less (length xs) most_elements room)
+added_value e xs d room = ap (λ b. if b then ok_of (queue e (xs ++ d ∷ [])) else Err Full) (is_less (length xs) most_elements room)
 
 -- with one more
 pub added : (bytes entries out : List ℕ) (e : Elem) (count : ℕ) (d : Datum) (v : Contents) → Spells bytes (kind.Queue e) v → IsOpened bytes count entries v → count < most_elements → IsElement e d
@@ -124,4 +124,4 @@ pub added_full : (bytes entries : List ℕ) (e : Elem) (count : ℕ) (d : Datum)
 added_full bytes entries e count d v is opened full =
     let q = queue_in bytes e v is in
     let long : count ≡ length q.xs = opened.0 ∙ q.count in
-    ap (λ w. with_newest w d) q.is ∙ ap (λ b. if b then Ok {E = Refusal} (queue e (q.xs ++ d ∷ [])) else Err Full) (not_less (length q.xs) most_elements (omega (arith, full, long)))
+    ap (λ w. with_newest w d) q.is ∙ ap (λ b. if b then ok_of (queue e (q.xs ++ d ∷ [])) else Err Full) (not_less (length q.xs) most_elements (omega (arith, full, long)))

@@ -1,5 +1,5 @@
 -- A spelling is its header, and the bytes behind it.
-use Rattle.std.proofs.Common.{◌≡◌, ℕ, ◌+◌, ◌<◌, ◌≤◌, ◌^◌, Bool, true, false, List, [], ◌∷◌, ◌++◌, length, drop, refl, sym, ap, ◌∙◌, subst, arith}
+use Rattle.std.proofs.Common.{◌≡◌, ℕ, ◌+◌, ◌<◌, ◌≤◌, ◌^◌, Bool, true, false, List, [], ◌∷◌, ◌++◌, length, drop, Result, Ok, refl, sym, ap, ◌∙◌, subst, arith}
 use Rattle.std.specs.Prelude.{All, nat_lt}
 use Rattle.std.specs.List.{flat_map}
 use Rattle.std.specs.Int.{w16, to_be_bytes}
@@ -11,6 +11,7 @@ use Rattle.value_core.specs.declared.datum.Datum.{Datum}
 use Rattle.value_core.specs.declared.kind.Elem.{Elem}
 use Rattle.value_core.specs.declared.kind.Kind.{Kind}
 use Rattle.value_core.specs.declared.kind.Kind.TheVariants as kind
+use Rattle.value_core.specs.declared.refusal.Refusal.{Refusal}
 use Rattle.value_core.specs.Kinds.{sort_of}
 use Rattle.value_core.specs.Limits.{most_elements}
 use Rattle.value_core.specs.Datum.{IsElement}
@@ -172,3 +173,7 @@ is_less m n less = grind (arith, nat_tests)
 
 pub not_less : (m n : ℕ) → n ≤ m → nat_lt m n ≡ false
 not_less m n less = grind (arith, nat_tests)
+
+-- an operation that was not refused
+abbrev pub ok_of : {A : Type 0} → A → Result A Refusal
+ok_of x = Ok x

@@ -22,6 +22,7 @@ use Rattle.value_core.specs.Meaning.{with_element, without_oldest, with_newest, 
 use Rattle.value_core.specs.Spelling.{spelled_datum, spelled_row, header, spelling}
 use Rattle.spelled_core.specs.Entries.{entries_of, joined, SpelledByEntries, spliced, IsSplice, ChangesAreSplices}
 use Rattle.spelled_core.proofs.Cuts.{Stands, Gap, cut_rows}
+use Rattle.spelled_core.proofs.Shapes.{ok_of}
 use Rattle.spelled_core.proofs.Arrays.{Around, around}
 use Rattle.spelled_core.proofs.Tables.{find_past, find_none, put_past, put_here, put_front, remove_past, removed_entries}
 
@@ -49,7 +50,7 @@ splice_of old new count before mid put later many was is =
     record {
       place = length before;
       inside = omega (arith, far, ap length whole, length-append (before ++ mid) later);
-      entries = is ∙ (λ i. sym front i ++ (put ++ sym back i));
+      entries = is ∙ sym (append_assoc before put later) ∙ (λ i. (sym front i ++ put) ++ sym back i);
     }
 
 module _ {X : Type 0} (f : X → List ℕ) where
@@ -61,7 +62,7 @@ module _ {X : Type 0} (f : X → List ℕ) where
       splice_of old new count (map f before) (map f mid) (map f put) (map f later) (many ∙ sym (length-map mid f)) (was ∙ parted before mid later) (is ∙ parted before put later)
 
 -- what was done was not refused
-of_if : {A : Type 0} (b : Bool) (x new : A) (w : Refusal) → (if b then Ok {E = Refusal} x else Err w) ≡ Ok new → (b ≡ true) × (x ≡ new)
+of_if : {A : Type 0} (b : Bool) (x new : A) (w : Refusal) → (if b then ok_of x else Err w) ≡ Ok new → (b ≡ true) × (x ≡ new)
 of_if true x new w is = (refl, cc)
 of_if false x new w is = absurd cc
 

@@ -36,7 +36,7 @@ use Rattle.value_core.proofs.Placing.{erased_row, rise_removed}
 use Rattle.spelled_core.specs.Entries.{behind_header}
 use Rattle.spelled_core.specs.Cuts.{IsLower, IsHigher, StandsIn, GapIn}
 use Rattle.spelled_core.specs.Remade.{SpellNew}
-use Rattle.spelled_core.proofs.Shapes.{TableIn, table_in, table_spells, is_less, not_less}
+use Rattle.spelled_core.proofs.Shapes.{TableIn, table_in, table_spells, is_less, not_less, ok_of}
 use Rattle.spelled_core.proofs.Queues.{IsOpened}
 
 turned : (x y : List ℕ) (o : Ordering) → text_cmp x y ≡ o → text_cmp y x ≡ ordering_reverse o
@@ -141,12 +141,12 @@ module _ (bytes entries : List ℕ) (e : Elem) (count : ℕ) (key rest value : L
       let t = rows_in bytes entries e count v is opened in
       ap (λ w. has_key w key) t.1 ∙ has_it t.0 (stands t.0 t.4)
 
-  pub under_it : (d : Datum) → ((x : Datum) (r : List ℕ) → IsElement e x → value ≡ spelled_datum x ++ r → d ≡ x) → under_key v key ≡ Ok {E = Refusal} d
+  pub under_it : (d : Datum) → ((x : Datum) (r : List ℕ) → IsElement e x → value ≡ spelled_datum x ++ r → d ≡ x) → under_key v key ≡ ok_of d
   under_it d read =
       let t = rows_in bytes entries e count v is opened in
       let so = stands t.0 t.4 in
       let same : d ≡ so.d = read so.d (flat_map spelled_row so.later) (element t.0 so t.2) so.back in
-      ap (λ w. under_key w key) t.1 ∙ ap (λ o. ok_or o Missing) (got t.0 so) ∙ ap (λ (y : Datum). Ok {E = Refusal} y) (sym same)
+      ap (λ w. under_key w key) t.1 ∙ ap (λ o. ok_or o Missing) (got t.0 so) ∙ ap (λ (y : Datum). ok_of y) (sym same)
 
   pub no_value_there : ((x : Datum) (r : List ℕ) → IsElement e x → value ≡ spelled_datum x ++ r → ⊥) → ⊥
   no_value_there none =
@@ -155,7 +155,7 @@ module _ (bytes entries : List ℕ) (e : Elem) (count : ℕ) (key rest value : L
       none so.d (flat_map spelled_row so.later) (element t.0 so t.2) so.back
 
   over_value : (m : maps.FinMap text_cmp Datum) (so : StandsIn (maps.entries m) key entries rest value) (d : Datum) → with_row (table e m) key d ≡ Ok (table e (maps.insert m key d))
-  over_value m so d = ap (λ b. if b || nat_lt (maps.len m) most_elements then Ok {E = Refusal} (table e (maps.insert m key d)) else Err Full) (has_it m so)
+  over_value m so d = ap (λ b. if b || nat_lt (maps.len m) most_elements then ok_of (table e (maps.insert m key d)) else Err Full) (has_it m so)
 
   pub over : (front next out : List ℕ) (d : Datum) → IsRow e (key, d) → ((f : List ℕ) → entries ≡ f ++ rest → front ≡ f) → ((x : Datum) (r : List ℕ) → IsElement e x → value ≡ spelled_datum x ++ r → next ≡ r)
       → out ≡ ((header (kind.Table e) count ++ front) ++ spelled_row (key, d)) ++ next → SpellNew (kind.Table e) out (with_row v key d)
@@ -184,7 +184,7 @@ module _ (bytes entries : List ℕ) (e : Elem) (count : ℕ) (key rest value : L
       subst IsOk (sym (ap (λ w. with_row w key d) t.1 ∙ over_value t.0 (stands t.0 t.4) d)) refl
 
   gone_value : (m : maps.FinMap text_cmp Datum) (so : StandsIn (maps.entries m) key entries rest value) → without_key (table e m) key ≡ Ok (table e (maps.remove m key))
-  gone_value m so = ap (λ b. if b then Ok {E = Refusal} (table e (maps.remove m key)) else Err Missing) (has_it m so)
+  gone_value m so = ap (λ b. if b then ok_of (table e (maps.remove m key)) else Err Missing) (has_it m so)
 
   pub gone : (front next out : List ℕ) → ((f : List ℕ) → entries ≡ f ++ rest → front ≡ f) → ((x : Datum) (r : List ℕ) → IsElement e x → value ≡ spelled_datum x ++ r → next ≡ r)
       → out ≡ (header (kind.Table e) (count - 1) ++ front) ++ next → SpellNew (kind.Table e) out (without_key v key)
@@ -237,18 +237,18 @@ module _ (bytes entries : List ℕ) (e : Elem) (count : ℕ) (key rest : List �
   pub none_gone : without_key v key ≡ Err Missing
   none_gone =
       let t = rows_in bytes entries e count v is opened in
-      ap (λ w. without_key w key) t.1 ∙ ap (λ b. if b then Ok {E = Refusal} (table e (maps.remove t.0 key)) else Err Missing) (has_none t.0 (gap t.0 t.4))
+      ap (λ w. without_key w key) t.1 ∙ ap (λ b. if b then ok_of (table e (maps.remove t.0 key)) else Err Missing) (has_none t.0 (gap t.0 t.4))
 
-  new_value : (m : maps.FinMap text_cmp Datum) (so : GapIn (maps.entries m) key entries rest) (d : Datum) → with_row (table e m) key d ≡ (if nat_lt (maps.len m) most_elements then Ok {E = Refusal} (table e (maps.insert m key d)) else Err Full)
-  new_value m so d = ap (λ b. if b || nat_lt (maps.len m) most_elements then Ok {E = Refusal} (table e (maps.insert m key d)) else Err Full) (has_none m so)
+  new_value : (m : maps.FinMap text_cmp Datum) (so : GapIn (maps.entries m) key entries rest) (d : Datum) → with_row (table e m) key d ≡ (if nat_lt (maps.len m) most_elements then ok_of (table e (maps.insert m key d)) else Err Full)
+  new_value m so d = ap (λ b. if b || nat_lt (maps.len m) most_elements then ok_of (table e (maps.insert m key d)) else Err Full) (has_none m so)
 
   pub none_fits : (d : Datum) → most_elements ≤ count → with_row v key d ≡ Err Full
   none_fits d full =
       let t = rows_in bytes entries e count v is opened in
-      ap (λ w. with_row w key d) t.1 ∙ new_value t.0 (gap t.0 t.4) d ∙ ap (λ b. if b then Ok {E = Refusal} (table e (maps.insert t.0 key d)) else Err Full) (not_less (maps.len t.0) most_elements (omega (arith, full, t.3)))
+      ap (λ w. with_row w key d) t.1 ∙ new_value t.0 (gap t.0 t.4) d ∙ ap (λ b. if b then ok_of (table e (maps.insert t.0 key d)) else Err Full) (not_less (maps.len t.0) most_elements (omega (arith, full, t.3)))
 
   one_fits : (m : maps.FinMap text_cmp Datum) (so : GapIn (maps.entries m) key entries rest) (d : Datum) → count ≡ maps.len m → count < most_elements → with_row (table e m) key d ≡ Ok (table e (maps.insert m key d))
-  one_fits m so d many room = new_value m so d ∙ ap (λ b. if b then Ok {E = Refusal} (table e (maps.insert m key d)) else Err Full) (is_less (maps.len m) most_elements (omega (arith, room, many)))
+  one_fits m so d many room = new_value m so d ∙ ap (λ b. if b then ok_of (table e (maps.insert m key d)) else Err Full) (is_less (maps.len m) most_elements (omega (arith, room, many)))
 
   pub new_row : (front out : List ℕ) (d : Datum) → IsRow e (key, d) → count < most_elements → ((f : List ℕ) → entries ≡ f ++ rest → front ≡ f)
       → out ≡ ((header (kind.Table e) (count + 1) ++ front) ++ spelled_row (key, d)) ++ rest → SpellNew (kind.Table e) out (with_row v key d)

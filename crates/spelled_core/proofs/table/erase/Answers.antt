@@ -19,8 +19,8 @@ pub returns-in-Ok : goal.returns-in-Ok
 returns-in-Ok c = λ v is.
     let there : IsTrue c.find_text-there.result.0 = search rules in
     let less : c.saturating_sub.result ≡ c.opened-count.result.0 - 1 = omega arith in
-    gone c.args.bytes.now c.opened-count.result.1.now c.args.sort c.opened-count.result.0 c.args.key.now c.find_text-there.result.1.now c.find_text-there.result.2.now (c.find_text-there.ensures.stands there) v is (c.opened-count.ensures (kinds.Table c.args.sort) v is) c.before.result.now c.in-Some.next.now c.in-Ok.out.items c.before.ensures c.in-Some.ensures.some
-    (c.in-Ok.ensures ∙ ap (λ n. (header (kinds.Table c.args.sort) n ++ c.before.result.now) ++ c.in-Some.next.now) less)
+    gone c.args.bytes.now c.opened-count.result.1.now c.args.sort c.opened-count.result.0 c.args.key.now c.find_text-there.result.1.now c.find_text-there.result.2.now (c.find_text-there.ensures.stands there) v is (c.opened-count.ensures (kinds.Table c.args.sort) v is) c.before-front.result.now c.in-Some.next.now c.in-Ok.out.items c.before-front.ensures c.in-Some.ensures.some
+    (c.in-Ok.ensures ∙ ap (λ n. (header (kinds.Table c.args.sort) n ++ c.before-front.result.now) ++ c.in-Some.next.now) less)
 
 pub returns-in-Err : goal.returns-in-Err
 returns-in-Err c = λ v is.

@@ -9,4 +9,4 @@ pub invariant_of-result : goal.invariant_of-result
 invariant_of-result c =
     let yes : IsTrue c.spell.result = search rules in
     let one = c.spell.ensures.yes yes in
-    subst (λ b. Spells b c.args.kind (contents_there c.args.kind b)) (sym c.in_ok-bytes.ensures) (found c.args.kind c.args.bytes.now one.0 one.1)
+    subst (λ b. Spells b c.args.kind (contents_there c.args.kind b)) (sym (c.in_ok-bytes.ensures.items_if_clones_equal (λ x y is. is))) (found c.args.kind c.args.bytes.now one.0 one.1)
