@@ -411,9 +411,7 @@ fn act<P: Parts>(
 {
     match s {
         Stmt::Block(all) => act_all(all, args, parts, known, reply),
-        Stmt::SetElement(part, index, e) => do_set_element(
-            *part, index, e, args, parts, known,
-        ),
+        Stmt::SetElement(part, index, e) => do_set_element(*part, index, e, args, parts, known),
         Stmt::SetResult(e) => do_set_result(e, args, parts, known, reply),
         Stmt::Append(part, e) => do_append(*part, e, args, parts, known),
         Stmt::Take(part) => parts.take(*part),

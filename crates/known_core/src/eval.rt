@@ -376,7 +376,12 @@ fn has_key<P: Parts>(
 }
 
 // Whether a condition holds.
-pub(crate) fn holds<P: Parts>(c: &Cond, args: &[Datum], parts: &P, known: &Pages) -> Result<bool, Break>
+pub(crate) fn holds<P: Parts>(
+    c: &Cond,
+    args: &[Datum],
+    parts: &P,
+    known: &Pages,
+) -> Result<bool, Break>
     requires fits { ConditionFits (map kind_of (P.values parts.now)) (condition_of c.now) }
     ensures { holds_known (known_by known.now) (seeing args.now (P.values parts.now)) (condition_of c.now) ≡ given result }
 {

@@ -1,15 +1,13 @@
 -- What the operations on an array do to its bytes.
-use Rattle.std.proofs.Common.{◌≡◌, ℕ, zero, suc, ◌+◌, ◌<◌, ◌≤◌, true, false, List, [], ◌∷◌, ◌++◌, Some, None, length, take, drop, Result, Ok, Err, IsOk, refl, sym, ap, ◌∙◌, subst, append_assoc, arith, length-append}
-use Rattle.std.specs.Prelude.{All, nat_lt, if◌then◌else◌, slice_get, slice_set, ok_or}
+use Rattle.std.proofs.Common.{◌≡◌, ℕ, zero, suc, ◌<◌, ◌≤◌, List, [], ◌∷◌, ◌++◌, Some, None, length, drop, Ok, Err, IsOk, refl, sym, ap, ◌∙◌, subst, append_assoc, arith, length-append}
+use Rattle.std.specs.Prelude.{All, if◌then◌else◌, slice_get, slice_set, ok_or}
 use Rattle.std.specs.List.{flat_map}
 use Rattle.std.proofs.lemmas.List.Elements.{All-cons}
 use Rattle.std.proofs.lemmas.Grind.{flat_map-append}
 use Rattle.value_core.specs.declared.datum.Datum.{Datum}
 use Rattle.value_core.specs.declared.kind.Elem.{Elem}
 use Rattle.value_core.specs.declared.kind.Kind.TheVariants as kind
-use Rattle.value_core.specs.declared.refusal.Refusal.{Refusal}
 use Rattle.value_core.specs.declared.refusal.Refusal.TheVariants.{Index}
-use Rattle.value_core.specs.Limits.{most_elements}
 use Rattle.value_core.specs.Datum.{IsElement}
 use Rattle.value_core.specs.Contents.{Contents, array}
 use Rattle.value_core.specs.Meaning.{element_at, with_element}
@@ -35,7 +33,12 @@ around (x ∷ xs) zero less = record { before = []; x = x; later = xs; parts = r
 around {X} (x ∷ xs) (suc i) less =
     let so = around xs i (omega (arith, less)) in
     record {
-      before = x ∷ so.before; x = so.x; later = so.later; parts = ap (λ (l : List X). x ∷ l) so.parts; rest = so.rest; got = so.got;
+      before = x ∷ so.before;
+      x = so.x;
+      later = so.later;
+      parts = ap (λ (l : List X). x ∷ l) so.parts;
+      rest = so.rest;
+      got = so.got;
       put = λ y. ap (λ (l : List X). x ∷ l) (so.put y);
     }
 
@@ -106,10 +109,12 @@ module _ (bytes entries : List ℕ) (e : Elem) (count i : ℕ) (n : ℕ) (v : Co
         let front_is : front ≡ flat_map spelled_datum so.before = before (flat_map spelled_datum so.before) (opened.1 ∙ a.behind ∙ was) in
         let next_is : next ≡ flat_map spelled_datum so.later = skipped so.x (flat_map spelled_datum so.later) (element_is a) (stands a) in
         let same : length xs ≡ length a.xs = omega (arith, length-append so.before (d ∷ so.later), length-append so.before (so.x ∷ so.later), ap length so.parts) in
-        let count_is : count ≡ n = long a ∙ a.long in
-        (array e xs, put_value a d ∙ ap (λ (l : List Datum). ok_of (array e l)) (so.put d),
+        let count_is : count ≡ n = long a ∙ a.long in (
+          array e xs,
+          put_value a d ∙ ap (λ (l : List Datum). ok_of (array e l)) (so.put d),
           array_spells out n e xs (each_put (IsElement e) so.before so.later so.x d (each_at a) element) (omega (arith, same, a.few)) (same ∙ a.long)
-          (made ∙ put_together (header (kind.Array count e) count) front next so.before so.later d front_is next_is ∙ ap (λ c. header (kind.Array c e) c ++ flat_map spelled_datum xs) count_is))
+              (made ∙ put_together (header (kind.Array count e) count) front next so.before so.later d front_is next_is ∙ ap (λ c. header (kind.Array c e) c ++ flat_map spelled_datum xs) count_is),
+        )
       where
         put_together : (head front next : List ℕ) (before later : List Datum) (d : Datum) → front ≡ flat_map spelled_datum before → next ≡ flat_map spelled_datum later
             → ((head ++ front) ++ spelled_datum d) ++ next ≡ head ++ flat_map spelled_datum (before ++ d ∷ later)

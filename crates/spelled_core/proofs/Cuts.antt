@@ -1,17 +1,15 @@
 -- A search for a key from the first row on, and what its place tells.
-use Rattle.std.proofs.Common.{◌≡◌, ℕ, zero, suc, ◌+◌, ◌<◌, Bool, true, false, cond, T, List, [], ◌∷◌, ◌++◌, Option, Some, None, length, ◌⊎◌, inl, inr, refl, sym, ap, ◌∙◌, subst, append_assoc, arith, length-append}
-use Rattle.std.specs.Prelude.{All, is_some, ◌&&◌}
+use Rattle.std.proofs.Common.{◌≡◌, ℕ, ◌+◌, ◌<◌, Bool, true, false, T, List, [], ◌∷◌, ◌++◌, length, ◌⊎◌, inl, inr, refl, sym, ap, ◌∙◌, subst, append_assoc, arith, length-append}
+use Rattle.std.specs.Prelude.{All, ◌&&◌}
 use Rattle.std.specs.List.{flat_map}
 use Rattle.std.specs.declared.cmp.Ordering.{Ordering}
 use Rattle.std.specs.declared.cmp.Ordering.TheVariants.{Less, Equal, Greater}
-use Rattle.std.specs.Ordering.{is_lt, is_eq, ordering_reverse, eq_by_cmp}
+use Rattle.std.specs.Ordering.{is_lt, ordering_reverse}
 use Rattle.std.specs.Cmp.Lexicographic.{nat_list_cmp_total}
 use Rattle.std.specs.FinMap as map
-use Rattle.std.specs.FinMap.{put, find, is_sorted}
-use Rattle.std.specs.FinMap.Entries.{below_all, by_order}
-use Rattle.std.proofs.lemmas.List.{append-nil}
-use Rattle.std.proofs.lemmas.List.Elements.{All-cons, All-nil, All-append}
-use Rattle.std.proofs.lemmas.Grind.{flat_map-append}
+use Rattle.std.specs.FinMap.{is_sorted}
+use Rattle.std.specs.FinMap.Entries.{below_all}
+use Rattle.std.proofs.lemmas.List.Elements.{All-cons, All-nil}
 use Rattle.text_core.specs.Plain.{IsText}
 use Rattle.text_core.specs.TextOrder.{text_cmp}
 use Rattle.value_core.specs.declared.format.Format.TheVariants.{Second}
@@ -210,14 +208,17 @@ pub record Gap (rows : List (List ℕ × Datum)) (key : List ℕ) : Type 0 where
 
 stands_later : (r : List ℕ × Datum) (rows : List (List ℕ × Datum)) (key : List ℕ) → text_cmp r.0 key ≡ Less → Stands rows key → Stands (r ∷ rows) key
 stands_later r rows key less so = record {
-  before = r ∷ so.before; d = so.d; later = so.later;
+  before = r ∷ so.before;
+  d = so.d;
+  later = so.later;
   parts = ap (λ (l : List (List ℕ × Datum)). r ∷ l) so.parts;
   lower = All-cons (IsLower key) r so.before less so.lower;
 }
 
 gap_later : (r : List ℕ × Datum) (rows : List (List ℕ × Datum)) (key : List ℕ) → text_cmp r.0 key ≡ Less → Gap rows key → Gap (r ∷ rows) key
 gap_later r rows key less so = record {
-  before = r ∷ so.before; later = so.later;
+  before = r ∷ so.before;
+  later = so.later;
   parts = ap (λ (l : List (List ℕ × Datum)). r ∷ l) so.parts;
   lower = All-cons (IsLower key) r so.before less so.lower;
   higher = so.higher;
@@ -227,12 +228,17 @@ by_order_of : (r : List ℕ × Datum) (rows : List (List ℕ × Datum)) (key : L
 by_order_of r rows key sorted Less is (inl so) = inl (stands_later r rows key is so)
 by_order_of r rows key sorted Less is (inr so) = inr (gap_later r rows key is so)
 by_order_of r rows key sorted Equal is later = inl (record {
-  before = []; d = r.1; later = rows;
+  before = [];
+  d = r.1;
+  later = rows;
   parts = ap (λ (k : List ℕ). (k, r.1) ∷ rows) (exact_texts r.0 key is);
   lower = All-nil (IsLower key);
 })
 by_order_of r rows key sorted Greater is later = inr (record {
-  before = []; later = r ∷ rows; parts = refl; lower = All-nil (IsLower key);
+  before = [];
+  later = r ∷ rows;
+  parts = refl;
+  lower = All-nil (IsLower key);
   higher = above_first key r rows is sorted;
 })
 

@@ -1,13 +1,12 @@
 -- What the operations on a queue do to its bytes.
-use Rattle.std.proofs.Common.{◌≡◌, ℕ, ◌+◌, ◌-◌, ◌<◌, ◌≤◌, true, false, List, [], ◌∷◌, ◌++◌, length, drop, Result, Ok, Err, IsOk, refl, sym, ap, ◌∙◌, subst, append_assoc, arith, length-append}
-use Rattle.std.specs.Prelude.{All, nat_lt, if◌then◌else◌, slice_get, ok_or}
+use Rattle.std.proofs.Common.{◌≡◌, ℕ, ◌+◌, ◌-◌, ◌<◌, ◌≤◌, List, [], ◌∷◌, ◌++◌, length, Ok, Err, IsOk, refl, sym, ap, ◌∙◌, subst, append_assoc, arith}
+use Rattle.std.specs.Prelude.{All, if◌then◌else◌}
 use Rattle.std.specs.List.{flat_map}
 use Rattle.std.proofs.lemmas.List.{append-nil}
 use Rattle.std.proofs.lemmas.Grind.{flat_map-append}
 use Rattle.value_core.specs.declared.datum.Datum.{Datum}
 use Rattle.value_core.specs.declared.kind.Elem.{Elem}
 use Rattle.value_core.specs.declared.kind.Kind.TheVariants as kind
-use Rattle.value_core.specs.declared.refusal.Refusal.{Refusal}
 use Rattle.value_core.specs.declared.refusal.Refusal.TheVariants.{Full, Empty}
 use Rattle.value_core.specs.Limits.{most_elements}
 use Rattle.value_core.specs.Datum.{IsElement}
@@ -18,7 +17,7 @@ use Rattle.value_core.proofs.TableRows.{head, tail}
 use Rattle.value_core.proofs.Decoding.{All-push, length-push}
 use Rattle.spelled_core.specs.Entries.{behind_header}
 use Rattle.spelled_core.specs.Remade.{SpellNew}
-use Rattle.spelled_core.proofs.Shapes.{QueueIn, queue_in, queue_spells, is_less, not_less, ok_of}
+use Rattle.spelled_core.proofs.Shapes.{queue_in, queue_spells, is_less, not_less, ok_of}
 
 -- what the header told
 abbrev pub IsOpened : List ℕ → ℕ → List ℕ → Contents → Type 0
@@ -43,7 +42,9 @@ first_in bytes entries e count v is opened some =
     let long : count ≡ length q.xs = opened.0 ∙ q.count in
     let at = some_first q.xs (omega (arith, long, some)) in
     record {
-      x = at.0; later = at.1; value = q.is ∙ ap (queue e) at.2;
+      x = at.0;
+      later = at.1;
+      value = q.is ∙ ap (queue e) at.2;
       each = subst (All (IsElement e)) at.2 q.each;
       few = omega (arith, q.few, ap length at.2);
       front = opened.1 ∙ q.behind ∙ ap (λ (ys : List Datum). flat_map spelled_datum ys) at.2;
@@ -88,10 +89,12 @@ pub taken : (bytes entries rest out : List ℕ) (e : Elem) (count : ℕ) (v : Co
 taken bytes entries rest out e count v is opened some skipped made =
     let f = first_in bytes entries e count v is opened some in
     let behind : rest ≡ flat_map spelled_datum f.later = skipped f.x (flat_map spelled_datum f.later) (head (IsElement e) f.x f.later f.each) f.front in
-    let many : length f.later ≡ count - 1 = omega (arith, opened.0, ap count_of f.value) in
-    (queue e f.later, ap without_oldest f.value ∙ taken_value e f.x f.later,
+    let many : length f.later ≡ count - 1 = omega (arith, opened.0, ap count_of f.value) in (
+      queue e f.later,
+      ap without_oldest f.value ∙ taken_value e f.x f.later,
       queue_spells out e (count - 1) f.later (tail (IsElement e) f.x f.later f.each) (omega (arith, f.few)) many
-      (made ∙ (λ i. append-nil (header (kind.Queue e) (count - 1)) i ++ behind i)))
+          (made ∙ (λ i. append-nil (header (kind.Queue e) (count - 1)) i ++ behind i)),
+    )
 
 pub taken_ok : (bytes entries : List ℕ) (e : Elem) (count : ℕ) (v : Contents) → Spells bytes (kind.Queue e) v → IsOpened bytes count entries v → 0 < count → IsOk (without_oldest v)
 taken_ok bytes entries e count v is opened some =
@@ -108,11 +111,13 @@ added bytes entries out e count d v is opened room element made =
     let q = queue_in bytes e v is in
     let long : count ≡ length q.xs = opened.0 ∙ q.count in
     let whole : flat_map spelled_datum (q.xs ++ d ∷ []) ≡ flat_map spelled_datum q.xs ++ spelled_datum d = flat_map-append spelled_datum q.xs (d ∷ []) ∙ ap (λ (r : List ℕ). flat_map spelled_datum q.xs ++ r) (append-nil (spelled_datum d)) in
-    let entries_are : entries ≡ flat_map spelled_datum q.xs = opened.1 ∙ q.behind in
-    (queue e (q.xs ++ d ∷ []), ap (λ w. with_newest w d) q.is ∙ added_value e q.xs d (omega (arith, room, long)),
+    let entries_are : entries ≡ flat_map spelled_datum q.xs = opened.1 ∙ q.behind in (
+      queue e (q.xs ++ d ∷ []),
+      ap (λ w. with_newest w d) q.is ∙ added_value e q.xs d (omega (arith, room, long)),
       queue_spells out e (count + 1) (q.xs ++ d ∷ []) (All-push (IsElement e) q.xs d q.each element) (omega (arith, length-push q.xs d count (sym long), room)) (length-push q.xs d count (sym long))
-      (made ∙ append-nil ((header (kind.Queue e) (count + 1) ++ entries) ++ spelled_datum d) ∙ append_assoc (header (kind.Queue e) (count + 1)) entries (spelled_datum d)
-      ∙ ap (λ (r : List ℕ). header (kind.Queue e) (count + 1) ++ (r ++ spelled_datum d)) entries_are ∙ ap (λ (r : List ℕ). header (kind.Queue e) (count + 1) ++ r) (sym whole)))
+          (made ∙ append-nil ((header (kind.Queue e) (count + 1) ++ entries) ++ spelled_datum d) ∙ append_assoc (header (kind.Queue e) (count + 1)) entries (spelled_datum d)
+          ∙ ap (λ (r : List ℕ). header (kind.Queue e) (count + 1) ++ (r ++ spelled_datum d)) entries_are ∙ ap (λ (r : List ℕ). header (kind.Queue e) (count + 1) ++ r) (sym whole)),
+    )
 
 pub added_ok : (bytes entries : List ℕ) (e : Elem) (count : ℕ) (d : Datum) (v : Contents) → Spells bytes (kind.Queue e) v → IsOpened bytes count entries v → count < most_elements → IsOk (with_newest v d)
 added_ok bytes entries e count d v is opened room =

@@ -1,5 +1,5 @@
 -- A spelling is its header, and the bytes behind it.
-use Rattle.std.proofs.Common.{◌≡◌, ℕ, ◌+◌, ◌<◌, ◌≤◌, ◌^◌, Bool, true, false, List, [], ◌∷◌, ◌++◌, length, drop, Result, Ok, refl, sym, ap, ◌∙◌, subst, arith}
+use Rattle.std.proofs.Common.{◌≡◌, ℕ, ◌<◌, ◌≤◌, ◌^◌, true, false, List, ◌∷◌, ◌++◌, length, drop, Result, Ok, refl, sym, ap, ◌∙◌, subst, arith}
 use Rattle.std.specs.Prelude.{All, nat_lt}
 use Rattle.std.specs.List.{flat_map}
 use Rattle.std.specs.Int.{w16, to_be_bytes}
@@ -160,9 +160,11 @@ module _ (count : ℕ) (rest : List ℕ) (few : count ≤ most_elements) where
   queue_there e xs is = (queue e xs, queue_spells (header (kind.Queue e) count ++ rest) e count xs is.each (omega (arith, few, is.many)) is.many (ap (λ (r : List ℕ). header (kind.Queue e) count ++ r) is.spelled))
 
   pub array_there : (n : ℕ) (e : Elem) (xs : List Datum) → count ≡ n → SpellElements Second rest e count xs → (v : Contents) × Spells (header (kind.Array n e) count ++ rest) (kind.Array n e) v
-  array_there n e xs same is =
-      (array e xs, array_spells (header (kind.Array n e) count ++ rest) n e xs is.each (omega (arith, few, is.many)) (is.many ∙ same)
-      (ap (λ (r : List ℕ). header (kind.Array n e) count ++ r) is.spelled ∙ ap (λ c. header (kind.Array n e) c ++ flat_map spelled_datum xs) same))
+  array_there n e xs same is = (
+    array e xs,
+    array_spells (header (kind.Array n e) count ++ rest) n e xs is.each (omega (arith, few, is.many)) (is.many ∙ same)
+        (ap (λ (r : List ℕ). header (kind.Array n e) count ++ r) is.spelled ∙ ap (λ c. header (kind.Array n e) c ++ flat_map spelled_datum xs) same),
+  )
 
   pub table_there : (e : Elem) (m : map.FinMap text_cmp Datum) → SpellRows Second rest e count m → (v : Contents) × Spells (header (kind.Table e) count ++ rest) (kind.Table e) v
   table_there e m is =

@@ -1,5 +1,5 @@
 -- A spelling by its entries, and each change as a splice of them.
-use Rattle.std.proofs.Common.{◌≡◌, ℕ, ◌+◌, ◌<◌, ◌≤◌, Bool, true, false, List, [], ◌∷◌, ◌++◌, length, take, drop, map, Result, Ok, Err, ◌⊎◌, inl, inr, refl, sym, ap, ◌∙◌, subst, append_assoc, arith, length-append}
+use Rattle.std.proofs.Common.{◌≡◌, ℕ, ◌+◌, ◌<◌, ◌≤◌, Bool, true, false, List, [], ◌∷◌, ◌++◌, length, take, drop, map, Ok, Err, ◌⊎◌, inl, inr, refl, sym, ap, ◌∙◌, append_assoc, arith, length-append}
 use Rattle.std.specs.Prelude.{nat_lt, ◌||◌, if◌then◌else◌, is_some, slice_set}
 use Rattle.std.specs.List.{flat_map}
 use Rattle.std.specs.FinMap as maps
@@ -17,13 +17,13 @@ use Rattle.value_core.specs.declared.kind.Kind.TheVariants as kind
 use Rattle.value_core.specs.declared.refusal.Refusal.{Refusal}
 use Rattle.value_core.specs.declared.refusal.Refusal.TheVariants.{Index, Full, Empty, Missing}
 use Rattle.value_core.specs.Limits.{most_elements}
-use Rattle.value_core.specs.Contents.{Contents, array, queue, table, kind_of, IsContents}
+use Rattle.value_core.specs.Contents.{Contents, array, queue, table}
 use Rattle.value_core.specs.Meaning.{with_element, without_oldest, with_newest, with_row, without_key}
-use Rattle.value_core.specs.Spelling.{spelled_datum, spelled_row, header, spelling}
-use Rattle.spelled_core.specs.Entries.{entries_of, joined, SpelledByEntries, spliced, IsSplice, ChangesAreSplices}
+use Rattle.value_core.specs.Spelling.{spelled_datum, spelled_row, header}
+use Rattle.spelled_core.specs.Entries.{entries_of, joined, SpelledByEntries, IsSplice, ChangesAreSplices}
 use Rattle.spelled_core.proofs.Cuts.{Stands, Gap, cut_rows}
 use Rattle.spelled_core.proofs.Shapes.{ok_of}
-use Rattle.spelled_core.proofs.Arrays.{Around, around}
+use Rattle.spelled_core.proofs.Arrays.{around}
 use Rattle.spelled_core.proofs.Tables.{find_past, find_none, put_past, put_here, put_front, remove_past, removed_entries}
 
 joined_map : {X : Type 0} (f : X → List ℕ) (xs : List X) → joined (map f xs) ≡ flat_map f xs

@@ -1,5 +1,5 @@
 -- What the operations on a table do to its bytes.
-use Rattle.std.proofs.Common.{◌≡◌, ℕ, suc, ◌+◌, ◌-◌, ◌<◌, ◌≤◌, Bool, true, false, cond, T, List, [], ◌∷◌, ◌++◌, Option, Some, None, length, Result, Ok, Err, IsOk, inl, inr, refl, sym, ap, ◌∙◌, subst, append_assoc, arith, length-append}
+use Rattle.std.proofs.Common.{◌≡◌, ℕ, ◌+◌, ◌-◌, ◌<◌, ◌≤◌, Bool, true, false, T, List, [], ◌∷◌, ◌++◌, Some, None, length, Ok, Err, IsOk, inl, inr, refl, sym, ap, ◌∙◌, subst, append_assoc, arith, length-append}
 use Rattle.std.specs.Prelude.{All, map, nat_lt, ◌||◌, ◌&&◌, if◌then◌else◌, is_some, ok_or, IsTrue, IsFalse}
 use Rattle.std.specs.List.{flat_map, AllByRecursion}
 use Rattle.std.specs.List.Sorted.{IsStrictlySortedBy}
@@ -13,30 +13,27 @@ use Rattle.std.specs.Cmp.Lexicographic.{nat_list_cmp_total}
 use Rattle.std.specs.FinMap as maps
 use Rattle.std.specs.FinMap.{put, find, is_sorted}
 use Rattle.std.specs.FinMap.Entries.{below_all, by_order}
-use Rattle.std.proofs.lemmas.List.{append-nil}
-use Rattle.std.proofs.lemmas.List.Elements.{All-cons, All-nil, All-append}
+use Rattle.std.proofs.lemmas.List.Elements.{All-cons}
 use Rattle.std.proofs.lemmas.Grind.{flat_map-append}
 use Rattle.text_core.specs.TextOrder.{text_cmp}
 use Rattle.value_core.specs.declared.format.Format.TheVariants.{Second}
 use Rattle.value_core.specs.declared.datum.Datum.{Datum}
 use Rattle.value_core.specs.declared.kind.Elem.{Elem}
 use Rattle.value_core.specs.declared.kind.Kind.TheVariants as kind
-use Rattle.value_core.specs.declared.refusal.Refusal.{Refusal}
 use Rattle.value_core.specs.declared.refusal.Refusal.TheVariants.{Full, Missing}
 use Rattle.value_core.specs.Limits.{most_elements}
 use Rattle.value_core.specs.Datum.{IsElement}
 use Rattle.value_core.specs.Rows.{as_data}
 use Rattle.value_core.specs.Sorted.{Rise}
 use Rattle.value_core.specs.Contents.{Contents, table, IsRow, AreRows}
-use Rattle.value_core.specs.Meaning.{count_of, has_key, under_key, with_row, without_key}
+use Rattle.value_core.specs.Meaning.{has_key, under_key, with_row, without_key}
 use Rattle.value_core.specs.Spelling.{spelled_datum, spelled_row, header, Spells, SpellRows}
 use Rattle.value_core.proofs.TableRows.{head, tail, rows_stored, made_room}
 use Rattle.value_core.proofs.Tables.{in_order}
 use Rattle.value_core.proofs.Placing.{erased_row, rise_removed}
-use Rattle.spelled_core.specs.Entries.{behind_header}
 use Rattle.spelled_core.specs.Cuts.{IsLower, IsHigher, StandsIn, GapIn}
 use Rattle.spelled_core.specs.Remade.{SpellNew}
-use Rattle.spelled_core.proofs.Shapes.{TableIn, table_in, table_spells, is_less, not_less, ok_of}
+use Rattle.spelled_core.proofs.Shapes.{table_in, table_spells, is_less, not_less, ok_of}
 use Rattle.spelled_core.proofs.Queues.{IsOpened}
 
 turned : (x y : List ℕ) (o : Ordering) → text_cmp x y ≡ o → text_cmp y x ≡ ordering_reverse o
@@ -167,10 +164,12 @@ module _ (bytes entries : List ℕ) (e : Elem) (count : ℕ) (key rest value : L
       let now : maps.entries (maps.insert m key d) ≡ es = maps.entries-insert nat_list_cmp_total m key d ∙ ap (λ (l : List (List ℕ × Datum)). put text_cmp key d l) so.parts ∙ put_past key d so.before ((key, so.d) ∷ so.later) so.lower ∙ ap (λ (l : List (List ℕ × Datum)). so.before ++ l) (put_here key d so.d so.later) in
       let many : length es ≡ count = omega (arith, length-append so.before ((key, d) ∷ so.later), length-append so.before ((key, so.d) ∷ so.later), ap length so.parts, maps.len-entries m, t.3) in
       let front_is : front ≡ flat_map spelled_row so.before = before (flat_map spelled_row so.before) so.front in
-      let next_is : next ≡ flat_map spelled_row so.later = skipped so.d (flat_map spelled_row so.later) (element m so t.2) so.back in
-      (table e (maps.insert m key d), ap (λ w. with_row w key d) t.1 ∙ over_value m so d,
+      let next_is : next ≡ flat_map spelled_row so.later = skipped so.d (flat_map spelled_row so.later) (element m so t.2) so.back in (
+        table e (maps.insert m key d),
+        ap (λ w. with_row w key d) t.1 ∙ over_value m so d,
         table_spells out e count (maps.insert m key d) es (rows_stored e m key d t.2 row (made_room (maps.contains_key m key) (maps.len m) (inl (has_it m so)))) now many
-        (made ∙ put_together (header (kind.Table e) count) front next so.before so.later (key, d) front_is next_is))
+            (made ∙ put_together (header (kind.Table e) count) front next so.before so.later (key, d) front_is next_is),
+      )
     where
       put_together : (head front next : List ℕ) (before later : List (List ℕ × Datum)) (row : List ℕ × Datum) → front ≡ flat_map spelled_row before → next ≡ flat_map spelled_row later
           → ((head ++ front) ++ spelled_row row) ++ next ≡ head ++ flat_map spelled_row (before ++ row ∷ later)
@@ -199,10 +198,12 @@ module _ (bytes entries : List ℕ) (e : Elem) (count : ℕ) (key rest value : L
       let front_is : front ≡ flat_map spelled_row so.before = before (flat_map spelled_row so.before) so.front in
       let next_is : next ≡ flat_map spelled_row so.later = skipped so.d (flat_map spelled_row so.later) (element m so t.2) so.back in
       let each : All (IsRow e) es = less so.before so.later (key, so.d) (subst (All (IsRow e)) so.parts t.2.each) in
-      let few : maps.len (maps.remove m key) ≤ most_elements = omega (arith, maps.len-entries (maps.remove m key), ap length now, many, t.3, t.2.few) in
-      (table e (maps.remove m key), ap (λ w. without_key w key) t.1 ∙ gone_value m so,
+      let few : maps.len (maps.remove m key) ≤ most_elements = omega (arith, maps.len-entries (maps.remove m key), ap length now, many, t.3, t.2.few) in (
+        table e (maps.remove m key),
+        ap (λ w. without_key w key) t.1 ∙ gone_value m so,
         table_spells out e (count - 1) (maps.remove m key) es (record { each = subst (All (IsRow e)) (sym now) each; few = few }) now many
-        (made ∙ put_together (header (kind.Table e) (count - 1)) front next so.before so.later front_is next_is))
+            (made ∙ put_together (header (kind.Table e) (count - 1)) front next so.before so.later front_is next_is),
+      )
     where
       less : (before later : List (List ℕ × Datum)) (row : List ℕ × Datum) → All (IsRow e) (before ++ row ∷ later) → All (IsRow e) (before ++ later)
       less [] later row each = tail (IsRow e) row later each
@@ -260,10 +261,12 @@ module _ (bytes entries : List ℕ) (e : Elem) (count : ℕ) (key rest : List �
       let now : maps.entries (maps.insert m key d) ≡ es = maps.entries-insert nat_list_cmp_total m key d ∙ ap (λ (l : List (List ℕ × Datum)). put text_cmp key d l) so.parts ∙ put_past key d so.before so.later so.lower ∙ ap (λ (l : List (List ℕ × Datum)). so.before ++ l) (put_front key d so.later so.higher) in
       let was : length (maps.entries m) ≡ count = sym (maps.len-entries m) ∙ sym t.3 in
       let many : length es ≡ count + 1 = omega (arith, length-append so.before ((key, d) ∷ so.later), length-append so.before so.later, ap length so.parts, was) in
-      let front_is : front ≡ flat_map spelled_row so.before = before (flat_map spelled_row so.before) so.front in
-      (table e (maps.insert m key d), ap (λ w. with_row w key d) t.1 ∙ one_fits m so d t.3 room,
+      let front_is : front ≡ flat_map spelled_row so.before = before (flat_map spelled_row so.before) so.front in (
+        table e (maps.insert m key d),
+        ap (λ w. with_row w key d) t.1 ∙ one_fits m so d t.3 room,
         table_spells out e (count + 1) (maps.insert m key d) es (rows_stored e m key d t.2 row (made_room (maps.contains_key m key) (maps.len m) (inr (omega (arith, room, t.3))))) now many
-        (made ∙ put_together (header (kind.Table e) (count + 1)) front rest so.before so.later (key, d) front_is so.back))
+            (made ∙ put_together (header (kind.Table e) (count + 1)) front rest so.before so.later (key, d) front_is so.back),
+      )
     where
       put_together : (head front next : List ℕ) (before later : List (List ℕ × Datum)) (row : List ℕ × Datum) → front ≡ flat_map spelled_row before → next ≡ flat_map spelled_row later
           → ((head ++ front) ++ spelled_row row) ++ next ≡ head ++ flat_map spelled_row (before ++ row ∷ later)

@@ -1,7 +1,7 @@
 -- What bytes tell is what they spell.
-use Rattle.std.proofs.Common.{◌≡◌, ℕ, zero, suc, ◌+◌, ◌<◌, ◌≤◌, ◌^◌, List, [], ◌∷◌, ◌++◌, length, take, drop, refl, sym, ap, ◌∙◌, subst, append_assoc, arith}
-use Rattle.std.specs.Prelude.{All, map}
-use Rattle.std.specs.Int.{w16, w32, to_be_bytes, from_be_bytes}
+use Rattle.std.proofs.Common.{◌≡◌, ℕ, ◌<◌, ◌≤◌, ◌^◌, List, [], ◌∷◌, ◌++◌, length, take, drop, refl, sym, ap, ◌∙◌, append_assoc, arith}
+use Rattle.std.specs.Prelude.{All}
+use Rattle.std.specs.Int.{w16, to_be_bytes}
 use Rattle.std.specs.List.{flat_map}
 use Rattle.std.specs.FinMap as maps
 use Rattle.std.proofs.Math.Seq.{take-append_seam, drop-append_seam}
@@ -13,12 +13,10 @@ use Rattle.value_core.specs.declared.datum.Datum.{Datum}
 use Rattle.value_core.specs.declared.datum.Datum.TheVariants as datum
 use Rattle.value_core.specs.declared.kind.Elem.{Elem}
 use Rattle.value_core.specs.declared.kind.Elem.TheVariants as elem
-use Rattle.value_core.specs.declared.kind.Kind.{Kind}
-use Rattle.value_core.specs.declared.kind.Kind.TheVariants as kind
 use Rattle.value_core.specs.Limits.{most_elements}
 use Rattle.value_core.specs.Datum.{IsElement}
 use Rattle.value_core.specs.Contents.{Contents, array, queue, table, kind_of, IsContents, IsRow}
-use Rattle.value_core.specs.Spelling.{spelled_text, spelled_datum, spelled_row, header, spelling, Spells}
+use Rattle.value_core.specs.Spelling.{spelled_text, spelled_datum, spelled_row, spelling}
 use Rattle.spelled_core.specs.There.{number_there, text_there, behind_text, datum_there, behind_datum, data_there, rows_there, contents_there, BytesTell}
 use Rattle.value_core.proofs.TableRows.{head, tail}
 use Rattle.value_core.proofs.Apart.{few_fits, other_sort}

@@ -40,7 +40,12 @@ fn find<'a>(sort: Elem, count: u16, bytes: &'a [u8], key: &[u8]) -> (bool, &'a [
 
 /// Where a key stands among so many rows: whether it is there; the rows from its own on, and what is behind it in its
 /// row. Where it is not there, the rows from its place on. It looks at lengths, and at keys up to its place.
-pub fn find_text<'a>(sort: Elem, count: u16, bytes: &'a [u8], key: &Text) -> (bool, &'a [u8], &'a [u8])
+pub fn find_text<'a>(
+    sort: Elem,
+    count: u16,
+    bytes: &'a [u8],
+    key: &Text,
+) -> (bool, &'a [u8], &'a [u8])
     ensures stands { IsTrue result.0 → (m : FinMap text_cmp Datum) → SpellRows Second bytes.now sort count m →
         StandsIn (entries m) key.now bytes.now result.1.now result.2.now }
     ensures gap { IsFalse result.0 → (m : FinMap text_cmp Datum) → SpellRows Second bytes.now sort count m →

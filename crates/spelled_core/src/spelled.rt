@@ -10,11 +10,9 @@ ghost use Rattle.value_core.specs.Meaning.{with_newest, has_key, under_key, with
 ghost use Rattle.value_core.specs.Spelling.{Spells};
 ghost use Rattle.spelled_core.specs.Remade.{Turned};
 
-use crate::array;
 use crate::header::{count, spell};
-use crate::queue;
 use crate::splice::joined;
-use crate::table;
+use crate::{array, queue, table};
 use std::alloc::{AllocError, Global};
 use std::marker::Model;
 use text_core::text::Text;
@@ -126,7 +124,13 @@ impl Spelled {
         ensures change { Turned result (with_element self.old index datum.now) self.old self.new }
         ensures kind { kind_of self.new ≡ kind_of self.old }
     {
-        match array::set(*self.bytes.allocator(), self.sort(), &self.bytes, index, datum) {
+        match array::set(
+            *self.bytes.allocator(),
+            self.sort(),
+            &self.bytes,
+            index,
+            datum,
+        ) {
             Ok(bytes) => {
                 self.bytes = bytes;
                 Ok(())
@@ -202,7 +206,13 @@ impl Spelled {
         ensures change { Turned result (with_row self.old key.now datum.now) self.old self.new }
         ensures kind { kind_of self.new ≡ kind_of self.old }
     {
-        match table::store(*self.bytes.allocator(), self.sort(), &self.bytes, key, datum) {
+        match table::store(
+            *self.bytes.allocator(),
+            self.sort(),
+            &self.bytes,
+            key,
+            datum,
+        ) {
             Ok(bytes) => {
                 self.bytes = bytes;
                 Ok(())

@@ -100,7 +100,13 @@ pub fn erase(alloc: Global, sort: Elem, bytes: &[u8], key: &Text) -> Result<Vec<
     let Some(next) = skip(sort, value) else {
         return Err(GrowFault::Refused(Refusal::Missing));
     };
-    match joined(alloc, Kind::Table(sort), count.saturating_sub(1), front, next) {
+    match joined(
+        alloc,
+        Kind::Table(sort),
+        count.saturating_sub(1),
+        front,
+        next,
+    ) {
         Ok(out) => Ok(out),
         Err(_) => Err(GrowFault::Memory),
     }

@@ -1,4 +1,4 @@
-use Rattle.std.proofs.Common.{◌≡◌, sym, arith}
+use Rattle.std.proofs.Common.{sym, arith}
 use Rattle.spelled_core.proofs.Cuts.{uncut, no_key, no_value, row_passed, stands_here, gap_here, gap_behind}
 use Rattle.spelled_core.proofs.find.find.Goals as goal
 

@@ -1,6 +1,5 @@
-use Rattle.std.proofs.Common.{◌≡◌, ◌++◌, List, ℕ, sym, subst, arith}
+use Rattle.std.proofs.Common.{◌++◌, sym, subst, arith}
 use Rattle.value_core.specs.Contents.{Contents}
-use Rattle.value_core.specs.declared.kind.Kind.TheVariants as kinds
 use Rattle.value_core.specs.Spelling.{header, Spells}
 use Rattle.spelled_core.proofs.Shapes.{array_there, queue_there, table_there, rows_of_table}
 use Rattle.spelled_core.proofs.header.spell_entries.Goals as goal

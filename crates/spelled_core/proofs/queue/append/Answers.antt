@@ -1,4 +1,4 @@
-use Rattle.std.proofs.Common.{◌∙◌, sym, arith}
+use Rattle.std.proofs.Common.{arith}
 use Rattle.value_core.specs.declared.kind.Kind.TheVariants as kinds
 use Rattle.spelled_core.proofs.Queues.{added, added_ok, added_full}
 use Rattle.spelled_core.proofs.queue.append.Goals as goal

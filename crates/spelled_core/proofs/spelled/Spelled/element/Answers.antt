@@ -1,4 +1,3 @@
-use Rattle.std.proofs.Common.{refl}
 use Rattle.value_core.specs.declared.kind.Kind.TheVariants as kinds
 use Rattle.value_core.specs.Contents.{kind_of}
 use Rattle.spelled_core.specs.There.{contents_there}

@@ -1,6 +1,5 @@
 use Rattle.std.proofs.Common.{refl}
 use Rattle.value_core.specs.declared.kind.Kind.TheVariants as kinds
-use Rattle.value_core.specs.Contents.{kind_of}
 use Rattle.value_core.specs.Meaning.{without_key}
 use Rattle.spelled_core.specs.There.{contents_there}
 use Rattle.spelled_core.proofs.Holding.{held_as, held_kind, table_kind, fresh, fresh_kind, undone}

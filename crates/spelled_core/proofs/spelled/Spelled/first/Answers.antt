@@ -1,6 +1,4 @@
-use Rattle.std.proofs.Common.{refl}
 use Rattle.value_core.specs.declared.kind.Kind.TheVariants as kinds
-use Rattle.value_core.specs.Contents.{kind_of}
 use Rattle.spelled_core.specs.There.{contents_there}
 use Rattle.spelled_core.proofs.Holding.{held_as, held_kind, queue_kind}
 use Rattle.spelled_core.proofs.spelled.Spelled.first.Goals as goal
