@@ -2,6 +2,7 @@ pub mod Saying
 pub mod Counting
 pub mod Slots
 pub mod Hearing
+pub mod Held
 pub mod Forms
 pub mod Standing
 pub mod Starts

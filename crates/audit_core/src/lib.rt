@@ -8,6 +8,7 @@ pub mod laws;
 mod part;
 pub mod replay;
 pub mod said;
+mod same;
 pub mod start;
 mod state;
 pub mod told;

@@ -1,7 +1,10 @@
 //! The sequential object's reply to an end.
 
-ghost use Rattle.std.specs.Prelude.{IfOk};
+ghost use Rattle.std.specs.Prelude.{◌≡◌, ◌↔◌, ℕ, IsTrue, IfOk, Some};
+ghost use Rattle.value_core.specs.Contents.{kind_of};
 ghost use Rattle.decl_core.specs.ObjectMap.{object_of};
+ghost use Rattle.apply_core.specs.Fits.{HoldsReads};
+ghost use Rattle.apply_core.specs.Held.{HoldsItsKind};
 ghost use Rattle.audit_core.specs.Replies.{Tries, IsDoneSo, IsAnswer};
 ghost use Rattle.audit_core.specs.View.{told_view};
 
@@ -12,6 +15,7 @@ use decl_core::object::{Object, Operation};
 use known_core::apply::apply_all;
 use std::alloc::{AllocError, Global};
 use value_core::datum::Datum;
+use value_core::kind::Kind;
 use value_core::value::Value;
 
 /// Whether a reply is the sequential object's; the parts are those after it then. A failure is right,
@@ -50,6 +54,40 @@ fn is_given(
     }
 }
 
+// Whether a value is of a kind, or the kind is not known.
+fn is_of(value: &Value, kind: Option<Kind>) -> bool
+    ensures { IsTrue result ↔ ((k : Kind) → kind ≡ Some k → kind_of value.now ≡ k) }
+{
+    match kind {
+        Some(kind) => value.kind() == kind,
+        None => true,
+    }
+}
+
+// Whether there are as many parts as kinds, and each of these that is known is that of its part.
+#[tactic(auto, using(crate::proofs::Held::none_held, crate::proofs::Held::more_held))]
+fn are_held(kinds: &[Option<Kind>], parts: &[Value]) -> bool
+    ensures { IsTrue result → (p : ℕ) → HoldsItsKind parts.now kinds.now p }
+{
+    match (kinds, parts) {
+        ([], _) => true,
+        ([kind, kinds @ ..], [part, parts @ ..]) => is_of(part, *kind) && are_held(kinds, parts),
+        _ => false,
+    }
+}
+
+// Whether each part that the operation reads has a value of its kind. Mostly each part that it names has one, which is
+// seen without a look at its body.
+#[tactic(auto, using(crate::proofs::Held::reads_held))]
+fn all_fit(operation: &Operation, parts: &[Value]) -> bool
+    ensures { IsTrue result ↔ HoldsReads operation.now parts.now }
+{
+    if are_held(&operation.kinds, parts) {
+        return true;
+    }
+    parts_fit(operation, parts)
+}
+
 // Does the body of an operation on these parts, where the arguments and the parts fit it, and tells
 // whether that is replied.
 fn is_done_so(
@@ -64,7 +102,7 @@ fn is_done_so(
     if !arguments_fit(operation, arguments) {
         return Ok(false);
     }
-    if !parts_fit(operation, parts) {
+    if !all_fit(operation, parts) {
         return Ok(false);
     }
     match apply_all(alloc, operation, arguments, parts) {

@@ -7,8 +7,8 @@ ghost use Rattle.audit_core.specs.Said.{start_of as start_of_words, end_said as 
 ghost use Rattle.line_read.specs.Reads.{Reads};
 ghost use Rattle.audit_core.specs.View.{said_view, IsSaid};
 
+use crate::same::is_same_word;
 use crate::told::{ToldReply, read_reply};
-use line_core::words::is_same_word;
 use line_read::arguments::data_of;
 use line_read::front::{next_bare, only_bare};
 use std::alloc::{AllocError, Global};

@@ -14,8 +14,8 @@ ghost use Rattle.line_read.specs.Reads.{Reads};
 ghost use Rattle.audit_core.specs.Reads.{done_reply as done_in, text_reply as text_in};
 ghost use Rattle.audit_core.specs.View.{told_view};
 
+use crate::same::is_same_word;
 use apply_core::reply::{Failure, Reply};
-use line_core::words::is_same_word;
 use line_read::front::{is_blank, next_bare, only_bare};
 use std::alloc::{AllocError, Global};
 use text_core::text::Text;

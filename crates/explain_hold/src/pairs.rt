@@ -1,4 +1,4 @@
-//! What is said of each `a; b` of a path whose `a` is not held: what happens where a client dies between.
+//! What is said of each `a; b` of a path that could be held: what happens where a client dies between.
 
 use note_core::page::{Page, push_said};
 use note_core::said::{Words, say};
@@ -14,13 +14,29 @@ use std::alloc::{AllocError, Global};
 // The most objects of a source, and the most paths of an object.
 const MOST: usize = 16;
 
-// Whether the operation of this name is held, by the tokens of its object.
-fn is_held(object: &[Token], name: &[u8]) -> bool {
+// Whether the operation of this name stands in a hold whose tokens are these, from behind its first word on: it is held, or
+// ends it.
+fn is_in_hold(hold: &[Token], name: &[u8]) -> bool {
+    let mut is_next = true;
+    for token in hold {
+        if is_symbol(token, Symbol::Semicolon) {
+            return false;
+        }
+        if is_next && is_name(token, name) {
+            return true;
+        }
+        is_next = is_symbol(token, Symbol::Comma) || is_name(token, b"until");
+    }
+    false
+}
+
+// Whether a hold of this object has the operation of this name.
+fn has_hold(object: &[Token], name: &[u8]) -> bool {
     for (count, token) in object.iter().enumerate() {
         let here = tokens_from(object, count + 1);
         if is_name(token, b"hold")
-            && is_same_word(here, name)
             && is_same_word(tokens_from(here, 1), b"until")
+            && is_in_hold(here, name)
         {
             return true;
         }
@@ -28,7 +44,27 @@ fn is_held(object: &[Token], name: &[u8]) -> bool {
     false
 }
 
-// Adds what is said of the pair that begins here, where one does, and its first operation is not held.
+// Whether this object calls the operation of this name again and again.
+fn has_every(object: &[Token], name: &[u8]) -> bool {
+    for (count, token) in object.iter().enumerate() {
+        let here = tokens_from(object, count + 1);
+        if is_name(token, b"every")
+            && is_same_word(tokens_from(here, 1), b"call")
+            && is_same_word(tokens_from(here, 2), name)
+        {
+            return true;
+        }
+    }
+    false
+}
+
+// Whether a hold of the first of two operations until the second one could stand behind the operations of this object: none
+// has one of them, and the second one is not called again and again.
+fn may_hold(object: &[Token], first: &[u8], second: &[u8]) -> bool {
+    !has_hold(object, first) && !has_hold(object, second) && !has_every(object, second)
+}
+
+// Adds what is said of the pair that begins here, where one does, and a hold of it could stand there.
 fn push_pair(
     out: &mut Vec<u8>,
     page: Page<'_>,
@@ -41,7 +77,10 @@ fn push_pair(
     if !is_any_name(a) || !is_symbol(sign, Symbol::Semicolon) || !is_any_name(b) {
         return Ok(());
     }
-    if is_symbol(next, Symbol::Colon) || is_held(object, name_of(here)) {
+    if is_symbol(next, Symbol::Colon) {
+        return Ok(());
+    }
+    if !may_hold(object, name_of(here), name_of(tokens_from(here, 2))) {
         return Ok(());
     }
     let first = span_of(a);
@@ -86,9 +125,9 @@ fn push_object(out: &mut Vec<u8>, page: Page<'_>, object: &[Token]) -> Result<()
     Ok(())
 }
 
-/// What a person is told of an accepted source in this file who asks for more: of each `a; b` of a path whose `a` is not
-/// held what happens where a client dies between the two. It is empty where there is none, and where the source has no
-/// tokens.
+/// What a person is told of an accepted source in this file who asks for more: of each `a; b` of a path what happens where a
+/// client dies between the two, where neither is in a hold already, and `b` is not called again and again: `hold a until b;`
+/// would be refused then. It is empty where there is none, and where the source has no tokens.
 ///
 /// The error is that memory was refused.
 pub fn explain_pairs(alloc: Global, file: &[u8], source: &[u8]) -> Result<Vec<u8>, AllocError> {

@@ -89,6 +89,61 @@ fn hear_cut(
     }
 }
 
+// A fault of the text of an epoch, as it is of an object without holds: where it is of the first line that tells what was
+// held when the epoch began, the object was changed.
+fn told_as(
+    alloc: Global,
+    object: &Object,
+    text: &[u8],
+    fault: EpochFault,
+) -> Result<EpochFault, AllocError> {
+    let EpochFault::Epoch(epoch, RecoverFault::Line(line, _)) = fault else {
+        return Ok(fault);
+    };
+    match read_held(alloc, object, &[], text)? {
+        Ok(_) => Ok(fault),
+        Err(held) => {
+            if held != line {
+                return Ok(fault);
+            }
+            Ok(EpochFault::Epoch(epoch, RecoverFault::Changed))
+        }
+    }
+}
+
+// Hears the text of an epoch of an object without holds.
+fn hear_bare(
+    alloc: Global,
+    object: &Object,
+    epochs: &mut Epochs,
+    text: &[u8],
+) -> Result<Result<(), EpochFault>, AllocError>
+    ensures { IfOk result (λ found. IfOk found (λ _. GoesOn (object_of object.now) epochs.old epochs.new)) }
+{
+    match epochs.hear(alloc, object, text)? {
+        Ok(()) => Ok(Ok(())),
+        Err(fault) => {
+            let told = told_as(alloc, object, text, fault)?;
+            Ok(Err(told))
+        }
+    }
+}
+
+// Why the text of an epoch is refused of which this line of the front cannot be read by the holds of its object: where it
+// can be told of an object without holds, that is told.
+fn refused_at(
+    alloc: Global,
+    object: &Object,
+    epochs: &mut Epochs,
+    text: &[u8],
+    line: u64,
+) -> Result<EpochFault, AllocError> {
+    match hear_bare(alloc, object, epochs, text)? {
+        Ok(()) => Ok(EpochFault::Front(line)),
+        Err(fault) => Ok(fault),
+    }
+}
+
 // Hears the text of an epoch of an object with these holds.
 fn hear_text(
     alloc: Global,
@@ -100,13 +155,14 @@ fn hear_text(
     ensures { IfOk result (λ found. IfOk found (λ _. GoesOn (object_of object.now) epochs.old epochs.new)) }
 {
     if holds.is_empty() {
-        match epochs.hear(alloc, object, text)? {
-            Ok(()) => return Ok(Ok(())),
-            Err(fault) => return Ok(Err(fault)),
-        }
+        let found = hear_bare(alloc, object, epochs, text)?;
+        return Ok(found);
     }
     match read_held(alloc, object, holds, text)? {
-        Err(line) => Ok(Err(EpochFault::Front(line))),
+        Err(line) => {
+            let fault = refused_at(alloc, object, epochs, text, line)?;
+            Ok(Err(fault))
+        }
         Ok(read) => {
             let found = hear_cut(alloc, object, epochs, text, &read)?;
             Ok(found)
@@ -279,7 +335,8 @@ fn audit_objects<R: Files + AllocGlobal>(
 /// Says what objects are in a folder, in order: `NAME epochs E entries K whole` where its epochs, the oldest of which there
 /// is a file first, can have happened one after another; `NAME no journal`; `NAME FILE line N bad` of the first file whose
 /// front is not read; or `NAME epoch E ` and why that one is refused. `rules` are those of the objects, in order, or none
-/// where no object has any: where one has holds, the lines of a front that tell what was held are read as well.
+/// where no object has any: where one has holds, the lines of a front that tell what was held are read as well. Of an object
+/// that does not hold so what a front tells, the epoch `was changed`.
 ///
 /// A failure is `Unread` of a file that is there and cannot be read, or `Memory`.
 pub fn audit_folder<R: Files + AllocGlobal>(

@@ -8,7 +8,7 @@ use Rattle.status_text.specs.declared.numbers.OperationTally.{OperationTally}
 use Rattle.status_text.specs.declared.objects.Current.{Current}
 use Rattle.status_text.specs.declared.objects.Current.TheVariants.{Running, Waiting}
 use Rattle.status_text.specs.declared.objects.OfObject.{OfObject}
-use Rattle.status_text.specs.declared.objects.OfObject.TheVariants.{Sessions, Given, Limit, Cancelled, Waited}
+use Rattle.status_text.specs.declared.objects.OfObject.TheVariants.{Sessions, Given, Limit, Cancelled, Waited, Held}
 
 -- a number of each object: its name, what it is about, its kind, and the number
 abbrev pub name_of : OfObject → List ℕ
@@ -17,6 +17,7 @@ name_of Given = codes "pathserve_numbers"
 name_of Limit = codes "pathserve_numbers_limit"
 name_of Cancelled = codes "pathserve_cancelled_total"
 name_of Waited = codes "pathserve_wait_seconds"
+name_of Held = codes "pathserve_holds"
 
 abbrev pub about_of : OfObject → List ℕ
 about_of Sessions = codes "Sessions of clients that are there."
@@ -24,6 +25,7 @@ about_of Given = codes "Numbers of calls that are taken of this epoch."
 about_of Limit = codes "Numbers of calls of an epoch, at most."
 about_of Cancelled = codes "Calls that were cancelled since the start."
 about_of Waited = codes "How long the call that waits longest was seen to wait."
+about_of Held = codes "Calls that are held now."
 
 abbrev pub kind_of : OfObject → MetricKind
 kind_of Sessions = Gauge
@@ -31,6 +33,7 @@ kind_of Given = Gauge
 kind_of Limit = Gauge
 kind_of Cancelled = Counter
 kind_of Waited = Gauge
+kind_of Held = Gauge
 
 abbrev pub number_of : OfObject → SeenObject → ℕ
 number_of Sessions o = o.sessions
@@ -38,6 +41,7 @@ number_of Given o = o.given
 number_of Limit o = o.limit
 number_of Cancelled o = o.cancelled
 number_of Waited o = o.waited
+number_of Held o = o.held
 
 abbrev pub object_number : OfObject → SeenObject → List ℕ
 object_number of o = object_line (name_of of) o.name.items (number_of of o)
@@ -48,7 +52,8 @@ metric_text of os = head (name_of of) (kind_of of) (about_of of) ++ flat_map (ob
 -- the numbers of the objects
 abbrev pub numbers_text : List SeenObject → List ℕ
 numbers_text os =
-    metric_text Sessions os ++ metric_text Given os ++ metric_text Limit os ++ metric_text Cancelled os ++ metric_text Waited os
+    metric_text Sessions os ++ metric_text Given os ++ metric_text Limit os ++ metric_text Cancelled os
+    ++ metric_text Waited os ++ metric_text Held os
 
 abbrev pub operation_labels : List ℕ → List ℕ → List ℕ
 operation_labels object operation = label_text (codes "{object=\"") object ++ label_text (codes ",operation=\"") operation

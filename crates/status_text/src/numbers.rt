@@ -59,5 +59,7 @@ pub struct SeenObject {
     pub cancelled: u64,
     /// How long the call that waits longest has been seen to wait, in seconds; 0 where none waits.
     pub waited: u64,
+    /// How many calls are held now, of sessions that are there and of those that are gone.
+    pub held: u64,
     pub operations: Vec<OperationTally>,
 }

@@ -17,6 +17,7 @@ enum OfObject {
     Limit,
     Cancelled,
     Waited,
+    Held,
 }
 
 // How many calls of each operation there are now.
@@ -35,6 +36,7 @@ fn name_of_metric(of: OfObject) -> &'static [u8]
         OfObject::Limit => b"pathserve_numbers_limit",
         OfObject::Cancelled => b"pathserve_cancelled_total",
         OfObject::Waited => b"pathserve_wait_seconds",
+        OfObject::Held => b"pathserve_holds",
     }
 }
 
@@ -47,6 +49,7 @@ fn about_metric(of: OfObject) -> &'static [u8]
         OfObject::Limit => b"Numbers of calls of an epoch, at most.",
         OfObject::Cancelled => b"Calls that were cancelled since the start.",
         OfObject::Waited => b"How long the call that waits longest was seen to wait.",
+        OfObject::Held => b"Calls that are held now.",
     }
 }
 
@@ -59,6 +62,7 @@ fn kind_of_metric(of: OfObject) -> MetricKind
         OfObject::Limit => MetricKind::Gauge,
         OfObject::Cancelled => MetricKind::Counter,
         OfObject::Waited => MetricKind::Gauge,
+        OfObject::Held => MetricKind::Gauge,
     }
 }
 
@@ -71,6 +75,7 @@ fn number_in(of: OfObject, seen: &SeenObject) -> u64
         OfObject::Limit => seen.limit,
         OfObject::Cancelled => seen.cancelled,
         OfObject::Waited => seen.waited,
+        OfObject::Held => seen.held,
     }
 }
 
@@ -115,7 +120,8 @@ fn push_numbers(out: &mut Vec<u8>, objects: &[SeenObject]) -> Result<(), AllocEr
     push_metric(out, OfObject::Given, objects)?;
     push_metric(out, OfObject::Limit, objects)?;
     push_metric(out, OfObject::Cancelled, objects)?;
-    push_metric(out, OfObject::Waited, objects)
+    push_metric(out, OfObject::Waited, objects)?;
+    push_metric(out, OfObject::Held, objects)
 }
 
 // Adds the labels of an operation.

@@ -681,6 +681,7 @@ impl Visible for Table {
             &self.objects,
             &self.tallies,
             &self.clients,
+            &self.custody,
             self.second,
             text,
         )

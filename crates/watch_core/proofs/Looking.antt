@@ -14,6 +14,7 @@ use Rattle.status_text.specs.declared.numbers.SeenObject.{SeenObject}
 use Rattle.status_text.specs.declared.numbers.OperationTally.{OperationTally}
 use Rattle.tally_core.specs.declared.tallies.CallEnds.{CallEnds}
 use Rattle.tally_core.specs.declared.tallies.ObjectTally.{ObjectTally}
+use Rattle.told_core.specs.Custody.{Custodies}
 use Rattle.told_core.specs.Inside.{Crowd, is_asked, sits_in, sitting_from}
 use Rattle.told_core.specs.State.{Peer, opened_in}
 use Rattle.inside_core.proofs.Sitting.{sits_more}
@@ -47,14 +48,14 @@ tallies_more h ends k n (s ∷ ts) t same all one =
     (all.0, tallies_more h ends (k + 1) n ts t is all.1 one)
 
 -- one object more
-pub seen_more : (objects : List Scene) (tallies : List ObjectTally) (clients : Clients) (now k n : ℕ) (all : List SeenObject) (s : SeenObject) → n ≡ k + length all →
-    ShowsAll objects tallies clients now k all → ShowsAt objects tallies clients now n s → ShowsAll objects tallies clients now k (all ++ s ∷ [])
-seen_more objects tallies clients now k n [] s same shown one =
+pub seen_more : (objects : List Scene) (tallies : List ObjectTally) (clients : Clients) (custody : Custodies) (now k n : ℕ) (all : List SeenObject) (s : SeenObject) → n ≡ k + length all →
+    ShowsAll objects tallies clients custody now k all → ShowsAt objects tallies clients custody now n s → ShowsAll objects tallies clients custody now k (all ++ s ∷ [])
+seen_more objects tallies clients custody now k n [] s same shown one =
     let is : n ≡ k = omega (arith, same) in
-    (subst (λ m. ShowsAt objects tallies clients now m s) is one, tt)
-seen_more objects tallies clients now k n (x ∷ all) s same shown one =
+    (subst (λ m. ShowsAt objects tallies clients custody now m s) is one, tt)
+seen_more objects tallies clients custody now k n (x ∷ all) s same shown one =
     let is : n ≡ k + 1 + length all = omega (arith, same) in
-    (shown.0, seen_more objects tallies clients now (k + 1) n all s is shown.1 one)
+    (shown.0, seen_more objects tallies clients custody now (k + 1) n all s is shown.1 one)
 
 -- a connection counts as one, wherever it is
 one_or_none : {X : Type 0} (b : Bool) (x y : X) → length (if b then x ∷ [] else []) ≡ length (if b then y ∷ [] else [])

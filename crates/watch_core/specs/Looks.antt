@@ -16,6 +16,7 @@ use Rattle.tally_core.specs.Laws.{sum_of}
 use Rattle.tally_core.specs.Tallies.{ends_of, taken_of}
 use Rattle.tally_core.specs.declared.tallies.CallEnds.{CallEnds}
 use Rattle.tally_core.specs.declared.tallies.ObjectTally.{ObjectTally}
+use Rattle.told_core.specs.Custody.{Custodies, held_by}
 use Rattle.told_core.specs.Inside.{Crowd, sitting_from}
 use Rattle.told_core.specs.State.{opened_in, peers_of}
 
@@ -64,33 +65,38 @@ abbrev pub AreTallies : Hall → List CallEnds → ℕ → List OperationTally �
 AreTallies h ends k [] = Unit {0}
 AreTallies h ends k (t ∷ ts) = IsTally h ends k t × AreTallies h ends (k + 1) ts
 
--- What is told of an object, which so many have opened by a session, where so many seconds are told of the longest wait: its
--- name, how many numbers of the epoch are taken, how many of its calls neither ended nor wait, and each of its operations.
-pub record Shows (object : Scene) (tally : Option ObjectTally) (sessions longest : ℕ) (seen : SeenObject) : Type 0 where
+-- What is told of an object, which so many have opened by a session, where so many seconds are told of the longest wait and
+-- so many calls are held: its name, how many numbers of the epoch are taken, how many of its calls neither ended nor wait, and
+-- each of its operations.
+pub record Shows (object : Scene) (tally : Option ObjectTally) (sessions longest kept : ℕ) (seen : SeenObject) : Type 0 where
   pub name : seen.name.items ≡ object.hall.object.name
   pub sat : seen.sessions ≡ sessions
   pub given : seen.given ≡ 65536 - left_of object.hall
   pub limit : seen.limit ≡ 65536
   pub cancelled : seen.cancelled ≡ taken_of tally - sum_of (ends_of tally) - length object.hall.waiting
   pub waited : seen.waited ≡ longest
+  pub held : seen.held ≡ kept
   pub operations : AreTallies object.hall (ends_of tally) 0 seen.operations.items
   pub all : length seen.operations.items ≡ length object.hall.object.operations.items
 
--- what is told of the object at a place, where these are there in this second
-pub record ShowsAt (objects : List Scene) (tallies : List ObjectTally) (clients : Clients) (now at : ℕ) (seen : SeenObject) : Type 0 where
+-- what is told of the object at a place, where these are there in this second, and this is held
+pub record ShowsAt (objects : List Scene) (tallies : List ObjectTally) (clients : Clients) (custody : Custodies) (now at : ℕ) (seen : SeenObject) : Type 0 where
   pub seconds : ℕ
   pub longest : IsLongest (crowd_at clients at now) seconds
   pub shows : (object : Scene) → slice_get objects at ≡ Some object →
-      Shows object (slice_get tallies at) (length (sitting_from 0 at 0 (peers_of clients))) seconds seen
+      Shows object (slice_get tallies at) (length (sitting_from 0 at 0 (peers_of clients))) seconds
+      (length (held_by (slice_get custody at))) seen
 
 -- what is told of these objects, from that at a place on
-abbrev pub ShowsAll : List Scene → List ObjectTally → Clients → ℕ → ℕ → List SeenObject → Type 0
-ShowsAll objects tallies clients now k [] = Unit {0}
-ShowsAll objects tallies clients now k (s ∷ all) = ShowsAt objects tallies clients now k s × ShowsAll objects tallies clients now (k + 1) all
+abbrev pub ShowsAll : List Scene → List ObjectTally → Clients → Custodies → ℕ → ℕ → List SeenObject → Type 0
+ShowsAll objects tallies clients custody now k [] = Unit {0}
+ShowsAll objects tallies clients custody now k (s ∷ all) =
+    ShowsAt objects tallies clients custody now k s × ShowsAll objects tallies clients custody now (k + 1) all
 
 -- a text tells of all these objects, in order
-pub record IsStatus (objects : List Scene) (tallies : List ObjectTally) (clients : Clients) (now : ℕ) (text : List ℕ) : Type 0 where
+pub record IsStatus (objects : List Scene) (tallies : List ObjectTally) (clients : Clients) (custody : Custodies) (now : ℕ)
+    (text : List ℕ) : Type 0 where
   pub all : List SeenObject
-  pub shows : ShowsAll objects tallies clients now 0 all
+  pub shows : ShowsAll objects tallies clients custody now 0 all
   pub count : length all ≡ length objects
   pub text_is : text ≡ objects_text all

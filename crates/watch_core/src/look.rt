@@ -6,6 +6,7 @@ ghost use Rattle.decl_core.specs.ObjectMap.{object_of};
 ghost use Rattle.trace_core.specs.Text.{operation_name};
 ghost use Rattle.tally_core.specs.Laws.{sum_of};
 ghost use Rattle.tally_core.specs.Tallies.{ends_of, taken_of};
+ghost use Rattle.told_core.specs.Custody.{held_by};
 ghost use Rattle.told_core.specs.Inside.{Crowd, sits_in, sitting_from};
 ghost use Rattle.told_core.specs.State.{opened_in, peers_of};
 ghost use Rattle.watch_core.specs.Looks.{waiting_of, told_ends, left_of, wait_in, wait_at, crowd_at, IsLongest, IsTally, AreTallies, Shows};
@@ -13,6 +14,7 @@ ghost use Rattle.watch_core.specs.Looks.{ShowsAt, ShowsAll, IsStatus};
 
 use client_core::client::Opened;
 use client_core::clients::Clients;
+use custody_core::all::AllHeld;
 use decl_core::object::Object;
 use hosted_core::hosted::Hosted;
 use live_core::call::Call;
@@ -250,7 +252,15 @@ fn given_of(live: &Live) -> u64
     u64::from(MOST_CALLS - live.numbers_left())
 }
 
-// What is told of an object, where so many have opened it by a session, and for so long one waits.
+// How many calls of the object at a place are held.
+fn held_at(custody: &AllHeld, at: usize) -> u64
+    ensures { result ≡ length (held_by (slice_get custody.now at)) }
+{
+    let (_, held) = custody.held_of(at);
+    held.len() as u64
+}
+
+// What is told of an object, where so many have opened it by a session, for so long one waits, and so many calls are held.
 fn seen_of(
     alloc: Global,
     object: &Hosted,
@@ -258,8 +268,9 @@ fn seen_of(
     at: usize,
     sessions: usize,
     waited: u64,
+    held: u64,
 ) -> Result<SeenObject, AllocError>
-    ensures { IfOk result (λ seen. Shows object.now (slice_get tallies.now.objects.items at) sessions waited
+    ensures { IfOk result (λ seen. Shows object.now (slice_get tallies.now.objects.items at) sessions waited held
         seen) }
 {
     let live = object.live();
@@ -271,6 +282,7 @@ fn seen_of(
         limit: u64::from(MOST_CALLS),
         cancelled: cancelled_of(tallies.taken(at), ends, live.waiting().len()),
         waited,
+        held,
         operations: tallies_of(alloc, live, ends)?,
     })
 }
@@ -281,15 +293,18 @@ fn seen_at(
     objects: &[Hosted],
     tallies: &Tallies,
     clients: &Clients,
+    custody: &AllHeld,
     second: u64,
     at: usize,
 ) -> Result<SeenObject, AllocError>
     requires { at < length objects.now }
-    ensures { IfOk result (λ seen. ShowsAt objects.now tallies.now.objects.items clients.now second at seen) }
+    ensures { IfOk result (λ seen. ShowsAt objects.now tallies.now.objects.items clients.now custody.now second at
+        seen) }
 {
     let sessions = sessions_of(clients, at);
     let waited = longest_wait(clients, at, second);
-    let seen = seen_of(alloc, &objects[at], tallies, at, sessions, waited)?;
+    let held = held_at(custody, at);
+    let seen = seen_of(alloc, &objects[at], tallies, at, sessions, waited, held)?;
     Ok(seen)
 }
 
@@ -299,32 +314,35 @@ fn seen_in(
     objects: &[Hosted],
     tallies: &Tallies,
     clients: &Clients,
+    custody: &AllHeld,
     second: u64,
 ) -> Result<Vec<SeenObject>, AllocError>
-    ensures all { IfOk result (λ all. ShowsAll objects.now tallies.now.objects.items clients.now second 0 all.items) }
+    ensures all { IfOk result (λ all. ShowsAll objects.now tallies.now.objects.items clients.now custody.now second 0
+        all.items) }
     ensures count { IfOk result (λ all. length all.items ≡ length objects.now) }
 {
     let mut seen = Vec::new(alloc);
     for at in 0..objects.len() {
-        let one = seen_at(alloc, objects, tallies, clients, second, at)?;
+        let one = seen_at(alloc, objects, tallies, clients, custody, second, at)?;
         seen.push(one)?;
     }
     Ok(seen)
 }
 
-/// Puts a status in place of what is in `out`: the text of what is told of all objects, of their connections and of the
-/// counts of their calls, in this second. The error is that memory was refused.
+/// Puts a status in place of what is in `out`: the text of what is told of all objects, of their connections, of the counts
+/// of their calls and of what is held, in this second. The error is that memory was refused.
 pub fn write_look(
     alloc: Global,
     objects: &[Hosted],
     tallies: &Tallies,
     clients: &Clients,
+    custody: &AllHeld,
     second: u64,
     out: &mut Vec<u8>,
 ) -> Result<(), AllocError>
-    ensures { OnOk result (IsStatus objects.now tallies.now.objects.items clients.now second out.new.items) }
+    ensures { OnOk result (IsStatus objects.now tallies.now.objects.items clients.now custody.now second out.new.items) }
 {
-    let seen = seen_in(alloc, objects, tallies, clients, second)?;
+    let seen = seen_in(alloc, objects, tallies, clients, custody, second)?;
     out.clear();
     push_objects(out, &seen)?;
     Ok(())
