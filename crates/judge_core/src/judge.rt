@@ -16,6 +16,7 @@ ghost use Rattle.judge_core.specs.Given.{AreSpelled, IsDamaged, AreChanges};
 ghost use Rattle.judge_core.specs.Verdicts.{ReadAs, Rising, AreBits, ReadsNone, HasReads, IsPart, IsChangeOf, IsStep};
 ghost use Rattle.judge_core.specs.Verdicts.{MayLeave};
 
+use crate::held::Held;
 use decl_core::footprint::{is_in, reads, writes};
 use decl_core::id::PartId;
 use decl_core::object::Operation;
@@ -24,13 +25,12 @@ use known_core::evaluate::evaluate;
 use known_core::pages::Pages;
 use page_core::file_bytes::FileBytes;
 use piece_core::page::page_of;
+use spelled_core::spelled::Spelled;
 use std::alloc::{AllocError, Global};
 use text_core::text::Text;
 use value_core::datum::Datum;
-use value_core::decode::{DecodeFault, decode};
-use value_core::encode::encode;
-use value_core::kind::{Elem, Kind};
-use value_core::value::Value;
+use value_core::decode::DecodeFault;
+use value_core::kind::Elem;
 
 /// A part that the body changed, and the bytes that spell its new value.
 #[derive(Drop)]
@@ -61,11 +61,11 @@ ghost use Rattle.judge_core.specs.Reads.{AreKnown};
 ghost use Rattle.judge_core.specs.Judged.{JudgedOn, IsNextOf, OnlyWrites, Settled, StoppedAs};
 ghost use Rattle.judge_core.specs.declared.judge.Verdict.TheVariants as verdicts;
 
-// A value that takes no memory, in the place of a part that is not read.
-fn unread(alloc: Global) -> Result<Value, DecodeFault>
+// A value in the place of a part that is not read.
+fn unread(alloc: Global) -> Result<Spelled, DecodeFault>
     ensures { IsErrOf result DecodeFault.Damaged → ⊥ }
 {
-    let value = Value::opening(alloc, Kind::Queue(Elem::Integer))?;
+    let value = Spelled::none(alloc, Elem::Integer)?;
     Ok(value)
 }
 
@@ -76,7 +76,7 @@ fn decode_part(
     reads: u16,
     part: usize,
     read: &[FileBytes],
-) -> Result<Value, DecodeFault>
+) -> Result<Spelled, DecodeFault>
     requires part { part < length operation.now.kinds.items }
     requires bits { AreBits reads (Reads (body_of operation.now).statements) }
     requires read { HasReads operation.now read.now }
@@ -87,13 +87,13 @@ fn decode_part(
         return unread(alloc);
     }
     match operation.kinds[part] {
-        Some(kind) => decode(alloc, kind, read[part].as_slice()),
+        Some(kind) => Spelled::read(alloc, kind, read[part].as_slice()),
         None => unread(alloc),
     }
 }
 
 // Adds the value of the next part.
-fn put(parts: &mut Vec<Value>, value: Value) -> Result<(), AllocError>
+fn put(parts: &mut Vec<Spelled>, value: Spelled) -> Result<(), AllocError>
     ensures { OnOk result (parts.new.items ≡ parts.old.items ++ value ∷ []) }
 {
     parts.push(value)?;
@@ -106,7 +106,7 @@ fn decode_parts(
     operation: &Operation,
     reads: u16,
     read: &[FileBytes],
-) -> Result<Vec<Value>, DecodeFault>
+) -> Result<Vec<Spelled>, DecodeFault>
     requires bits { AreBits reads (Reads (body_of operation.now).statements) }
     requires read { HasReads operation.now read.now }
     ensures spelled { IfOk result (λ parts. AreSpelled (ReadAs read.now) operation.now parts.items) }
@@ -131,7 +131,7 @@ fn decode_all(
     alloc: Global,
     operation: &Operation,
     read: &[FileBytes],
-) -> Result<Vec<Value>, DecodeFault>
+) -> Result<Vec<Spelled>, DecodeFault>
     requires read { HasReads operation.now read.now }
     ensures spelled { IfOk result (λ parts. AreSpelled (ReadAs read.now) operation.now parts.items) }
     ensures few { IfOk result (λ parts. length parts.items ≤ 16) }
@@ -150,14 +150,14 @@ fn change_of(
     alloc: Global,
     part: usize,
     before: &FileBytes,
-    after: &Value,
+    after: &Spelled,
 ) -> Result<Option<Change>, AllocError>
     ensures { IfOk result (IsChangeOf before.now part after.now) }
 {
-    let bytes = FileBytes::new(encode(alloc, after)?);
-    if bytes.as_slice() == before.as_slice() {
+    if after.bytes() == before.as_slice() {
         return Ok(None);
     }
+    let bytes = FileBytes::new(after.bytes().to_vec(alloc)?);
     Ok(Some(Change { part, bytes }))
 }
 
@@ -168,7 +168,7 @@ fn change_at(
     writes: u16,
     part: usize,
     read: &[FileBytes],
-    after: &[Value],
+    after: &[Spelled],
 ) -> Result<Option<Change>, AllocError>
     requires part { part < length after.now }
     requires few { length after.now ≤ 16 }
@@ -198,7 +198,7 @@ fn changes_of(
     alloc: Global,
     operation: &Operation,
     read: &[FileBytes],
-    after: &[Value],
+    after: &[Spelled],
 ) -> Result<Vec<Change>, AllocError>
     requires few { length after.now ≤ 16 }
     requires read { HasReads operation.now read.now }
@@ -218,7 +218,7 @@ fn changes_of(
 }
 
 // The page that is needed.
-fn needed(parts: &[Value], part: PartId, index: u32) -> Verdict
+fn needed(parts: &[Spelled], part: PartId, index: u32) -> Verdict
     requires there { part < length parts.now }
     ensures page { result ≡ verdicts.Needs part (in_page index) }
     ensures contents { IsContents (part_at parts.now part) }
@@ -229,7 +229,7 @@ fn needed(parts: &[Value], part: PartId, index: u32) -> Verdict
 }
 
 // What becomes of a body that stopped, and left these parts.
-fn stopped(stop: Stop, parts: &[Value]) -> Verdict
+fn stopped(stop: Stop, parts: &[Spelled]) -> Verdict
     requires there { (p i : ℕ) → stop ≡ stops.Needs p i → p < length parts.now }
     ensures { StoppedAs parts.now stop result }
 {
@@ -247,7 +247,7 @@ fn judge_parts(
     args: &[Datum],
     known: &Pages,
     read: &[FileBytes],
-    mut parts: Vec<Value>,
+    parts: Vec<Spelled>,
 ) -> Verdict
     requires fits { ArgumentsFit operation.now args.now }
     requires read { HasReads operation.now read.now }
@@ -260,14 +260,14 @@ fn judge_parts(
     ensures writes { OnlyWrites operation.now result }
     ensures settled { parts.items ≡ [] → Settled result }
 {
-    // (What takes the changes back is not needed: the values are dropped.)
-    let mut log = Vec::new(alloc);
-    match evaluate(operation, args, &mut parts, known, &mut log) {
-        Ok(reply) => match changes_of(alloc, operation, read, &parts) {
+    // (Nothing takes the changes back: the values are dropped.)
+    let mut held = Held { values: parts };
+    match evaluate(operation, args, &mut held, known) {
+        Ok(reply) => match changes_of(alloc, operation, read, &held.values) {
             Ok(changes) => Verdict::Done(reply, changes),
             Err(_) => Verdict::Memory,
         },
-        Err(stop) => stopped(stop, &parts),
+        Err(stop) => stopped(stop, &held.values),
     }
 }
 

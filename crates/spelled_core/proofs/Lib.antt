@@ -1,0 +1,10 @@
+pub mod Strips
+pub mod Theres
+pub mod Skips
+pub mod Cuts
+pub mod Shapes
+pub mod Queues
+pub mod Tables
+pub mod Arrays
+pub mod Holding
+pub mod Splices

@@ -1,0 +1,4 @@
+pub mod There
+pub mod Entries
+pub mod Cuts
+pub mod Remade

@@ -1,0 +1,13 @@
+//! Values in the bytes that spell them: what stands where in the bytes, and bytes with a change in them.
+#![tactic(auto)]
+
+pub mod array;
+mod find;
+mod header;
+pub mod laws;
+pub mod queue;
+mod skip;
+pub mod spelled;
+mod splice;
+mod strip;
+pub mod table;
