@@ -10,7 +10,7 @@ use Rattle.known_core.proofs.act.+acting.Goals as goal
 
 pub act-act_all-requires : goal.act-act_all-requires
 act-act_all-requires g t c =
-    (search (rules, the_lemmas), subst (StatementFits (map kind_of (g.P.Parts.values c.args.parts.now))) (block_as c.args.s.now c.in-Block.all c.deref.result.now c.in-Block.is c.deref.ensures.value) c.requires.fits)
+    λ κs longer. (search (rules, the_lemmas), (longer, subst (StatementFits (map kind_of (g.P.Parts.values c.args.parts.now))) (block_as c.args.s.now c.in-Block.all c.deref.result.now c.in-Block.is c.deref.ensures.value) c.requires.fits))
 
 pub act-returns-in-Block-clause-left : goal.act-returns-in-Block-clause-left
 act-returns-in-Block-clause-left g t c =

@@ -12,12 +12,12 @@ use Rattle.known_core.proofs.eval.+evaluating.Goals as goal
 pub integer-integer-requires : goal.integer-integer-requires
 integer-integer-requires g t c =
     let fit = sum_fits (map kind_of (g.P.Parts.values c.args.parts.now)) c.args.e.now c.in-Sum.first c.in-Sum.terms c.in-Sum.is c.requires.fits in
-    (search (rules, the_lemmas), subst (λ e. IntegersFit (map kind_of (g.P.Parts.values c.args.parts.now)) (integers_of e)) (sym c.deref-in-Sum.ensures) fit.0)
+    λ κs longer. (search (rules, the_lemmas), (longer, subst (λ e. IntegersFit (map kind_of (g.P.Parts.values c.args.parts.now)) (integers_of e)) (sym c.deref-in-Sum.ensures) fit.0))
 
 pub integer-sum-requires : goal.integer-sum-requires
 integer-sum-requires g t c =
     let fit = sum_fits (map kind_of (g.P.Parts.values c.args.parts.now)) c.args.e.now c.in-Sum.first c.in-Sum.terms c.in-Sum.is c.requires.fits in
-    (search (rules, the_lemmas), subst (TermsFit (map kind_of (g.P.Parts.values c.args.parts.now))) (sym c.deref-in-Ok.ensures.value) fit.1)
+    λ κs longer. (search (rules, the_lemmas), (longer, subst (TermsFit (map kind_of (g.P.Parts.values c.args.parts.now))) (sym c.deref-in-Ok.ensures.value) fit.1))
 
 pub integer-returns-in-Ok : goal.integer-returns-in-Ok
 integer-returns-in-Ok g t c =
