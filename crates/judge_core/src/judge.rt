@@ -145,6 +145,14 @@ fn decode_all(
     decode_parts(alloc, operation, reads, read)
 }
 
+// The same bytes, as those of a file.
+fn copied(alloc: Global, bytes: &[u8]) -> Result<FileBytes, AllocError>
+    ensures { IfOk result (λ file. file ≡ bytes.now) }
+{
+    let bytes = bytes.to_vec(alloc)?;
+    Ok(FileBytes::new(bytes))
+}
+
 // The change of a part, from its bytes before and its value after.
 fn change_of(
     alloc: Global,
@@ -154,10 +162,11 @@ fn change_of(
 ) -> Result<Option<Change>, AllocError>
     ensures { IfOk result (IsChangeOf before.now part after.now) }
 {
-    if after.bytes() == before.as_slice() {
+    let spelled = after.bytes();
+    if spelled == before.as_slice() {
         return Ok(None);
     }
-    let bytes = FileBytes::new(after.bytes().to_vec(alloc)?);
+    let bytes = copied(alloc, spelled)?;
     Ok(Some(Change { part, bytes }))
 }
 
