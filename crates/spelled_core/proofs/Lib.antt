@@ -1,6 +1,7 @@
 pub mod Strips
 pub mod Theres
 pub mod Skips
+pub mod Integers
 pub mod Cuts
 pub mod Shapes
 pub mod Queues
@@ -8,3 +9,6 @@ pub mod Tables
 pub mod Arrays
 pub mod Holding
 pub mod Splices
+pub mod Orders
+pub mod Plains
+pub mod Cutting

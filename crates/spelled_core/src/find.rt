@@ -8,6 +8,7 @@ ghost use Rattle.value_core.specs.declared.format.Format.TheVariants.{Second};
 ghost use Rattle.value_core.specs.Spelling.{SpellRows};
 ghost use Rattle.spelled_core.specs.Cuts.{StandsIn, GapIn};
 
+use crate::order::order;
 use crate::skip::{skip, split_text};
 use std::cmp::Ordering;
 use text_core::text::Text;
@@ -25,7 +26,7 @@ fn find<'a>(sort: Elem, count: u16, bytes: &'a [u8], key: &[u8]) -> (bool, &'a [
         let Some((front, value)) = split_text(rest) else {
             return (false, rest, rest);
         };
-        match front.cmp(key) {
+        match order(front, key) {
             Ordering::Less => (),
             Ordering::Equal => return (true, rest, value),
             Ordering::Greater => return (false, rest, value),

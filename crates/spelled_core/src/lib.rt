@@ -5,6 +5,8 @@ pub mod array;
 mod find;
 mod header;
 pub mod laws;
+mod order;
+mod plain;
 pub mod queue;
 mod skip;
 pub mod spelled;

@@ -86,19 +86,42 @@ pub fn skip(sort: Elem, bytes: &[u8]) -> Option<&[u8]>
     }
 }
 
-/// What is behind so many elements, where there are so many.
-pub fn behind(sort: Elem, count: usize, bytes: &[u8]) -> &[u8]
-    ensures { (xs : List Datum) → All (IsElement sort) xs → bytes.now ≡ flat_map spelled_datum xs →
+// What is behind so many integers, where there are so many: each takes four bytes.
+fn behind_integers(count: usize, bytes: &[u8]) -> &[u8]
+    ensures { (xs : List Datum) → All (IsElement elem.Integer) xs → bytes.now ≡ flat_map spelled_datum xs →
+        count ≤ length xs → result.now ≡ flat_map spelled_datum (drop count xs) }
+{
+    if count > bytes.len() / 4 {
+        return bytes;
+    }
+    let (_, rest) = cut(bytes, count * 4);
+    rest
+}
+
+// What is behind so many texts, where there are so many: their lengths are walked.
+fn behind_texts(count: usize, bytes: &[u8]) -> &[u8]
+    ensures { (xs : List Datum) → All (IsElement elem.Text) xs → bytes.now ≡ flat_map spelled_datum xs →
         count ≤ length xs → result.now ≡ flat_map spelled_datum (drop count xs) }
 {
     let mut rest = bytes;
     for place in 0..count {
-        let Some(next) = skip(sort, rest) else {
+        let Some(next) = skip_text(rest) else {
             return rest;
         };
         rest = next;
     }
     rest
+}
+
+/// What is behind so many elements, where there are so many.
+pub fn behind(sort: Elem, count: usize, bytes: &[u8]) -> &[u8]
+    ensures { (xs : List Datum) → All (IsElement sort) xs → bytes.now ≡ flat_map spelled_datum xs →
+        count ≤ length xs → result.now ≡ flat_map spelled_datum (drop count xs) }
+{
+    match sort {
+        Elem::Integer => behind_integers(count, bytes),
+        Elem::Text => behind_texts(count, bytes),
+    }
 }
 
 // The integer at the front, where one stands there.

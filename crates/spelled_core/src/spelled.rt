@@ -85,13 +85,6 @@ impl Spelled {
         &self.bytes
     }
 
-    /// The bytes that spell it, as its own.
-    pub fn into_bytes(self) -> Vec<u8>
-        ensures { Spells result.items (kind_of self) self }
-    {
-        self.bytes
-    }
-
     // What its entries are.
     fn sort(&self) -> Elem
         ensures { result ≡ sort_of (kind_of self.now) }

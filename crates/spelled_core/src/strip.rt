@@ -2,9 +2,9 @@
 
 ghost use Rattle.std.specs.Int.{w16, w32, to_be_bytes};
 ghost use Rattle.value_core.specs.declared.kind.Elem.TheVariants as elem;
-ghost use Rattle.std.specs.Prelude.{◌≡◌, ◌≢◌, ◌<◌, ◌^◌, ◌++◌, ◌↔◌, List, [], ℕ, All, IfSome, IfNone, IsTrue, IsFalse};
+ghost use Rattle.std.specs.Prelude.{◌≡◌, ◌≢◌, ◌<◌, ◌^◌, ◌++◌, ◌↔◌, List, [], ℕ, IfSome, IfNone, IsTrue, IsFalse};
 ghost use Rattle.std.specs.FinMap.{FinMap};
-ghost use Rattle.text_core.specs.Plain.{IsPlain, IsText};
+ghost use Rattle.text_core.specs.Plain.{IsText};
 ghost use Rattle.text_core.specs.TextOrder.{text_cmp};
 ghost use Rattle.value_core.specs.declared.datum.Datum.{Datum};
 ghost use Rattle.value_core.specs.declared.format.Format.TheVariants.{Second};
@@ -13,23 +13,11 @@ ghost use Rattle.value_core.specs.Contents.{IsRow};
 ghost use Rattle.value_core.specs.Spelling.{spelled_text, spelled_datum, spelled_row, SpellElements, SpellRows, IsAfter};
 ghost use Rattle.spelled_core.specs.There.{last_key, BytesTell};
 
+use crate::order::order;
+use crate::plain::is_text;
 use std::cmp::Ordering;
-use text_core::limits::{MOST_TEXT_BYTES, TextLength};
+use text_core::limits::TextLength;
 use value_core::kind::Elem;
-
-// Whether a text may have this byte.
-fn is_plain(byte: u8) -> bool
-    ensures { IsTrue result ↔ IsPlain byte }
-{
-    matches!(byte, 32..=126)
-}
-
-// Whether these bytes are a text.
-fn is_text(bytes: &[u8]) -> bool
-    ensures { IsTrue result ↔ IsText bytes.now }
-{
-    bytes.len() <= MOST_TEXT_BYTES && bytes.iter().all(|b| is_plain(*b))
-}
 
 /// The number in two bytes, and what is behind it.
 pub fn past_length(bytes: &[u8]) -> Option<(TextLength, &[u8])>
@@ -121,19 +109,38 @@ fn is_end(bytes: &[u8]) -> bool
     }
 }
 
-/// Whether the bytes are so many elements of this sort.
-pub fn are_elements(sort: Elem, count: u16, bytes: &[u8]) -> bool
-    ensures yes { IsTrue result → (xs : List Datum) × SpellElements Second bytes.now sort count xs }
-    ensures no { IsFalse result → (xs : List Datum) → SpellElements Second bytes.now sort count xs → ⊥ }
+// Whether the bytes are so many integers: each four bytes are one.
+fn are_integers(count: u16, bytes: &[u8]) -> bool
+    ensures yes { IsTrue result → (xs : List Datum) × SpellElements Second bytes.now elem.Integer count xs }
+    ensures no { IsFalse result → (xs : List Datum) → SpellElements Second bytes.now elem.Integer count xs → ⊥ }
+{
+    bytes.len() == count as usize * 4
+}
+
+// Whether the bytes are so many texts.
+fn are_texts(count: u16, bytes: &[u8]) -> bool
+    ensures yes { IsTrue result → (xs : List Datum) × SpellElements Second bytes.now elem.Text count xs }
+    ensures no { IsFalse result → (xs : List Datum) → SpellElements Second bytes.now elem.Text count xs → ⊥ }
 {
     let mut rest = bytes;
     for place in 0..count {
-        let Some(behind) = past_datum(sort, rest) else {
+        let Some(behind) = past_one_text(rest) else {
             return false;
         };
         rest = behind;
     }
     is_end(rest)
+}
+
+/// Whether the bytes are so many elements of this sort.
+pub fn are_elements(sort: Elem, count: u16, bytes: &[u8]) -> bool
+    ensures yes { IsTrue result → (xs : List Datum) × SpellElements Second bytes.now sort count xs }
+    ensures no { IsFalse result → (xs : List Datum) → SpellElements Second bytes.now sort count xs → ⊥ }
+{
+    match sort {
+        Elem::Integer => are_integers(count, bytes),
+        Elem::Text => are_texts(count, bytes),
+    }
 }
 
 // The key of the row at the front, and what is behind the row.
@@ -159,7 +166,7 @@ fn rises(first: bool, last: &[u8], key: &[u8]) -> bool
     if first {
         return true;
     }
-    matches!(last.cmp(key), Ordering::Less)
+    matches!(order(last, key), Ordering::Less)
 }
 
 /// Whether the bytes are so many rows of a table, keys rising.
