@@ -1,38 +1,10 @@
--- Bytes, cut behind the first two, four and eight.
+-- Bytes, cut behind the first eight.
 use Rattle.std.proofs.Common.{◌≡◌, ℕ, ◌-◌, ◌≤◌, List, [], ◌∷◌, ◌++◌, length, take, drop, refl, sym, ap, ◌∙◌, arith}
 use Rattle.std.specs.Prelude.{get_or}
 
 taken_whole : (xs : List ℕ) → take (length xs) xs ≡ xs
 taken_whole [] = refl
 taken_whole (x ∷ xs) = ap (λ (ys : List ℕ). x ∷ ys) (taken_whole xs)
-
-abbrev pub first_two : List ℕ → List ℕ
-first_two bytes = get_or bytes 0 0 ∷ get_or bytes 1 0 ∷ []
-
-abbrev pub behind_two : List ℕ → List ℕ
-behind_two bytes = take (length bytes - 2) (drop 2 bytes)
-
-pub cut_two : (bytes : List ℕ) → 2 ≤ length bytes → bytes ≡ first_two bytes ++ behind_two bytes
-cut_two [] few = absurd (omega (arith, few))
-cut_two (a ∷ []) few = absurd (omega (arith, few))
-cut_two (a ∷ b ∷ rest) few =
-    let many : length (a ∷ b ∷ rest) - 2 ≡ length rest = omega arith in
-    ap (λ (r : List ℕ). a ∷ b ∷ r) (sym (ap (λ k. take k rest) many ∙ taken_whole rest))
-
-abbrev pub first_four : List ℕ → List ℕ
-first_four bytes = get_or bytes 0 0 ∷ get_or bytes 1 0 ∷ get_or bytes 2 0 ∷ get_or bytes 3 0 ∷ []
-
-abbrev pub behind_four : List ℕ → List ℕ
-behind_four bytes = take (length bytes - 4) (drop 4 bytes)
-
-pub cut_four : (bytes : List ℕ) → 4 ≤ length bytes → bytes ≡ first_four bytes ++ behind_four bytes
-cut_four [] few = absurd (omega (arith, few))
-cut_four (a ∷ []) few = absurd (omega (arith, few))
-cut_four (a ∷ b ∷ []) few = absurd (omega (arith, few))
-cut_four (a ∷ b ∷ c ∷ []) few = absurd (omega (arith, few))
-cut_four (a ∷ b ∷ c ∷ d ∷ rest) few =
-    let many : length (a ∷ b ∷ c ∷ d ∷ rest) - 4 ≡ length rest = omega arith in
-    ap (λ (r : List ℕ). a ∷ b ∷ c ∷ d ∷ r) (sym (ap (λ k. take k rest) many ∙ taken_whole rest))
 
 abbrev pub first_eight : List ℕ → List ℕ
 first_eight bytes = get_or bytes 0 0 ∷ get_or bytes 1 0 ∷ get_or bytes 2 0 ∷ get_or bytes 3 0 ∷ get_or bytes 4 0 ∷ get_or bytes 5 0 ∷ get_or bytes 6 0 ∷ get_or bytes 7 0 ∷ []

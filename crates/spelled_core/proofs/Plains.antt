@@ -25,10 +25,6 @@ both_so false y xs ys first second = (λ yes. absurd (false≢true yes), λ each
 pub both_plain : (r x y : Bool) (xs ys : List ℕ) → r ≡ (x && y) → (IsTrue x ↔ All IsPlain xs) → (IsTrue y ↔ All IsPlain ys) → IsTrue r ↔ All IsPlain (xs ++ ys)
 both_plain r x y xs ys is first second = subst (λ b. IsTrue b ↔ All IsPlain (xs ++ ys)) (sym is) (both_so x y xs ys first second)
 
--- so where the bytes are cut
-pub cut_plain : (r x y : Bool) (bytes front rest : List ℕ) → bytes ≡ front ++ rest → r ≡ (x && y) → (IsTrue x ↔ All IsPlain front) → (IsTrue y ↔ All IsPlain rest) → IsTrue r ↔ All IsPlain bytes
-cut_plain r x y bytes front rest cut is first second = subst (λ (b : List ℕ). IsTrue r ↔ All IsPlain b) (sym cut) (both_plain r x y front rest is first second)
-
 -- a front that is plain is passed
 pub front_passed : (r : Bool) (whole front rest bytes : List ℕ) → whole ≡ front ++ rest → (IsTrue r ↔ All IsPlain front) → IsTrue r → (All IsPlain whole ↔ All IsPlain bytes) → All IsPlain rest ↔ All IsPlain bytes
 front_passed r whole front rest bytes cut is so all =

@@ -38,34 +38,14 @@ fn are_plain_eight(a: u8, b: u8, c: u8, d: u8, e: u8, f: u8, g: u8, h: u8) -> bo
     both(are_plain_four(a, b, c, d), are_plain_four(e, f, g, h))
 }
 
-// Whether a text may have each of these bytes, by one; by two, and what is left by one; by four, and what is left by two.
+// Whether a text may have each of these bytes, looked at one by one.
 fn are_plain_by_one(bytes: &[u8]) -> bool
     ensures { IsTrue result ↔ All IsPlain bytes.now }
 {
     bytes.iter().all(|b| is_plain(*b))
 }
 
-fn are_plain_by_two(bytes: &[u8]) -> bool
-    ensures { IsTrue result ↔ All IsPlain bytes.now }
-{
-    match bytes {
-        [a, b, behind @ ..] => both(are_plain_two(*a, *b), are_plain_by_one(behind)),
-        _ => are_plain_by_one(bytes),
-    }
-}
-
-fn are_plain_by_four(bytes: &[u8]) -> bool
-    ensures { IsTrue result ↔ All IsPlain bytes.now }
-{
-    match bytes {
-        [a, b, c, d, behind @ ..] => {
-            both(are_plain_four(*a, *b, *c, *d), are_plain_by_two(behind))
-        }
-        _ => are_plain_by_two(bytes),
-    }
-}
-
-// The same, by eight.
+// The same, eight by eight.
 fn are_plain(bytes: &[u8]) -> bool
     ensures { IsTrue result ↔ All IsPlain bytes.now }
 {
@@ -76,7 +56,7 @@ fn are_plain(bytes: &[u8]) -> bool
         }
         rest = behind;
     }
-    are_plain_by_four(rest)
+    are_plain_by_one(rest)
 }
 
 /// Whether these bytes are a text.
