@@ -1,8 +1,8 @@
 -- What becomes of the object at a place, and what is due of all objects.
 use Rattle.std.proofs.Common.{◌≡◌, ◌≢◌, ◌∙◌, ap, sym, subst, refl, ℕ, zero, suc, ◌<◌, ◌≤◌, ◌⊎◌, inl, inr, List, [], ◌∷◌, length, take, get_or, arith, ◌+◌}
-use Rattle.std.specs.Prelude.{All, eqb, leb, true, false, Option, Some, None, Result, Ok, Err, IfOk, IfSome, MatchOption, slice_get, slice_set}
+use Rattle.std.specs.Prelude.{All, Bool, eqb, leb, not, true, false, Option, Some, None, Result, Ok, Err, IfOk, IfSome, MatchOption, is_some, slice_get, slice_set}
 use Rattle.std.proofs.lemmas.Bool.Decides.{eqb_tells, leb_tells}
-use Rattle.std.proofs.lemmas.Option.{slice_get-get_or, slice_get_past, slice_get_within}
+use Rattle.std.proofs.lemmas.Option.{slice_get-get_or, slice_get_past, slice_get_read, slice_get_within}
 use Rattle.hosted_core.specs.Scene.{Scene}
 use Rattle.gone_core.specs.Holding.{Holding, HoldsSome, IsDueOf, NothingIsDueOf}
 use Rattle.std.specs.declared.alloc.AllocError.{AllocError}
@@ -164,6 +164,11 @@ pub none_there : (rows : List Holding) (at session : ℕ) (h : Holding) → slic
     (c : Custody) × (slice_get (custodies_of rows) at ≡ Some c) × HasNone session c.held
 none_there rows at session h is none = (custody_of h, some_at rows at h is, none)
 
+pub none_if : (r : Bool) (rows : List Holding) (at session : ℕ) (h : Holding) → slice_get rows at ≡ Some h → (r ≡ false → HasNone session h.held) → not r ≡ true →
+    (c : Custody) × (slice_get (custodies_of rows) at ≡ Some c) × HasNone session c.held
+none_if true rows at session h is none so = absurd cc
+none_if false rows at session h is none so = none_there rows at session h is (none refl)
+
 pub some_there : (rows : List Holding) (at session : ℕ) (h g : Holding) → slice_get rows at ≡ Some h → HoldsSome h.held session → slice_get rows at ≡ Some g → HoldsSome g.held session
 some_there rows at session h g is some found = subst (λ (x : Holding). HoldsSome x.held session) (same_there rows at h g is found) some
 
@@ -182,3 +187,26 @@ pub tick_there : (t : Option Ticking) (rows : List Holding) (at place : ℕ) (h 
     IfSome t (λ t. (c : Custody) × (slice_get (custodies_of rows) at ≡ Some c) × ((e : EveryForm) × (slice_get c.rules.everies place ≡ Some e) × (t.op ≡ e.op)))
 tick_there None rows at place h there is = tt
 tick_there (Some t) rows at place h there is = (custody_of h, some_at rows at h there, is)
+
+-- the first that is due, or none
+there_in : (rows all : List Holding) (at len : ℕ) (h : Holding) → rows ≡ all → len ≡ length rows → at < len → h ≡ get_or rows at h → slice_get all at ≡ Some h
+there_in rows all at len h same is less read = subst (λ (l : List Holding). slice_get l at ≡ Some h) same (slice_get_read rows len at h is less read)
+
+pub goes_on : (r : Option DueCall) (second : ℕ) (rows all : List Holding) (at len : ℕ) (h : Holding) → rows ≡ all → len ≡ length rows → at < len →
+    h ≡ get_or rows at h → is_some r ≡ false →
+    MatchOption r (NothingIsDue second h) (λ due. (object_due due ≡ at) × IsDueThere second h due) → NoneBefore second all at → NoneBefore second all (at + 1)
+goes_on None second rows all at len h same is less read isnt due before = none_more second all at h before (there_in rows all at len h same is less read) due
+goes_on (Some d) second rows all at len h same is less read isnt due before = absurd cc
+
+pub found_first : (r : Option DueCall) (second : ℕ) (rows all : List Holding) (at len : ℕ) (h : Holding) → rows ≡ all → len ≡ length rows → at < len →
+    h ≡ get_or rows at h → is_some r ≡ true →
+    MatchOption r (NothingIsDue second h) (λ due. (object_due due ≡ at) × IsDueThere second h due) → NoneBefore second all at →
+    MatchOption r (All (NothingIsDue second) all) (IsFirst second all)
+found_first None second rows all at len h same is less read does due before = absurd cc
+found_first (Some d) second rows all at len h same is less read does due before =
+    first_is second all at h d before (there_in rows all at len h same is less read) due.0 due.1
+
+pub none_found : (second : ℕ) (rows all : List Holding) (at len : ℕ) → rows ≡ all → len ≡ length rows → len ≤ at → NoneBefore second all at → All (NothingIsDue second) all
+none_found second rows all at len same is past before =
+    let long : length rows ≡ length all = ap (λ (l : List Holding). length l) same in
+    none_of_all second all at (omega (arith, is, past, long)) before
