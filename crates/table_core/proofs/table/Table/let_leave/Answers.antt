@@ -6,4 +6,5 @@ returns c =
     free_noted c.args.self.now.custody c.note.new.self c.args.self.now.objects.items c.leave_at.new.objects.items c.args.self.now.clients c.args.at c.args.one.session
     c.note.ensures
     (free_left c.note.new.self c.args.self.now.objects.items c.leave_at.new.objects.items c.args.self.now.clients c.args.at c.args.one.session c.args.self.now.second
-    (c.may_free.ensures.apart c.if-not-may_free.false) (c.may_free.ensures.none c.if-not-may_free.false) c.leave_at.ensures)
+    (c.may_free.ensures.apart c.if-not-may_free.false) (c.may_free.ensures.none c.if-not-may_free.false)
+    (c.may_free.ensures.idle c.if-not-may_free.false) c.leave_at.ensures)
