@@ -1,20 +1,30 @@
 -- What a start reads of what was written.
 use Rattle.std.proofs.Common.{◌≡◌, ◌⊎◌, inl, inr, ◌∙◌, ap, sym, subst, refl, ℕ, ◌<◌, List, [], ◌∷◌, ◌++◌, length, append_assoc}
-use Rattle.std.specs.Prelude.{Option, Some, None, slice_get}
+use Rattle.std.specs.Prelude.{codes, false, Option, Some, None, slice_get}
 use Rattle.std.proofs.lemmas.List.{append-nil, append_cancel_left}
 use Rattle.std.proofs.lemmas.Option.{same_Some}
 use Rattle.path_tree.specs.Trace.{Event, running_calls}
 use Rattle.path_count.specs.Stands.{StandsFor}
 use Rattle.decl_core.specs.ObjectForm.{ObjectForm}
 use Rattle.decl_core.specs.ObjectMap.{object_of}
+use Rattle.trace_core.specs.Events.{Happened as Ended}
 use Rattle.past_core.specs.declared.past.PastEvent.{PastEvent}
 use Rattle.past_core.specs.Past.{events_of}
 use Rattle.front_core.specs.declared.past.PastRun.{PastRun}
 use Rattle.front_core.specs.Past.{events_in}
-use Rattle.front_core.specs.Front.{HasRows, Opening}
+use Rattle.front_core.specs.Front.{Every, HasRows, Opening}
 use Rattle.front_core.specs.Text.{front_text}
+use Rattle.front_read.specs.Rows.{has_verb}
 use Rattle.front_read.specs.Text.{goes_on}
+use Rattle.front_law.proofs.Holding.{written_has_held}
 use Rattle.front_law.proofs.Reading.{front_is_written, written_is_read}
+use Rattle.hold_form.specs.HoldForm.{RulesForm}
+use Rattle.hold_core.specs.Held.{HeldCall}
+use Rattle.hold_front.specs.HeldLines.{held_text, IsHeldLine}
+use Rattle.hold_front.specs.HeldText.{HasHeld}
+use Rattle.hold_front.specs.Laws.{AreEndings, HeldAreLines}
+use Rattle.hold_law.specs.Ended.{HoldsBy}
+use Rattle.hold_law.proofs.Turning.{turns_hold}
 use Rattle.replay_core.specs.Steps.{Begun, Step, nothing_heard, told_by}
 use Rattle.recover_core.specs.declared.recover.House.{House}
 use Rattle.recover_core.specs.declared.recover.Recovered.{Recovered}
@@ -32,9 +42,11 @@ use Rattle.year_law.proofs.Reading.{epochs_up_to, read_is_epoch}
 use Rattle.year_law.proofs.Sound.{epochs_are_sound}
 use Rattle.post_core.specs.Texts.{Begins, to}
 use Rattle.post_core.specs.Turns.{Turn, Runs, added_by}
-use Rattle.keep_loop.specs.Epochs.{rules_of, front_in, before_in, since_in, Agrees, HasBegun, LastBegan, change_to, BeginsNone}
-use Rattle.keep_loop.specs.Stands.{Survives}
-use Rattle.told_core.specs.Custody.{Custodies, held_lines, held_lines_in}
+use Rattle.keep_loop.specs.declared.keep.Limits.{Limits}
+use Rattle.keep_loop.specs.Seen.{Happened}
+use Rattle.keep_loop.specs.Epochs.{rules_of, front_in, before_in, since_in, stored_since, Agrees, HasBegun, LastBegan, change_to, BeginsNone}
+use Rattle.keep_loop.specs.Stands.{IsBetween, Survives}
+use Rattle.told_core.specs.Custody.{Custody, Custodies, held_lines, held_lines_in}
 use Rattle.table_core.specs.Moves.{Gives, Fronts}
 use Rattle.table_core.specs.Seen.{seen}
 use Rattle.table_core.specs.declared.table.Table.{Table}
@@ -42,9 +54,11 @@ use Rattle.kept_law.specs.Kept.{Stood}
 use Rattle.kept_law.specs.Lived.{HasLived, LeavesOneHistory, epoch_in}
 use Rattle.kept_law.proofs.Empty.{front_change, no_bytes, no_lines, nothing_played, since_change}
 use Rattle.kept_law.proofs.Going.{runs_are_steps, set_at}
-use Rattle.kept_law.proofs.Living.{begun_epochs, crash_leaves_one_history, read_lives_on, turns_live_on}
+use Rattle.kept_law.proofs.Living.{begun_epochs, crash_leaves_one_history, read_lives_on, turns_have_one_history, turns_live_on}
+use Rattle.life_law.specs.Ends.{CrashSaysHeld, IsHeldRead}
 use Rattle.life_law.specs.Keeps.{Keeps, KeepsAt}
 use Rattle.life_law.specs.Lives.{CrashLeavesLives, IsReadOn, LivesOn, ReadsOn, StartsAt, WrittenLivesOn}
+use Rattle.life_law.proofs.Ending.{held_says_so, turns_end_so}
 use Rattle.life_law.proofs.Rows.{next_front_has_rows}
 use Rattle.life_law.proofs.Turning.{objects_keep}
 
@@ -135,6 +149,38 @@ first_lives first last j o written earlier turns found s runs none within =
     written_lives_on first j o (begun_by written) earlier written (added_by j turns) found within.0 (lived_at first j o written earlier s) refl s.rows
     (record { names = s.names; old = s.scene; new = went.0; all = went.2; stands = s.stands }) within.1
 
+-- a journal that has begun anew by a text, in a turn of these
+record Anew (first : Table) (j : ℕ) (o : ObjectForm) (text found : List ℕ) (turns : List Turn) : Type 0 where
+  before : List Turn
+  rest : List Turn
+  cut : turns ≡ before ++ rest
+  at : Table
+  runs : Runs Gives first before at
+  scene : Scene
+  past_runs : List PastRun
+  rows : HasRows o (front_of scene (next_epoch scene) past_runs (next_base scene))
+  text_is : text ≡ front_text o (front_of scene (next_epoch scene) past_runs (next_base scene)) ++ held_lines o (slice_get (seen at).custody j)
+  mid : Table
+  epochs : List Epoch
+  lived : HasLived mid j o (begun_by (front_of scene (next_epoch scene) past_runs (next_base scene))) epochs
+  lines : List ℕ
+  lost : List ℕ
+  adds : Adds o (front_of scene (next_epoch scene) past_runs (next_base scene)) lines
+  found_is : lines ≡ found ++ lost
+
+abbrev anew_front : {first : Table} {j : ℕ} {o : ObjectForm} {text found : List ℕ} {turns : List Turn} → Anew first j o text found turns → Opening
+anew_front a = front_of a.scene (next_epoch a.scene) a.past_runs (next_base a.scene)
+
+-- one that has just begun anew, of which its object was not told
+record Ahead (last : Table) (j : ℕ) (o : ObjectForm) (text found : List ℕ) : Type 0 where
+  scene : Scene
+  past_runs : List PastRun
+  rows : HasRows o (front_of scene (next_epoch scene) past_runs (next_base scene))
+  text_is : text ≡ front_text o (front_of scene (next_epoch scene) past_runs (next_base scene)) ++ held_lines o (slice_get (seen last).custody j)
+  epochs : List Epoch
+  lives : LivesOn o (front_of scene (next_epoch scene) past_runs (next_base scene)) found epochs
+  nothing : found ≡ []
+
 module _ (first last : Table) (j : ℕ) (o : ObjectForm) (written : Opening) (earlier : List Epoch) (s : StartsAt first j o written earlier) (text found : List ℕ) (turns : List Turn) (runs : Runs Gives first turns last) where
   l : HasLived first j o (begun_by written) earlier
   l = lived_at first j o written earlier s
@@ -143,8 +189,8 @@ module _ (first last : Table) (j : ℕ) (o : ObjectForm) (written : Opening) (ea
   k = keeps_at first j o written earlier s
 
   -- a journal that has begun anew, and lines behind that
-  behind_lives : (before : List ℕ) → LastBegan j text before turns → Begins (before ++ found) (added_by j turns) → ReadsOn o text found
-  behind_lives before b only =
+  begun_anew : (before : List ℕ) → LastBegan j text before turns → Begins (before ++ found) (added_by j turns) → Anew first j o text found turns
+  begun_anew before b only =
       let parts = runs_split first last b.earlier (change_to j text ∷ b.since) (subst (λ ts. Runs Gives first ts last) b.cut runs) in
       let at : Table = parts.0 in
       let change = parts.2 in
@@ -162,30 +208,46 @@ module _ (first last : Table) (j : ℕ) (o : ObjectForm) (written : Opening) (ea
       let by : BeginsBy was bare now = subst (λ (x : Scene). BeginsBy x bare now) same begins.begun in
       let w = by.written in
       let f = front_of was (next_epoch was) w.runs (next_base was) in
-      let rows : HasRows o f = next_front_has_rows o reached.begun here.heard was now.past [] bare here.names here.stands keeps w in
       let stands = followed_stands o reached.begun here.heard was now now.past w.runs (next_epoch was) (next_base was) here.stands by.followed w.events in
       let there : slice_get mid.objects.items j ≡ Some now = ap (λ (x : List Scene). slice_get x j) begins.left ∙ set_at at.objects.items j now begins.before begins.there in
       let epochs = begun_epochs at mid j o reached.begun reached.earlier here bare now by in
-      let began : HasLived mid j o (begun_by f) (epoch_in here ∷ reached.earlier) =
-      record { scene = now; there = there; names = here.names; heard = nothing_heard; stands = stands; base = epochs.0; epochs = epochs.1 } in
       let went = runs_are_steps mid last b.since j now change.2 b.none there in
-      let adds : Adds o f (added_by j b.since) = record { names = here.names; old = now; new = went.0; all = went.2; stands = stands } in
       let lines : added_by j turns ≡ before ++ added_by j b.since =
       ap (added_by j) b.cut ∙ added_more j b.earlier (change_to j text ∷ b.since) ∙ ap (λ (x : List ℕ). x ++ added_by j b.since) (sym b.lines) in
       let within = begins_cancel before found (added_by j b.since) (subst (Begins (before ++ found)) lines only) in
       record {
+        before = b.earlier;
+        rest = change_to j text ∷ b.since;
+        cut = b.cut;
+        at = at;
+        runs = parts.1;
         scene = was;
-        runs = w.runs;
-        held = slice_get (seen at).custody j;
+        past_runs = w.runs;
+        rows = next_front_has_rows o reached.begun here.heard was now.past [] bare here.names here.stands keeps w;
         text_is = text_shown o was f (seen at).custody j (slice_get at.objects.items j) text bare held.fronts.told here.there here.stands.object w.added;
-        earlier = epoch_in here ∷ reached.earlier;
-        rows = rows;
-        lives = written_lives_on mid j o (begun_by f) (epoch_in here ∷ reached.earlier) f (added_by j b.since) found within.0 began refl rows adds within.1;
+        mid = mid;
+        epochs = epoch_in here ∷ reached.earlier;
+        lived = record { scene = now; there = there; names = here.names; heard = nothing_heard; stands = stands; base = epochs.0; epochs = epochs.1 };
+        lines = added_by j b.since;
+        lost = within.0;
+        adds = record { names = here.names; old = now; new = went.0; all = went.2; stands = stands };
+        found_is = within.1;
       }
 
+  behind_lives : Anew first j o text found turns → ReadsOn o text found
+  behind_lives a = record {
+    scene = a.scene;
+    runs = a.past_runs;
+    held = slice_get (seen a.at).custody j;
+    text_is = a.text_is;
+    earlier = a.epochs;
+    rows = a.rows;
+    lives = written_lives_on a.mid j o (begun_by (anew_front a)) a.epochs (anew_front a) a.lines found a.lost a.lived refl a.rows a.adds a.found_is;
+  }
+
   -- one that has just begun anew, of which the object was not told
-  ahead_lives : Fronts last j text → found ≡ [] → ReadsOn o text found
-  ahead_lives at none =
+  just_begun : Fronts last j text → found ≡ [] → Ahead last j o text found
+  just_begun at none =
       let on : KeepsAt last j o = objects_keep first last turns j o runs k in
       let reached = turns_live_on first last turns j o (begun_by written) earlier runs l in
       let here = reached.lived in
@@ -197,13 +259,52 @@ module _ (first last : Table) (j : ℕ) (o : ObjectForm) (written : Opening) (ea
       let rows : HasRows o f = next_front_has_rows o reached.begun here.heard was next.past [] at.front here.names here.stands keeps w in
       record {
         scene = was;
-        runs = w.runs;
-        held = slice_get (seen last).custody j;
-        text_is = text_shown o was f (seen last).custody j (slice_get last.objects.items j) text at.front at.told here.there here.stands.object w.added;
-        earlier = epoch_in here ∷ reached.earlier;
+        past_runs = w.runs;
         rows = rows;
+        text_is = text_shown o was f (seen last).custody j (slice_get last.objects.items j) text at.front at.told here.there here.stands.object w.added;
+        epochs = epoch_in here ∷ reached.earlier;
         lives = ahead_on last j o reached.begun reached.earlier here w.runs next.past w.events next.counted found none rows;
+        nothing = none;
       }
+
+  ahead_lives : Ahead last j o text found → ReadsOn o text found
+  ahead_lives a =
+      record { scene = a.scene; runs = a.past_runs; held = slice_get (seen last).custody j; text_is = a.text_is; earlier = a.epochs; rows = a.rows; lives = a.lives }
+
+  -- and the lines of what is held
+  module _ (law : HeldAreLines) (rules : RulesForm) (past : List Ended) (h : HoldsBy first j rules past) (are : AreEndings o past) where
+    -- what was held at a moment, and each line of that
+    held_at : (before rest : List Turn) (at : Table) → turns ≡ before ++ rest → Runs Gives first before at → (f : Opening) → text ≡ front_text o f ++ held_lines o (slice_get (seen at).custody j) →
+        ((held : List HeldCall) → Every (IsHeldLine o rules.holds) held → text ++ found ≡ front_text o f ++ (held_text o rules.holds held ++ found) → HasHeld o rules.holds (text ++ found) f held found) →
+        IsHeldRead first j o rules past turns text found
+    held_at before rest at cut runs f shown says =
+        let history = turns_have_one_history first at before runs in
+        let over = turns_hold first at before history.accounts j o rules past history.told k.stood h in
+        let ends = turns_end_so first at before history.accounts j o past over.ends k over.over are in
+        let c = over.holds.custody in
+        let told : text ≡ front_text o f ++ held_text o rules.holds c.held =
+        shown ∙ ap (λ (x : Option Custody). front_text o f ++ held_lines o x) over.holds.there ∙ ap (λ (x : RulesForm). front_text o f ++ held_text o x.holds c.held) over.holds.rules_are in
+        record {
+          before = before;
+          rest = rest;
+          cut = cut;
+          at = at;
+          accounts = history.accounts;
+          ends = over.ends;
+          over = over.over;
+          holds = over.holds;
+          front = f;
+          says = says c.held (held_says_so law at j o rules over.ends ends over.holds)
+              (ap (λ (x : List ℕ). x ++ found) told ∙ append_assoc (front_text o f) (held_text o rules.holds c.held) found);
+        }
+
+    behind_says : Anew first j o text found turns → IsHeldRead first j o rules past turns text found
+    behind_says a = held_at a.before a.rest a.at a.cut a.runs (anew_front a) a.text_is
+        (λ held each told. (written_has_held o rules.holds (anew_front a) held (text ++ found) a.lines found a.lost a.rows each a.adds a.found_is told).0)
+
+    ahead_says : Ahead last j o text found → IsHeldRead first j o rules past turns text found
+    ahead_says a = held_at turns [] last (sym (append-nil turns)) runs (front_of a.scene (next_epoch a.scene) a.past_runs (next_base a.scene)) a.text_is
+        (λ held each told. record { rows = a.rows; each = each; told = told; ends = ap (has_verb (codes "held")) a.nothing })
 
 one_text : {a b : List ℕ} → ◌≡◌ {A = Option (List ℕ)} (Some a) (Some b) → a ≡ b
 one_text is = cc
@@ -211,35 +312,68 @@ one_text is = cc
 some_none : {a : List ℕ} → ◌≡◌ {A = Option (List ℕ)} (Some a) None → ⊥
 some_none is = cc
 
+-- which of both it is, where a journal has begun anew
+begins_so : (first : Table) (limits : Limits) (all : List Happened) (found : ℕ → List ℕ) (v : Survives Gives first limits all (λ j. before_in j all ++ found j)) (j : ℕ) (o : ObjectForm) (written : Opening)
+    (earlier : List Epoch) (text : List ℕ) → j < limits.journals → IsBetween (stored_since j all) (since_in j all) (found j) → front_in j all ≡ Some text → StartsAt first j o written earlier →
+    HasBegun (rules_of Gives Fronts) v.last j all (v.answered ++ v.later) → Anew first j o text (found j) (v.answered ++ v.later) ⊎ Ahead v.last j o text (found j)
+begins_so first limits all found v j o written earlier text within between is s (inl agrees) =
+    inl (begun_anew first v.last j o written earlier s text (found j) (v.answered ++ v.later) v.runs (before_in j all)
+    (subst (λ (x : Option (List ℕ)). Agrees j x (before_in j all) (v.answered ++ v.later)) is agrees) (v.only j within))
+begins_so first limits all found v j o written earlier text within between is s (inr so) =
+    let same : so.front ≡ text = one_text (sym (front_change j so.front so.before) ∙ ap (front_in j) (sym so.just) ∙ is) in
+    let since = between.nothing_else in
+    inr (just_begun first v.last j o written earlier s text (found j) (v.answered ++ v.later) v.runs (subst (λ (x : List ℕ). Fronts v.last j x) same so.stands)
+    (no_bytes (found j) since.0 (sym (ap (since_in j) so.just ∙ since_change j so.front so.before) ∙ since.1)))
+
+-- it has not begun anew, and what is found are the first bytes of what all turns have added
+still_so : (first : Table) (limits : Limits) (all : List Happened) (found : ℕ → List ℕ) (v : Survives Gives first limits all (λ j. before_in j all ++ found j)) (j : ℕ) → j < limits.journals → front_in j all ≡ None →
+    HasBegun (rules_of Gives Fronts) v.last j all (v.answered ++ v.later) → BeginsNone j (v.answered ++ v.later) × Begins (found j) (added_by j (v.answered ++ v.later))
+still_so first limits all found v j within none (inl agrees) =
+    let so : BeginsNone j (v.answered ++ v.later) × (before_in j all ≡ []) = subst (λ (x : Option (List ℕ)). Agrees j x (before_in j all) (v.answered ++ v.later)) none agrees in
+    (so.0, subst (λ (x : List ℕ). Begins (x ++ found j) (added_by j (v.answered ++ v.later))) so.1 (v.only j within))
+still_so first limits all found v j within none (inr ahead) =
+    absurd (some_none (sym (front_change j ahead.front ahead.before) ∙ ap (front_in j) (sym ahead.just) ∙ none))
+
 pub crash_leaves_lives : CrashLeavesLives
-crash_leaves_lives first limits seen found waits honest between = record {
+crash_leaves_lives first limits all found waits honest between = record {
   history = history;
-  anew = λ j o written earlier text within is s. by j o written earlier text within is s (history.answered.left.begun j within);
-  at_first = λ j o written earlier within none s. from_start j o written earlier within none s (history.answered.left.begun j within);
+  anew = λ j o written earlier text within is s. by j o written earlier text s (begins_so first limits all found v j o written earlier text within (between j within) is s (history.answered.left.begun j within));
+  at_first = λ j o written earlier within none s.
+      let so = still_so first limits all found v j within none (history.answered.left.begun j within) in
+      first_lives first v.last j o written earlier (v.answered ++ v.later) (found j) s v.runs so.0 so.1;
 }
   where
-    history : LeavesOneHistory first limits seen found
-    history = crash_leaves_one_history first limits seen found waits honest between
+    history : LeavesOneHistory first limits all found
+    history = crash_leaves_one_history first limits all found waits honest between
 
-    v : Survives Gives first limits seen (λ j. before_in j seen ++ found j)
+    v : Survives Gives first limits all (λ j. before_in j all ++ found j)
     v = history.answered.left.survives
 
-    by : (j : ℕ) (o : ObjectForm) (written : Opening) (earlier : List Epoch) (text : List ℕ) → j < limits.journals → front_in j seen ≡ Some text → StartsAt first j o written earlier →
-        HasBegun (rules_of Gives Fronts) v.last j seen (v.answered ++ v.later) → ReadsOn o text (found j)
-    by j o written earlier text within is s (inl agrees) =
-        behind_lives first v.last j o written earlier s text (found j) (v.answered ++ v.later) v.runs (before_in j seen)
-        (subst (λ (x : Option (List ℕ)). Agrees j x (before_in j seen) (v.answered ++ v.later)) is agrees) (v.only j within)
-    by j o written earlier text within is s (inr so) =
-        let same : so.front ≡ text = one_text (sym (front_change j so.front so.before) ∙ ap (front_in j) (sym so.just) ∙ is) in
-        let since = (between j within).nothing_else in
-        ahead_lives first v.last j o written earlier s text (found j) (v.answered ++ v.later) v.runs (subst (λ (x : List ℕ). Fronts v.last j x) same so.stands)
-        (no_bytes (found j) since.0 (sym (ap (since_in j) so.just ∙ since_change j so.front so.before) ∙ since.1))
+    by : (j : ℕ) (o : ObjectForm) (written : Opening) (earlier : List Epoch) (text : List ℕ) → StartsAt first j o written earlier →
+        Anew first j o text (found j) (v.answered ++ v.later) ⊎ Ahead v.last j o text (found j) → ReadsOn o text (found j)
+    by j o written earlier text s (inl a) = behind_lives first v.last j o written earlier s text (found j) (v.answered ++ v.later) v.runs a
+    by j o written earlier text s (inr a) = ahead_lives first v.last j o written earlier s text (found j) (v.answered ++ v.later) v.runs a
 
-    from_start : (j : ℕ) (o : ObjectForm) (written : Opening) (earlier : List Epoch) → j < limits.journals → front_in j seen ≡ None → StartsAt first j o written earlier →
-        HasBegun (rules_of Gives Fronts) v.last j seen (v.answered ++ v.later) → LivesOn o written (found j) earlier
-    from_start j o written earlier within none s (inl agrees) =
-        let so : BeginsNone j (v.answered ++ v.later) × (before_in j seen ≡ []) = subst (λ (x : Option (List ℕ)). Agrees j x (before_in j seen) (v.answered ++ v.later)) none agrees in
-        first_lives first v.last j o written earlier (v.answered ++ v.later) (found j) s v.runs so.0
-        (subst (λ (x : List ℕ). Begins (x ++ found j) (added_by j (v.answered ++ v.later))) so.1 (v.only j within))
-    from_start j o written earlier within none s (inr ahead) =
-        absurd (some_none (sym (front_change j ahead.front ahead.before) ∙ ap (front_in j) (sym ahead.just) ∙ none))
+pub crash_says_held : HeldAreLines → CrashSaysHeld
+crash_says_held law first limits all found waits honest between = record {
+  history = history;
+  anew = λ j o written earlier rules past text within is s h are.
+      by j o written earlier rules past text s h are (begins_so first limits all found v j o written earlier text within (between j within) is s (history.answered.left.begun j within));
+  at_first = λ j o written earlier rules past within none s h are.
+      let so = still_so first limits all found v j within none (history.answered.left.begun j within) in
+      let went = runs_are_steps first v.last (v.answered ++ v.later) j s.scene v.runs so.0 s.there in
+      let adds : Adds o written (added_by j (v.answered ++ v.later)) = record { names = s.names; old = s.scene; new = went.0; all = went.2; stands = s.stands } in
+      (written_has_held o rules.holds written h.custody.held ((front_text o written ++ held_text o rules.holds h.custody.held) ++ found j) (added_by j (v.answered ++ v.later)) (found j) so.1.0 s.rows
+      (held_says_so law first j o rules past are h) adds so.1.1 (append_assoc (front_text o written) (held_text o rules.holds h.custody.held) (found j))).0;
+}
+  where
+    history : LeavesOneHistory first limits all found
+    history = crash_leaves_one_history first limits all found waits honest between
+
+    v : Survives Gives first limits all (λ j. before_in j all ++ found j)
+    v = history.answered.left.survives
+
+    by : (j : ℕ) (o : ObjectForm) (written : Opening) (earlier : List Epoch) (rules : RulesForm) (past : List Ended) (text : List ℕ) → StartsAt first j o written earlier → HoldsBy first j rules past → AreEndings o past →
+        Anew first j o text (found j) (v.answered ++ v.later) ⊎ Ahead v.last j o text (found j) → IsHeldRead first j o rules past (v.answered ++ v.later) text (found j)
+    by j o written earlier rules past text s h are (inl a) = behind_says first v.last j o written earlier s text (found j) (v.answered ++ v.later) v.runs law rules past h are a
+    by j o written earlier rules past text s h are (inr a) = ahead_says first v.last j o written earlier s text (found j) (v.answered ++ v.later) v.runs law rules past h are a

@@ -1,6 +1,6 @@
 //! The laws, each a function without a body whose contract it is.
 
-ghost use Rattle.life_law.specs.Ends.{TurnsEndSo, HeldSaysSo};
+ghost use Rattle.life_law.specs.Ends.{TurnsEndSo, HeldSaysSo, CrashSaysHeld};
 ghost use Rattle.life_law.specs.Keeps.{ObjectsKeep};
 ghost use Rattle.life_law.specs.Lives.{WrittenLivesOn, FirstStarts, BehindStarts, CrashLeavesLives};
 ghost use Rattle.life_law.specs.Rows.{FrontHasRows, FirstHasRows, NextHasRows, FirstKeeps, BehindKeeps};
@@ -71,3 +71,11 @@ pub fn first_starts()
 pub fn behind_starts()
     ensures { BehindStarts }
 {}
+
+/// After a crash, where answers wait for the disk, the text by which a journal last began anew says of its object and of what is
+/// held just that, wherever a crash has cut what stands behind it; and so does what the start wrote.
+pub fn crash_says_held()
+    ensures { CrashSaysHeld }
+{
+    held_are_lines();
+}
