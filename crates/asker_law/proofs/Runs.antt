@@ -1,6 +1,6 @@
 -- What turns tell, one after the other.
 use Rattle.std.proofs.Common.{◌≡◌, ◌⊎◌, inl, inr, ◌∙◌, ap, sym, subst, refl, ℕ, List, [], ◌∷◌, ◌++◌, append_assoc}
-use Rattle.std.specs.Prelude.{true, false, Some, None, slice_get}
+use Rattle.std.specs.Prelude.{true, false, Some, None, Result, Ok, Err, IfOk, slice_get}
 use Rattle.std.proofs.lemmas.List.{append-nil}
 use Rattle.session_text.specs.Lines.{accepted_text, ended_text}
 use Rattle.live_core.specs.Hall.{Every}
@@ -14,7 +14,7 @@ use Rattle.told_core.specs.State.{State}
 use Rattle.said_law.specs.Said.{Account, IsTrue, SaysIn, Says, SaysNoReply}
 use Rattle.said_law.proofs.Going.{no_account}
 use Rattle.table_core.specs.Moves.{Gives}
-use Rattle.table_core.specs.Seen.{seen}
+use Rattle.table_core.specs.Seen.{IsQuiet, seen}
 use Rattle.table_core.specs.declared.table.Table.{Table}
 use Rattle.kept_law.specs.Kept.{LeavesAnswered}
 use Rattle.kept_law.specs.Replied.{AreTold, HaveOneHistory, IsRepeated}
@@ -22,7 +22,7 @@ use Rattle.kept_law.proofs.Going.{crash_leaves_answered}
 use Rattle.kept_law.proofs.Living.{lives_on}
 use Rattle.kept_law.proofs.Replying.{stands_in}
 use Rattle.asker_law.specs.Answers.{AllAlong, IsTold}
-use Rattle.asker_law.specs.Asker.{AreCut, CrashLeavesAsked, HasSaid, IsAnswered, IsQuiet, RepliesAreAsked, WaitsAreAsked, said_by}
+use Rattle.asker_law.specs.Asker.{AreAskedFrom, AreCut, CrashLeavesAsked, CrashLeavesAskedFrom, HasSaid, IsAnswered, RepliesAreAsked, WaitsAreAsked, said_by}
 use Rattle.asker_law.specs.Awaits.{AllHeld, AreHeard, Awaits, IsIn, Lines, SaidBy}
 use Rattle.asker_law.specs.Awaits.AreHeard.{none}
 use Rattle.asker_law.proofs.Beginning.{begins_awaits}
@@ -255,3 +255,19 @@ crash_leaves_asked first limits seen_so found waits honest between held quiet =
     let left : LeavesAnswered first limits seen_so found = crash_leaves_answered first limits seen_so found waits honest between in
     let s = left.left.survives in
     record { answered = left; askers = replies_are_asked first s.last (s.answered ++ s.later) s.runs (λ who. (_, _, s.heard who)) held quiet }
+
+-- of a table that is quiet all this is so
+quiet_asked : (t : Table) → IsQuiet (seen t) → AreAskedFrom t
+quiet_asked t quiet last turns runs cut held = (replies_are_asked t last turns runs cut held quiet, waits_are_asked t last turns runs cut held quiet)
+
+quiet_leaves : (t : Table) → IsQuiet (seen t) → CrashLeavesAskedFrom t
+quiet_leaves t quiet limits seen_so found waits honest between held = crash_leaves_asked t limits seen_so found waits honest between held quiet
+
+-- so of one that is made
+pub made_asked : {E : Type 0} (made : Result Table E) → IfOk made (λ t. IsQuiet (seen t)) → IfOk made AreAskedFrom
+made_asked (Ok t) quiet = quiet_asked t quiet
+made_asked (Err e) quiet = tt
+
+pub made_leaves : {E : Type 0} (made : Result Table E) → IfOk made (λ t. IsQuiet (seen t)) → IfOk made CrashLeavesAskedFrom
+made_leaves (Ok t) quiet = quiet_leaves t quiet
+made_leaves (Err e) quiet = tt
