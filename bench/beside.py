@@ -1,4 +1,3 @@
-#!/usr/bin/env python3
 """Measures what a call takes of a server of one program beside one of another.
 
 usage: bench/beside.py BEFORE AFTER [--calls N] [--runs N]
@@ -14,11 +13,9 @@ import argparse
 import pathlib
 import statistics
 import subprocess
-import sys
 import tempfile
 
-sys.dont_write_bytecode = True
-import keys
+from bench import keys
 
 
 def said(found, more, best):

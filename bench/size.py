@@ -1,4 +1,3 @@
-#!/usr/bin/env python3
 """Measures what a call takes by how many entries its part has, and how long they are.
 
 usage: bench/size.py [--program FILE] [--only WORD] [--ways WORD,..] [--bytes N,..] [--sizes N,..] [--calls N] [--instructions]
@@ -24,14 +23,10 @@ import re
 import shutil
 import socket
 import subprocess
-import sys
 import tempfile
-import time
 
-sys.dont_write_bytecode = True
-sys.path.insert(0, str(pathlib.Path(__file__).resolve().parent))
-import keys  # noqa: E402  (and the path of tools/)
-from ready import given_words, program  # noqa: E402
+from bench import keys
+from tools.ready import given_words, program
 
 OBJECTS = """object line;
   path 1:(put, drop, pass, lose, oldest, size) end;

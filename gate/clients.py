@@ -7,8 +7,8 @@ import struct
 import subprocess
 import time
 
-from cases import TOP, read_text
-from served import Told
+from gate.cases import TOP, read_text
+from gate.served import Told
 
 # How long a client that must hear nothing listens, and how long one that sends what is taken waits for the server to take
 # more, in seconds.

@@ -5,12 +5,11 @@ import os
 import pathlib
 import socket
 import subprocess
-import sys
 import tempfile
 import time
 
-from served import free_port
-from tried import given_words, program
+from gate.served import free_port
+from gate.tried import program
 
 SECONDS = 120
 # Folders are made in memory, where there is such a place: what a disk does is worked out (gate/losing.py), or tried by
