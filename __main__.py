@@ -5,8 +5,8 @@ usage: python3 FOLDER gate/try_keep [WORD ..]
 Python looks for modules in the folder of this file. So the modules of gate, tools and bench import each other by their
 package, and none of them names a folder to look in.
 """
+import importlib
 import os
-import runpy
 import sys
 
 sys.dont_write_bytecode = True
@@ -15,4 +15,4 @@ if __name__ == "__main__":
     if not sys.argv:
         sys.exit(__doc__)
     folder, name = os.path.split(os.path.abspath(sys.argv[0]))
-    runpy.run_module(f"{os.path.basename(folder)}.{name}", run_name="__main__")
+    sys.exit(importlib.import_module(f"{os.path.basename(folder)}.{name}").main())

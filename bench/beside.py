@@ -60,7 +60,3 @@ def main():
         load = pathlib.Path(folder) / "load"
         subprocess.run(["cc", "-O2", "-pthread", "-o", load, pathlib.Path(__file__).parent / "load.c"], check=True)
         compare(options, load)
-
-
-if __name__ == "__main__":
-    main()

@@ -237,7 +237,3 @@ def main():
         in_a_row(options)
         idle(options)
     print(f"load {os.getloadavg()[0]:.1f}", flush=True)
-
-
-if __name__ == "__main__":
-    main()

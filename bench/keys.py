@@ -175,7 +175,3 @@ def main():
         compare(options, load)
         memory(options, load)
         opening(options)
-
-
-if __name__ == "__main__":
-    main()

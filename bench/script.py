@@ -105,14 +105,11 @@ def measure():
     return [*figures, seconds, resident]
 
 
-def main(words):
+def main():
+    words = given_words()
     runs = int(words[0]) if words else 3
     heads = [f"{way} at {history}" for history in HISTORIES for way in ("bulk", "turn")]
     print("microseconds a call:", ", ".join(heads), "| seconds for all | MB")
     for _ in range(runs):
         *times, seconds, resident = measure()
         print(" ".join(f"{it:.1f}" for it in times), "|", f"{seconds:.2f}", "|", f"{resident:.1f}", flush=True)
-
-
-if __name__ == "__main__":
-    main(given_words())

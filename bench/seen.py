@@ -129,7 +129,3 @@ def main():
     questions(options)
     idle(options)
     calls(options)
-
-
-if __name__ == "__main__":
-    main()

@@ -200,7 +200,3 @@ def main():
     alone = ", ".join(f"{name} {it * 1e6:.1f}" for name, it in numbers.latency.items())
     print(f"us: latency {alone}; machine of a get {numbers.overlap * 1e6:.1f}, held by a put {numbers.turn * 1e6:.1f}; "
           f"processors {PROCESSORS}, load of the machine {os.getloadavg()[0]:.1f}")
-
-
-if __name__ == "__main__":
-    main()

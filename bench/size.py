@@ -346,7 +346,8 @@ def shown(figure):
     return "" if figure is None else f"{figure:,.1f}" if figure < 1_000 else f"{figure:,.0f}"
 
 
-def main(words):
+def main():
+    words = given_words()
     numbers = lambda text: tuple(int(it) for it in text.split(","))
     parser = argparse.ArgumentParser(usage=__doc__.split("\n\n")[1].removeprefix("usage: "))
     parser.add_argument("--only", default="")
@@ -369,7 +370,3 @@ def main(words):
                 steps = [sum(it[title][1]) for it in found] if way == "run" else []
                 ratio = (f"{row[-1] / row[0]:.2f}" if row[0] > 0 else "") + (f" (steps {steps[-1] / steps[0]:.2f})" if steps else "")
                 print(f"| {title} | " + " | ".join(shown(it) for it in row) + f" | {ratio} |", flush=True)
-
-
-if __name__ == "__main__":
-    main(given_words())

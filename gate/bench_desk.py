@@ -11,7 +11,6 @@ import os
 import pathlib
 import shutil
 import subprocess
-import sys
 import tempfile
 
 from gate.tried import TOP
@@ -202,6 +201,7 @@ def run(top, text):
 
 
 def main():
+    os.chdir(TOP)
     with tempfile.TemporaryDirectory() as name:
         top = pathlib.Path(name)
         shutil.copytree(TOP / "crates", top / "crates", ignore=shutil.ignore_patterns("out", "wrong-bodies"))
@@ -210,8 +210,3 @@ def main():
         status = run(top, MAIN)
         # Memory is counted in a process of its own.
         return status or run(top, MAIN.replace("ONLY_FILES: bool = false", "ONLY_FILES: bool = true"))
-
-
-if __name__ == "__main__":
-    os.chdir(TOP)
-    sys.exit(main())

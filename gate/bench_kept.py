@@ -212,6 +212,7 @@ fn main(rt: HostRuntime) -> ExitCode {
 
 
 def main():
+    os.chdir(TOP)
     where = pathlib.Path(sys.argv[1] if len(sys.argv) > 1 else ".").absolute()
     with tempfile.TemporaryDirectory(dir=where) as name:
         folder = pathlib.Path(name)
@@ -223,8 +224,3 @@ def main():
         (source / "main.rt").write_text(MAIN)
         program = make_ready.built(folder, "bench")
         return subprocess.run([program], cwd=folder).returncode
-
-
-if __name__ == "__main__":
-    os.chdir(TOP)
-    sys.exit(main())

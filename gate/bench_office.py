@@ -209,6 +209,7 @@ def run(top, text):
 
 
 def main():
+    os.chdir(TOP)
     with tempfile.TemporaryDirectory() as name:
         top = pathlib.Path(name)
         shutil.copytree(TOP / "crates", top / "crates", ignore=shutil.ignore_patterns("out", "wrong-bodies"))
@@ -223,8 +224,3 @@ def main():
         office.write_text(one)
         print("with one bed for all waiters:", flush=True)
         return status or run(top, MAIN)
-
-
-if __name__ == "__main__":
-    os.chdir(TOP)
-    sys.exit(main())

@@ -308,7 +308,3 @@ def told(runs):
     print(f"{crashes} crashes were tried")
     print(f"crash_journal: {passed} passed, {failed} failed")
     return 0 if passed and not failed else 1
-
-
-if __name__ == "__main__":
-    sys.exit(main())

@@ -254,7 +254,8 @@ def names_failed(words):
     return len(chosen), failed
 
 
-def main(words):
+def main():
+    words = given_words()
     names = words[1:] if words[:1] == ["--names"] else None
     if names is None and not all(it.isdigit() for it in words):
         print(__doc__, file=sys.stderr)
@@ -269,7 +270,3 @@ def main(words):
     count, failed = len(seeds) + trials, failed + wrong
     print(f"cut_connections: {count - failed} passed, {failed} failed")
     return 0 if count and not failed else 1
-
-
-if __name__ == "__main__":
-    sys.exit(main(given_words()))

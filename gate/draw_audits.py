@@ -225,7 +225,8 @@ def print_trace(seed):
         print(f"{what}: {answer(OBJECTS, text)[0]}")
 
 
-def main(words):
+def main():
+    words = given_words()
     if len(words) == 2 and words[0] == "--trace" and words[1].isdigit():
         print_trace(int(words[1]))
         return 0
@@ -248,7 +249,3 @@ def main(words):
     passed, count = sum(it[0] for it in found) + len(traces) - len(unlawful), len(failed) + len(unlawful)
     print(f"draw_audits: {passed} passed, {count} failed")
     return 0 if passed and not count else 1
-
-
-if __name__ == "__main__":
-    sys.exit(main(given_words()))

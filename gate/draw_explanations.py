@@ -122,7 +122,8 @@ def tried(seed):
     return len(sources) - len(said), said
 
 
-def main(words):
+def main():
+    words = given_words()
     if not all(it.isdigit() for it in words):
         print(__doc__, file=sys.stderr)
         return 2
@@ -136,7 +137,3 @@ def main(words):
     passed = sum(it for it, _ in found)
     print(f"draw_explanations: {passed} passed, {len(failed)} failed")
     return 0 if passed and not failed else 1
-
-
-if __name__ == "__main__":
-    sys.exit(main(given_words()))

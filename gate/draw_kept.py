@@ -389,7 +389,3 @@ def main():
                 print(f"seed {seed}: {said}", flush=True)
     print(f"draw_kept: {passed} passed, {failed} failed")
     return 0 if passed and not failed else 1
-
-
-if __name__ == "__main__":
-    sys.exit(main())

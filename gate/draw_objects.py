@@ -234,7 +234,8 @@ def tried(seed):
     return f"seed {seed}: of\n{text}expected status {status} and\n{report}ended with {ran.returncode} and\n{answer}{ran.stderr!r}", tally
 
 
-def main(words):
+def main():
+    words = given_words()
     if len(words) == 2 and words[0] == "--source" and words[1].isdigit():
         text, report, _ = source_of(int(words[1]))
         print(f"{text}\n{report}", end="")
@@ -260,7 +261,3 @@ def main(words):
                 failed.append(kind)
     print(f"draw_objects: {passed} passed, {len(failed)} failed")
     return 1 if failed or not passed else 0
-
-
-if __name__ == "__main__":
-    sys.exit(main(given_words()))

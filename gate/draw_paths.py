@@ -115,7 +115,8 @@ def tried(seed):
     return f"seed {seed}: of\n{lines}expected\n{answers}ended with {ran.returncode} and\n{found}{ran.stderr!r}", tally
 
 
-def main(words):
+def main():
+    words = given_words()
     if len(words) == 2 and words[0] == "--lines" and words[1].isdigit():
         lines, answers, _ = drawn(int(words[1]))
         print(f"{lines}\n{answers}", end="")
@@ -141,7 +142,3 @@ def main(words):
                 failed.append(kind)
     print(f"draw_paths: {passed} passed, {len(failed)} failed")
     return 1 if failed or not passed else 0
-
-
-if __name__ == "__main__":
-    sys.exit(main(given_words()))

@@ -525,7 +525,3 @@ def main():
         return draw_all(pathlib.Path(words[1]).resolve(), int(words[2]), int(words[3]))
     print(__doc__, file=sys.stderr)
     return 2
-
-
-if __name__ == "__main__":
-    sys.exit(main())

@@ -86,7 +86,8 @@ def tried(script):
     return "\n".join([*said, "  the script:", *script_lines])
 
 
-def main(words):
+def main():
+    words = given_words()
     if words == ["--objects"]:
         print(source_of(FIRST_HOLD), end="")
         return 0
@@ -117,7 +118,3 @@ def main(words):
         print(failed[-1])
     print(f"draw_scripts: {len(said) - len(failed)} passed, {len(failed)} failed")
     return 0 if said and not failed else 1
-
-
-if __name__ == "__main__":
-    sys.exit(main(given_words()))

@@ -264,7 +264,8 @@ def tried(seed):
         return said, sum(len(it.heard) for it in speakers), kinds
 
 
-def main(words):
+def main():
+    words = given_words()
     if not all(it.isdigit() for it in words):
         print(__doc__, file=sys.stderr)
         return 2
@@ -277,7 +278,3 @@ def main(words):
         failed += bool(said) or not heard
     print(f"draw_sessions: {len(seeds) - failed} passed, {failed} failed")
     return 1 if failed else 0
-
-
-if __name__ == "__main__":
-    sys.exit(main(given_words()))

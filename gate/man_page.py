@@ -145,7 +145,3 @@ def main():
         return 1
     PAGE.write_text(made, encoding="utf-8")
     return 0
-
-
-if __name__ == "__main__":
-    sys.exit(main())

@@ -29,7 +29,6 @@ import pathlib
 import re
 import struct
 import subprocess
-import sys
 import tempfile
 
 from gate.tried import TOP
@@ -257,7 +256,3 @@ def main():
     failed = sum(bool(why) for _, why in said)
     print(f"public_calls: {len(said) - failed} passed, {failed} failed")
     return 1 if failed or not said else 0
-
-
-if __name__ == "__main__":
-    sys.exit(main())

@@ -22,7 +22,6 @@ import os
 import pathlib
 import random
 import subprocess
-import sys
 import tempfile
 import threading
 import time
@@ -264,7 +263,3 @@ def main():
             passed, failed = passed + ran[0], failed + ran[1]
     print(f"refuse_kept: {passed} passed, {failed} failed")
     return 1 if failed or not passed else 0
-
-
-if __name__ == "__main__":
-    sys.exit(main())

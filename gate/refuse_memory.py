@@ -20,7 +20,6 @@ import os
 import pathlib
 import re
 import subprocess
-import sys
 import tempfile
 
 from gate import cases
@@ -134,7 +133,3 @@ def main():
     passed, failed = sum(it[0] for it in counts), sum(it[1] for it in counts)
     print(f"refuse_memory: {passed} passed, {failed} failed")
     return 1 if failed or not passed else 0
-
-
-if __name__ == "__main__":
-    sys.exit(main())

@@ -20,7 +20,6 @@ import pathlib
 import re
 import socket
 import subprocess
-import sys
 import tempfile
 import time
 
@@ -339,7 +338,3 @@ def main():
     passed, failed = (sum(it[at] for it in counts) for at in (0, 1))
     print(f"refuse_server: {passed} passed, {failed} failed")
     return 1 if failed or not passed else 0
-
-
-if __name__ == "__main__":
-    sys.exit(main())

@@ -98,7 +98,8 @@ def tried(case):
     return report(case, fault, ran) if fault else None
 
 
-def main(words):
+def main():
+    words = given_words()
     if words[:1] == ["--input"]:
         for case in chosen_cases(words[1:], cases_of)[0]:
             for text in case.inputs.values():
@@ -118,7 +119,3 @@ def main(words):
     passed = len(said) - (failed - len(bad))
     print(f"run_cases: {passed} passed, {failed} failed")
     return 0 if passed and not failed else 1
-
-
-if __name__ == "__main__":
-    sys.exit(main(given_words()))

@@ -15,7 +15,6 @@ import pathlib
 import shutil
 import socket
 import subprocess
-import sys
 import tempfile
 import threading
 import time
@@ -259,7 +258,8 @@ def is_in_c(case):
     return any(it.form == "runs" and it.texts[0].split()[0].endswith(".c") for it in case.steps)
 
 
-def main(words):
+def main():
+    words = given_words()
     # Once, before the threads ask.
     program()
     found, bad = chosen_cases(words, stories_of, served=True)
@@ -274,7 +274,3 @@ def main(words):
     failed = sum(1 for it in said if it)
     print(f"run_sessions: {len(said) - failed} passed, {failed + len(bad)} failed")
     return 0 if said and not failed and not bad else 1
-
-
-if __name__ == "__main__":
-    sys.exit(main(given_words()))

@@ -213,7 +213,3 @@ def main():
     if given.ahead:
         return ahead(rt, given.lanes)
     return seed(rt, clones)
-
-
-if __name__ == "__main__":
-    main()

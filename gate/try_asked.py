@@ -597,7 +597,3 @@ def main():
     failed = sum(bool(it) for it in said.values())
     print(f"try_asked: {len(said) - failed} passed, {failed} failed")
     return 1 if failed else 0
-
-
-if __name__ == "__main__":
-    sys.exit(main())

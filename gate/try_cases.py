@@ -5,7 +5,6 @@ usage: gate/try_cases
 The last line is `try_cases: N passed, M failed`; the exit status is 0 where M is 0 and N is not.
 """
 import pathlib
-import sys
 import tempfile
 
 from gate import cases, sessions
@@ -64,7 +63,3 @@ def main():
     passed = 2 * len(TEXTS) + len(REFUSED) - len(failed)
     print(f"try_cases: {passed} passed, {len(failed)} failed")
     return 0 if passed and not failed else 1
-
-
-if __name__ == "__main__":
-    sys.exit(main())

@@ -795,7 +795,3 @@ def main():
         print(f"{title}: {fault}")
     print(f"try_client: {len(found) - len(wrong)} passed, {len(wrong)} failed")
     return 1 if wrong or not found else 0
-
-
-if __name__ == "__main__":
-    sys.exit(main())

@@ -23,7 +23,6 @@ import shutil
 import socket
 import struct
 import subprocess
-import sys
 import threading
 import time
 
@@ -377,6 +376,6 @@ TRIALS = (
 )
 
 
-if __name__ == "__main__":
-    GIVEN, WORDS = kept.options(given_words(), kills=10, seed=1)
-    sys.exit(kept.run("try_crash", TRIALS, WORDS, **GIVEN))
+def main():
+    given, words = kept.options(given_words(), kills=10, seed=1)
+    return kept.run("try_crash", TRIALS, words, **given)

@@ -263,7 +263,3 @@ def main():
             part(pathlib.Path(folder))
     print(f"try_deaf: {len(PASSED)} passed, {len(FAILED)} failed")
     return 1 if FAILED or not PASSED else 0
-
-
-if __name__ == "__main__":
-    sys.exit(main())

@@ -38,7 +38,6 @@ import shutil
 import signal
 import socket
 import subprocess
-import sys
 import tempfile
 import time
 
@@ -600,7 +599,3 @@ def main():
         try_whole(count)
     print(f"{count.passed} passed, {count.failed} failed")
     return 0 if count.passed and not count.failed else 1
-
-
-if __name__ == "__main__":
-    sys.exit(main())

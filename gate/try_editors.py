@@ -148,7 +148,3 @@ def main():
                 print(f"{name}, {way}: {error}")
     print(f"try_editors: {passed} passed, {failed} failed")
     return 1 if failed or not passed else 0
-
-
-if __name__ == "__main__":
-    sys.exit(main())

@@ -11,7 +11,6 @@ where M is 0 and N is not.
 """
 import pathlib
 import subprocess
-import sys
 import tempfile
 
 from gate.tried import TOP, given_words, program
@@ -254,7 +253,3 @@ def main():
             print(f"{look.__doc__} It is not so.")
     print(f"try_epochs: {passed} passed, {failed} failed")
     return 0 if passed and not failed else 1
-
-
-if __name__ == "__main__":
-    sys.exit(main())

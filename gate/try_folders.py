@@ -558,7 +558,8 @@ TRIES = (
 )
 
 
-def main(words):
+def main():
+    words = given_words()
     if words:
         print(__doc__, file=sys.stderr)
         return 2
@@ -571,7 +572,3 @@ def main(words):
             failed += 1
     print(f"try_folders: {len(TRIES) - failed} passed, {failed} failed")
     return 1 if failed else 0
-
-
-if __name__ == "__main__":
-    sys.exit(main(given_words()))

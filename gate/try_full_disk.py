@@ -14,7 +14,6 @@ import pathlib
 import resource
 import socket
 import subprocess
-import sys
 import tempfile
 
 from gate.served import free_port
@@ -296,7 +295,3 @@ def main():
             print(f"{trial.__doc__} {wrong}", flush=True)
     print(f"try_full_disk: {passed} passed, {failed} failed")
     return 0 if passed and not failed else 1
-
-
-if __name__ == "__main__":
-    sys.exit(main())

@@ -13,7 +13,6 @@ import contextlib
 import random
 import re
 import socket
-import sys
 import threading
 import time
 
@@ -570,6 +569,7 @@ TRIALS = [
     connections_are_cut_at_each_byte, clients_die_and_the_server_is_killed,
 ]
 
-if __name__ == "__main__":
-    GIVEN, WORDS = kept.options(given_words(), seconds=10)
-    sys.exit(kept.run("try_holds", TRIALS, WORDS, **GIVEN))
+
+def main():
+    given, words = kept.options(given_words(), seconds=10)
+    return kept.run("try_holds", TRIALS, words, **given)

@@ -12,7 +12,6 @@ import resource
 import shutil
 import socket
 import subprocess
-import sys
 import tempfile
 
 from gate.served import free_port
@@ -428,7 +427,3 @@ def main():
                 print(f"{title}: {type(error).__name__}: {str(error)[:1500]}")
     print(f"try_keep: {passed} passed, {failed} failed")
     return 1 if failed or not passed else 0
-
-
-if __name__ == "__main__":
-    sys.exit(main())

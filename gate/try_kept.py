@@ -17,7 +17,6 @@ import selectors
 import socket
 import struct
 import subprocess
-import sys
 import threading
 import time
 
@@ -588,6 +587,6 @@ TRIALS = (
 )
 
 
-if __name__ == "__main__":
-    GIVEN, WORDS = kept.options(given_words(), big=0)
-    sys.exit(kept.run("try_kept", TRIALS, WORDS, **GIVEN))
+def main():
+    given, words = kept.options(given_words(), big=0)
+    return kept.run("try_kept", TRIALS, words, **given)

@@ -10,7 +10,6 @@ The program is the one that ./pathserve runs, or FILE. The last line is `try_man
 where M is 0 and N is not.
 """
 import select
-import sys
 import time
 
 from gate import kept
@@ -135,5 +134,6 @@ def who_was_owed_much_keeps_little(folder):
 
 TRIALS = (few_files, an_epoch_begins_without_a_file, few_places, nobody_takes_no_time, who_was_owed_much_keeps_little)
 
-if __name__ == "__main__":
-    sys.exit(kept.run("try_many", TRIALS, given_words()))
+
+def main():
+    return kept.run("try_many", TRIALS, given_words())

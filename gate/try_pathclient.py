@@ -1294,7 +1294,3 @@ def main():
                 print(f"{title}: {type(error).__name__}: {str(error)[:600]}")
     print(f"try_pathclient: {passed} passed, {failed} failed")
     return 1 if failed or not passed else 0
-
-
-if __name__ == "__main__":
-    sys.exit(main())

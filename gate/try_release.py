@@ -357,7 +357,3 @@ def main():
     trials = (archive,) if is_missing() else (archive, package, image)
     with tempfile.TemporaryDirectory(prefix="try_release-") as folder:
         return kept.run("try_release", trials, words, release=made(pathlib.Path(folder)))
-
-
-if __name__ == "__main__":
-    sys.exit(main())

@@ -250,7 +250,3 @@ def main():
                 print(f"{attempt.__name__}: {attempt.__doc__}\n    {type(error).__name__}: {str(error)[:800]}")
     print(f"try_socket: {passed} passed, {failed} failed")
     return 1 if failed or not passed else 0
-
-
-if __name__ == "__main__":
-    sys.exit(main())

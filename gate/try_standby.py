@@ -369,7 +369,3 @@ def main():
         return 0
     trials = [a_shared_folder, a_copied_folder, two_servers, a_manifest, *([] if lacks("haproxy") else [a_router])]
     return kept.run("try_standby", trials, words)
-
-
-if __name__ == "__main__":
-    sys.exit(main())

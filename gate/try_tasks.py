@@ -14,7 +14,6 @@ is 0 where M is 0 and N is not.
 import collections
 import contextlib
 import random
-import sys
 import threading
 import time
 
@@ -376,6 +375,6 @@ def a_ledger(folder, kills, seed):
 TRIALS = (a_semaphore_of_five, a_limiter, an_inventory, a_queue_of_jobs, a_leader, a_ledger)
 
 
-if __name__ == "__main__":
-    GIVEN, WORDS = kept.options(given_words(), kills=4, seed=1)
-    sys.exit(kept.run("try_tasks", TRIALS, WORDS, **GIVEN))
+def main():
+    given, words = kept.options(given_words(), kills=4, seed=1)
+    return kept.run("try_tasks", TRIALS, words, **given)

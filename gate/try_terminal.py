@@ -160,7 +160,3 @@ def main():
             print(f"try: {fault}")
     print(f"try_terminal: {len(COMMANDS) + 1 - failed} passed, {failed} failed")
     return 1 if failed else 0
-
-
-if __name__ == "__main__":
-    sys.exit(main())

@@ -752,7 +752,3 @@ def main():
                 passed += 1
     print(f"try_timeline: {passed} passed, {failed} failed")
     return 1 if failed or not passed else 0
-
-
-if __name__ == "__main__":
-    sys.exit(main())

@@ -630,7 +630,3 @@ def main():
         return end(0, 0)
     say(f"trying {sum(len(edits(TOP, it)) for it in names)} wrong bodies of {len(names)} crates: {' '.join(names)}")
     return in_own_folder(lambda folder: end(*try_crates(lines, names, kit, given.jobs, folder)))
-
-
-if __name__ == "__main__":
-    sys.exit(main())

@@ -202,6 +202,7 @@ def try_switched(edits, tell):
 
 
 def main():
+    os.chdir(TOP)
     lines = repository.crates()
     names = sys.argv[1:] or [it for it in lines if (TOP / "crates" / it / FOLDER).is_dir()]
     edits = []
@@ -234,8 +235,3 @@ def main():
     failed = sum(bool(it) for it in said.values())
     print(f"try_wrong_by_case: {len(said) - failed} passed, {failed} failed")
     return 1 if failed or not said else 0
-
-
-if __name__ == "__main__":
-    os.chdir(TOP)
-    sys.exit(main())

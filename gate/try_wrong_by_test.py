@@ -82,6 +82,7 @@ def try_edit(name, path, folder):
 
 
 def main():
+    os.chdir(TOP)
     lines = repository.crates()
     looks = sys.argv[1:2] == ["--look"]
     names = sys.argv[1 + looks :] or [it for it in lines if (TOP / "crates" / it / FOLDER).is_dir()]
@@ -97,8 +98,3 @@ def main():
             passed, failed = passed + (not said), failed + bool(said)
     print(f"try_wrong_by_test: {passed} passed, {failed} failed")
     return 1 if failed or not passed else 0
-
-
-if __name__ == "__main__":
-    os.chdir(TOP)
-    sys.exit(main())

@@ -102,7 +102,3 @@ def main():
         print(__doc__, file=sys.stderr)
         return 2
     return ready.ran(work)
-
-
-if __name__ == "__main__":
-    sys.exit(main())

@@ -236,7 +236,3 @@ def main():
         return 2
     folder = pathlib.Path(words[0]).absolute() if words else ready.OUT / "release"
     return ready.ran(lambda: work(is_proved, folder))
-
-
-if __name__ == "__main__":
-    sys.exit(main())

@@ -268,7 +268,3 @@ def main():
         print(f"{args.folder / NAME}: {error}", file=sys.stderr)
         return 3
     return 0
-
-
-if __name__ == "__main__":
-    sys.exit(main())

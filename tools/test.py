@@ -373,7 +373,3 @@ def main():
     except ready.Stop as why:
         say(why)
     return end(gate, [*([PROVE, TRY, CHECK] if is_gate else []), *FREE, *PARTS])
-
-
-if __name__ == "__main__":
-    sys.exit(main())

@@ -644,7 +644,3 @@ def main():
         print(f"{objects}: {error}", file=sys.stderr)
         return 3
     return 1 if told and not is_well(told) else 0
-
-
-if __name__ == "__main__":
-    sys.exit(main())
