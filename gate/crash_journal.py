@@ -28,6 +28,7 @@ from gate.drawn_objects import OBJECTS
 from gate.drawn_scripts import Drawer
 from gate.slow_audit import bare, datum, ending_of, value_of, words_of
 from gate.slow_world import written
+from gate.tried import Wrong, whole
 from tools import make_ready, ready
 
 TRIAL = TOP / "crates" / "crash_trial"
@@ -38,10 +39,6 @@ KEPT = 16
 PLACES, NAMED = range(1, 7), range(1, 4)
 # What may follow a history is tried so often, by so many calls.
 FUTURES, CALLS = 4, 6
-
-
-class Wrong(Exception):
-    """What is wrong, in one line."""
 
 
 def whole_number(word):
@@ -308,3 +305,6 @@ def told(runs):
     print(f"{crashes} crashes were tried")
     print(f"crash_journal: {passed} passed, {failed} failed")
     return 0 if passed and not failed else 1
+
+
+load_tests = whole(main)

@@ -27,7 +27,7 @@ from gate import returning
 from gate.drawn_objects import OBJECTS
 from gate.served import Told, free_port, traced_wrongly
 from gate.slow_world import written
-from gate.tried import given_words, program
+from gate.tried import given_words, program, whole
 
 SEEDS = (1, 2)
 CONNECTIONS = 64
@@ -270,3 +270,6 @@ def main():
     count, failed = len(seeds) + trials, failed + wrong
     print(f"cut_connections: {count - failed} passed, {failed} failed")
     return 0 if count and not failed else 1
+
+
+load_tests = whole(main)

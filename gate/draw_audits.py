@@ -29,7 +29,7 @@ from gate.drawn_objects import OBJECTS
 from gate.drawn_scripts import Drawer, Script
 from gate.slow_audit import answer
 from gate.slow_world import FORMATS, LONGEST, WRITTEN, Sequence
-from gate.tried import given_words, program
+from gate.tried import given_words, program, whole
 
 SEEDS = range(1, 61)
 SECONDS = 60
@@ -249,3 +249,6 @@ def main():
     passed, count = sum(it[0] for it in found) + len(traces) - len(unlawful), len(failed) + len(unlawful)
     print(f"draw_audits: {passed} passed, {count} failed")
     return 0 if passed and not count else 1
+
+
+load_tests = whole(main)

@@ -20,7 +20,7 @@ import sys
 import tempfile
 
 from gate.draw_objects import source_of
-from gate.tried import given_words, program
+from gate.tried import given_words, program, whole
 
 SEEDS = range(1, 626)
 SECONDS = 60
@@ -137,3 +137,6 @@ def main():
     passed = sum(it for it, _ in found)
     print(f"draw_explanations: {passed} passed, {len(failed)} failed")
     return 0 if passed and not failed else 1
+
+
+load_tests = whole(main)

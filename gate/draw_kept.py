@@ -28,7 +28,7 @@ from gate.drawn_scripts import Drawer
 from gate.kept import ROOMS, Server, Wrong, check, holds, options
 from gate.slow_kept import LONGEST, UNTOLD, Number, OneOf, Slow, Speaker
 from gate.slow_world import written
-from gate.tried import given_words, program
+from gate.tried import given_words, program, whole
 
 # So many conversations are held over one folder, so many clients speak at most, and so long a line may be awaited, in
 # seconds.
@@ -389,3 +389,6 @@ def main():
                 print(f"seed {seed}: {said}", flush=True)
     print(f"draw_kept: {passed} passed, {failed} failed")
     return 0 if passed and not failed else 1
+
+
+load_tests = whole(main)

@@ -18,7 +18,7 @@ import subprocess
 import sys
 import tempfile
 
-from gate.tried import given_words, program
+from gate.tried import given_words, program, whole
 
 SEEDS = range(1, 626)
 # So many objects stand in a source, and so often has each kind of answer to come up over all seeds.
@@ -261,3 +261,6 @@ def main():
                 failed.append(kind)
     print(f"draw_objects: {passed} passed, {len(failed)} failed")
     return 1 if failed or not passed else 0
+
+
+load_tests = whole(main)

@@ -18,7 +18,7 @@ import sys
 
 from gate.drawn_scripts import Drawer
 from gate.slow_world import Any, Bound, Burst, Name, Sequence
-from gate.tried import given_words, program
+from gate.tried import given_words, program, whole
 
 SEEDS = range(1, 501)
 SECONDS = 60
@@ -142,3 +142,6 @@ def main():
                 failed.append(kind)
     print(f"draw_paths: {passed} passed, {len(failed)} failed")
     return 1 if failed or not passed else 0
+
+
+load_tests = whole(main)

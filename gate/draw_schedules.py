@@ -34,6 +34,7 @@ from gate.drawn_objects import OBJECTS
 from gate.drawn_scripts import Drawer
 from gate.slow_kept import LONGEST, Hall, Slow, Speaker
 from gate.slow_world import Sequence
+from gate.tried import whole
 from tools import make_ready, ready
 
 TRIAL = TOP / "crates" / "schedule_trial"
@@ -525,3 +526,6 @@ def main():
         return draw_all(pathlib.Path(words[1]).resolve(), int(words[2]), int(words[3]))
     print(__doc__, file=sys.stderr)
     return 2
+
+
+load_tests = whole(main)

@@ -23,7 +23,7 @@ import tempfile
 
 from gate.drawn_scripts import FIRST_HOLD, script_of, source_of
 from gate.slow_world import Disagreement
-from gate.tried import given_words, program
+from gate.tried import given_words, program, whole
 
 SEEDS = range(1, 1001)
 SECONDS = 60
@@ -118,3 +118,6 @@ def main():
         print(failed[-1])
     print(f"draw_scripts: {len(said) - len(failed)} passed, {len(failed)} failed")
     return 0 if said and not failed else 1
+
+
+load_tests = whole(main)

@@ -25,7 +25,7 @@ import time
 from gate.drawn_objects import OBJECTS
 from gate.served import Told, free_port, traced_wrongly
 from gate.slow_world import written
-from gate.tried import given_words, program
+from gate.tried import given_words, program, whole
 
 SEEDS = (1, 2, 3)
 CLIENTS, LINES = 32, 40
@@ -278,3 +278,6 @@ def main():
         failed += bool(said) or not heard
     print(f"draw_sessions: {len(seeds) - failed} passed, {failed} failed")
     return 1 if failed else 0
+
+
+load_tests = whole(main)

@@ -31,7 +31,7 @@ import struct
 import subprocess
 import tempfile
 
-from gate.tried import TOP
+from gate.tried import TOP, whole
 from tools import make_ready, ready, repository
 
 TABLE = TOP / "gate" / "public_calls.txt"
@@ -256,3 +256,6 @@ def main():
     failed = sum(bool(why) for _, why in said)
     print(f"public_calls: {len(said) - failed} passed, {failed} failed")
     return 1 if failed or not said else 0
+
+
+load_tests = whole(main)

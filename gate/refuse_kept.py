@@ -29,7 +29,7 @@ import time
 from gate import crowd, losing, refusing
 from gate.crowd import Crowd
 from gate.kept import ROOMS, Server, Talk, Wrong, check, holds, options
-from gate.tried import given_words, lacks, program
+from gate.tried import given_words, lacks, program, whole
 
 # What fails, how, and with which statuses the server may end: where it goes on it ends in order, with 0.
 Kind = collections.namedtuple("Kind", "name env statuses play", defaults=("calls",))
@@ -263,3 +263,6 @@ def main():
             passed, failed = passed + ran[0], failed + ran[1]
     print(f"refuse_kept: {passed} passed, {failed} failed")
     return 1 if failed or not passed else 0
+
+
+load_tests = whole(main)

@@ -24,7 +24,7 @@ import tempfile
 
 from gate import cases
 from gate.refusing import build
-from gate.tried import TOP, given_words, lacks, program
+from gate.tried import TOP, given_words, lacks, program, whole
 
 SECONDS = 60
 MOST_GROWTHS = 100_000
@@ -133,3 +133,6 @@ def main():
     passed, failed = sum(it[0] for it in counts), sum(it[1] for it in counts)
     print(f"refuse_memory: {passed} passed, {failed} failed")
     return 1 if failed or not passed else 0
+
+
+load_tests = whole(main)

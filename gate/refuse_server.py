@@ -26,7 +26,7 @@ import time
 from gate.clients import Connection, Wrong
 from gate.refusing import build
 from gate.served import ended_calls, free_port, traced_wrongly
-from gate.tried import TOP, given_words, lacks, program
+from gate.tried import TOP, given_words, lacks, program, whole
 
 LINES = ("cancel 1", "open cell", "call put 7", "call get", "dance", "call bump 5", "cancel 1", "call get", "call put 1 2", "quit")
 CALLS = [it.removeprefix("call ") for it in LINES if it.startswith("call ")]
@@ -338,3 +338,6 @@ def main():
     passed, failed = (sum(it[at] for it in counts) for at in (0, 1))
     print(f"refuse_server: {passed} passed, {failed} failed")
     return 1 if failed or not passed else 0
+
+
+load_tests = whole(main)

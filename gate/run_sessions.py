@@ -24,7 +24,7 @@ from gate.clients import MOST_BYTES, Connection, Program, Wrong
 from gate.difference import difference
 from gate.served import free_port, traced_wrongly
 from gate.sessions import content, folder_faults, stories_of
-from gate.tried import given_words, lacks, program
+from gate.tried import given_words, lacks, program, whole
 
 # How long a case may last, and how long a step may wait, in seconds.
 LASTS, WAITS = 240, 20
@@ -274,3 +274,6 @@ def main():
     failed = sum(1 for it in said if it)
     print(f"run_sessions: {len(said) - failed} passed, {failed + len(bad)} failed")
     return 0 if said and not failed and not bad else 1
+
+
+load_tests = whole(main)

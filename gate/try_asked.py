@@ -18,7 +18,7 @@ import shutil
 import sys
 import tempfile
 
-from gate.tried import TOP
+from gate.tried import TOP, whole
 from tools import repository
 
 EDITS = "wrong-bodies"
@@ -597,3 +597,6 @@ def main():
     failed = sum(bool(it) for it in said.values())
     print(f"try_asked: {len(said) - failed} passed, {failed} failed")
     return 1 if failed else 0
+
+
+load_tests = whole(main)

@@ -8,6 +8,7 @@ import pathlib
 import tempfile
 
 from gate import cases, sessions
+from gate.tried import whole
 
 # A line, and the text that it is.
 TEXTS = [
@@ -63,3 +64,6 @@ def main():
     passed = 2 * len(TEXTS) + len(REFUSED) - len(failed)
     print(f"try_cases: {passed} passed, {len(failed)} failed")
     return 0 if passed and not failed else 1
+
+
+load_tests = whole(main)

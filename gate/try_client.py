@@ -47,7 +47,7 @@ import threading
 import time
 
 from gate import kept
-from gate.tried import TOP, given_words, lacks
+from gate.tried import TOP, Wrong, given_words, lacks, whole
 
 DRIVERS = TOP / "gate" / "drivers"
 # How long anything may take, and how much longer than its time a call, in seconds.
@@ -56,10 +56,6 @@ SECONDS, LATER = 20, 5
 LANES = 3
 RESET = struct.pack("ii", 1, 0)
 HOLDS, RESETS = object(), object()
-
-
-class Wrong(Exception):
-    pass
 
 
 def check(found, *wanted):
@@ -795,3 +791,6 @@ def main():
         print(f"{title}: {fault}")
     print(f"try_client: {len(found) - len(wrong)} passed, {len(wrong)} failed")
     return 1 if wrong or not found else 0
+
+
+load_tests = whole(main)

@@ -30,7 +30,7 @@ from gate import crowd, kept, losing
 from gate.crowd import NAMES, SOURCE, Crowd
 from gate.kept import SECONDS, Talk, Wrong, check, holds
 from gate.served import free_port
-from gate.tried import given_words, program
+from gate.tried import given_words, loads, program
 
 CLIENTS = 64
 # A server is killed after so long, in seconds; where it is a start that is killed, after so long.
@@ -379,3 +379,6 @@ TRIALS = (
 def main():
     given, words = kept.options(given_words(), kills=10, seed=1)
     return kept.run("try_crash", TRIALS, words, **given)
+
+
+load_tests = loads(lambda: kept.trials_of("try_crash", TRIALS, kills=10, seed=1))

@@ -17,7 +17,7 @@ import re
 import sys
 import tempfile
 
-from gate.tried import TOP
+from gate.tried import TOP, whole
 from tools import repository
 
 WORD = re.compile(r"\w+")
@@ -138,3 +138,6 @@ def main():
     failed = sum(bool(it) for it in said.values())
     print(f"try_crates: {len(said) - failed} passed, {failed} failed")
     return 1 if failed else 0
+
+
+load_tests = whole(main)

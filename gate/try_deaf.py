@@ -20,7 +20,7 @@ import threading
 import time
 
 from gate.served import free_port
-from gate.tried import given_words, program
+from gate.tried import given_words, program, whole
 
 SOURCE = f"""object hold;
   path a; b end;
@@ -263,3 +263,6 @@ def main():
             part(pathlib.Path(folder))
     print(f"try_deaf: {len(PASSED)} passed, {len(FAILED)} failed")
     return 1 if FAILED or not PASSED else 0
+
+
+load_tests = whole(main)

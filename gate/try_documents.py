@@ -43,7 +43,7 @@ import time
 
 from gate import cases, man_page, run_cases, run_sessions, sessions
 from gate.served import free_port
-from gate.tried import TOP, given_words, program
+from gate.tried import TOP, given_words, program, whole
 from tools import repository, test
 
 SECONDS = 60
@@ -599,3 +599,6 @@ def main():
         try_whole(count)
     print(f"{count.passed} passed, {count.failed} failed")
     return 0 if count.passed and not count.failed else 1
+
+
+load_tests = whole(main)

@@ -14,7 +14,7 @@ import subprocess
 import sys
 import tempfile
 
-from gate.tried import TOP, lacks
+from gate.tried import TOP, lacks, whole
 
 SECONDS = 60
 WORD = re.compile(r"[A-Za-z][A-Za-z0-9_]*")
@@ -148,3 +148,6 @@ def main():
                 print(f"{name}, {way}: {error}")
     print(f"try_editors: {passed} passed, {failed} failed")
     return 1 if failed or not passed else 0
+
+
+load_tests = whole(main)

@@ -13,7 +13,7 @@ import pathlib
 import subprocess
 import tempfile
 
-from gate.tried import TOP, given_words, program
+from gate.tried import TOP, given_words, program, whole
 
 CELL = TOP / "examples/objects/cell.pp"
 SOURCE = "709919887b5d0865"
@@ -253,3 +253,6 @@ def main():
             print(f"{look.__doc__} It is not so.")
     print(f"try_epochs: {passed} passed, {failed} failed")
     return 0 if passed and not failed else 1
+
+
+load_tests = whole(main)

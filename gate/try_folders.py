@@ -25,7 +25,7 @@ import tempfile
 import time
 
 from gate.served import audited, free_port
-from gate.tried import given_words, program
+from gate.tried import Trial, Wrong, given_words, loads, program, run
 
 SOURCE = """object one;
   path 1:(put, get) end;
@@ -70,10 +70,6 @@ BEFORE = {
 ENTRIES = {"one": 1, "two": 1}
 UNSAVED = re.compile(r"(\S+) not saved:((?: \d+\.val)+)\n")
 MOVED = re.compile(r"moved to left/(\d+):((?: \d+\.val)+)\n")
-
-
-class Wrong(Exception):
-    """Something is not as it has to be."""
 
 
 def check(holds, said):
@@ -558,17 +554,15 @@ TRIES = (
 )
 
 
+def trials():
+    return [Trial(it.__name__, it) for it in TRIES]
+
+
 def main():
-    words = given_words()
-    if words:
+    if given_words():
         print(__doc__, file=sys.stderr)
         return 2
-    failed = 0
-    for it in TRIES:
-        try:
-            it()
-        except (Wrong, OSError, subprocess.SubprocessError) as error:
-            print(f"{it.__name__}: {error}")
-            failed += 1
-    print(f"try_folders: {len(TRIES) - failed} passed, {failed} failed")
-    return 1 if failed else 0
+    return run("try_folders", trials())
+
+
+load_tests = loads(trials)

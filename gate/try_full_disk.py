@@ -17,7 +17,7 @@ import subprocess
 import tempfile
 
 from gate.served import free_port
-from gate.tried import given_words, program
+from gate.tried import Trial, Wrong, check, given_words, loads, program, run
 
 SECONDS = 300
 ROOM = 8_388_608
@@ -43,15 +43,6 @@ object note;
   entry procedure come; begin end;
 end;
 """
-
-
-class Wrong(Exception):
-    pass
-
-
-def check(found, wanted, what="it"):
-    if found != wanted:
-        raise Wrong(f"{what} is {found!r}, not {wanted!r}")
 
 
 class Server:
@@ -281,17 +272,12 @@ def a_crash_within_a_change_harms_nothing():
 TRIALS = (numbers_are_spent, room_is_spent, room_of_those_that_wait, ended_epochs_are_kept, a_crash_within_a_change_harms_nothing)
 
 
+def trials():
+    return [Trial(it.__doc__, it) for it in TRIALS]
+
+
 def main():
-    words = " ".join(given_words())
-    passed = failed = 0
-    for trial in TRIALS:
-        if words not in trial.__doc__:
-            continue
-        try:
-            trial()
-            passed += 1
-        except (Wrong, OSError, subprocess.TimeoutExpired) as wrong:
-            failed += 1
-            print(f"{trial.__doc__} {wrong}", flush=True)
-    print(f"try_full_disk: {passed} passed, {failed} failed")
-    return 0 if passed and not failed else 1
+    return run("try_full_disk", trials(), [" ".join(given_words())])
+
+
+load_tests = loads(trials)

@@ -19,7 +19,7 @@ import time
 from gate import kept
 from gate.cutter import Cutter
 from gate.kept import Server, Talk, check, holds, until
-from gate.tried import TOP, given_words
+from gate.tried import TOP, given_words, loads
 
 SLOTS = """object slots;
   const most = 3;
@@ -573,3 +573,6 @@ TRIALS = [
 def main():
     given, words = kept.options(given_words(), seconds=10)
     return kept.run("try_holds", TRIALS, words, **given)
+
+
+load_tests = loads(lambda: kept.trials_of("try_holds", TRIALS, seconds=10))

@@ -12,10 +12,9 @@ import resource
 import shutil
 import socket
 import subprocess
-import tempfile
 
 from gate.served import free_port
-from gate.tried import TOP, given_words, program
+from gate.tried import TOP, Trial, Wrong, check, given_words, in_folder, loads, program, run, title_of
 
 SECONDS = 60
 BUFFER = """object buffer;
@@ -44,15 +43,6 @@ end;
 """
 NOT_KNOWN, NO_FIT = "object buffer past is not known\n", "object buffer past does not fit\n"
 USAGE = "\n\nUsage: pathserve keep [OPTIONS] <FILE> <DIR> <PLACE>\n\nFor more information, try '--help'.\n"
-
-
-class Wrong(Exception):
-    pass
-
-
-def check(found, wanted, what="it"):
-    if found != wanted:
-        raise Wrong(f"{what} is {found!r}, not {wanted!r}")
 
 
 class Place:
@@ -411,19 +401,12 @@ TRIES = [
 ]
 
 
+def trials():
+    return [Trial(title_of(it), in_folder("keep", it, Place)) for it in TRIES]
+
+
 def main():
-    titles = given_words()
-    passed = failed = 0
-    for attempt in TRIES:
-        title = attempt.__name__.replace("_", " ")
-        if titles and not all(it in title for it in titles):
-            continue
-        with tempfile.TemporaryDirectory(prefix="keep-") as top:
-            try:
-                attempt(Place(pathlib.Path(top)))
-                passed += 1
-            except Exception as error:  # whatever goes wrong is told, and the others are tried
-                failed += 1
-                print(f"{title}: {type(error).__name__}: {str(error)[:1500]}")
-    print(f"try_keep: {passed} passed, {failed} failed")
-    return 1 if failed or not passed else 0
+    return run("try_keep", trials(), given_words())
+
+
+load_tests = loads(trials)

@@ -23,7 +23,7 @@ import time
 from gate import kept
 from gate.crowd import SOURCE
 from gate.kept import Server, Talk, check, holds, until
-from gate.tried import given_words
+from gate.tried import given_words, loads
 
 LONG = "x" * 1000
 OWED, HELD = 64, 64
@@ -590,3 +590,6 @@ TRIALS = (
 def main():
     given, words = kept.options(given_words(), big=0)
     return kept.run("try_kept", TRIALS, words, **given)
+
+
+load_tests = loads(lambda: kept.trials_of("try_kept", TRIALS, big=0))

@@ -14,7 +14,7 @@ import time
 
 from gate import kept
 from gate.kept import Server, Talk, Wrong, check
-from gate.tried import given_words
+from gate.tried import given_words, loads
 
 FILES, CLIENTS = 40, 60
 SHORT = "no file or memory for one more connection: who comes waits until another one ends\n"
@@ -137,3 +137,6 @@ TRIALS = (few_files, an_epoch_begins_without_a_file, few_places, nobody_takes_no
 
 def main():
     return kept.run("try_many", TRIALS, given_words())
+
+
+load_tests = loads(lambda: kept.trials_of("try_many", TRIALS))

@@ -15,14 +15,12 @@ import asyncio
 import contextlib
 import io
 import os
-import pathlib
 import pickle
 import re
 import signal
 import socket
 import subprocess
 import sys
-import tempfile
 import threading
 import time
 
@@ -30,7 +28,7 @@ from clients.python.pathclient import CallError, Cancelled, Expired, Failed, Los
 from gate import closing
 from gate.cutter import Cutter
 from gate.served import free_port
-from gate.tried import TOP, given_words, lacks, program
+from gate.tried import TOP, Trial, given_words, in_folder, lacks, loads, program, run
 
 OBJECTS = TOP / "examples" / "objects"
 # How long anything may take, in seconds.
@@ -1279,18 +1277,15 @@ TRIES += [
 ]
 
 
+def trials():
+    return [Trial(title, in_folder("pathclient", attempt)) for title, attempt in TRIES]
+
+
 def main():
     if given_words():
         print(__doc__, file=sys.stderr)
         return 2
-    passed = failed = 0
-    for title, attempt in TRIES:
-        with tempfile.TemporaryDirectory() as folder:
-            try:
-                attempt(pathlib.Path(folder))
-                passed += 1
-            except Exception as error:  # whatever a client does wrong is told, and the others are tried
-                failed += 1
-                print(f"{title}: {type(error).__name__}: {str(error)[:600]}")
-    print(f"try_pathclient: {passed} passed, {failed} failed")
-    return 1 if failed or not passed else 0
+    return run("try_pathclient", trials())
+
+
+load_tests = loads(trials)

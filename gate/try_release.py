@@ -30,7 +30,7 @@ import tempfile
 from clients.python.pathclient import Object
 from gate import kept
 from gate.kept import Wrong, check, holds, until
-from gate.tried import TOP, given_words, lacks, program
+from gate.tried import TOP, given_words, lacks, program, whole
 
 SECONDS = 60
 # What a root has before a package is installed: what `dpkg`, the package's scripts and `pathserve` itself call, and `sh`.
@@ -357,3 +357,6 @@ def main():
     trials = (archive,) if is_missing() else (archive, package, image)
     with tempfile.TemporaryDirectory(prefix="try_release-") as folder:
         return kept.run("try_release", trials, words, release=made(pathlib.Path(folder)))
+
+
+load_tests = whole(main)

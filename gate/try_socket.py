@@ -9,29 +9,18 @@ The last line is `try_socket: N passed, M failed`; the exit status is 0 where M 
 """
 import contextlib
 import os
-import pathlib
 import pwd
 import signal
 import socket
 import stat
 import subprocess
 import sys
-import tempfile
 
 from clients.python.pathclient import NoServer, Object
-from gate.tried import TOP, given_words, program
+from gate.tried import TOP, Trial, Wrong, check, given_words, in_folder, loads, program, run
 
 CELL = TOP / "examples" / "objects" / "cell.pp"
 SECONDS = 20
-
-
-class Wrong(Exception):
-    pass
-
-
-def check(found, wanted, what="it"):
-    if found != wanted:
-        raise Wrong(f"{what} is {found!r}, not {wanted!r}")
 
 
 class Server:
@@ -235,18 +224,15 @@ def keeper(top):
 TRIES = [serves, last_connection, stops, stale, two, something_else, replaced, another_user, clients, keeper]
 
 
+def trials():
+    return [Trial(f"{it.__name__}: {it.__doc__}", in_folder("socket", it)) for it in TRIES]
+
+
 def main():
     if given_words():
         print(__doc__, file=sys.stderr)
         return 2
-    passed = failed = 0
-    for attempt in TRIES:
-        with tempfile.TemporaryDirectory(prefix="socket-") as top:
-            try:
-                attempt(pathlib.Path(top))
-                passed += 1
-            except Exception as error:  # whatever goes wrong is told, and the others are tried
-                failed += 1
-                print(f"{attempt.__name__}: {attempt.__doc__}\n    {type(error).__name__}: {str(error)[:800]}")
-    print(f"try_socket: {passed} passed, {failed} failed")
-    return 1 if failed or not passed else 0
+    return run("try_socket", trials())
+
+
+load_tests = loads(trials)

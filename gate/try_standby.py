@@ -28,7 +28,7 @@ from clients.python.pathclient import CallError, Expired, Lost, NoServer, Object
 from gate import kept
 from gate.kept import Wrong, check, holds, until
 from gate.served import free_port
-from gate.tried import TOP, given_words, lacks, program
+from gate.tried import TOP, given_words, lacks, program, whole
 
 SECONDS, CLIENTS = 60, 4
 # The address that the clients know, and the ports of routers and of servers.
@@ -369,3 +369,6 @@ def main():
         return 0
     trials = [a_shared_folder, a_copied_folder, two_servers, a_manifest, *([] if lacks("haproxy") else [a_router])]
     return kept.run("try_standby", trials, words)
+
+
+load_tests = whole(main)

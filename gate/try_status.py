@@ -29,7 +29,7 @@ import urllib.error
 import urllib.request
 
 from gate.kept import Server, Talk, Wrong, check, holds, until
-from gate.tried import TOP, given_words
+from gate.tried import TOP, Trial, given_words, run, whole
 from tools import status
 
 TOOL = TOP / "tools" / "status"
@@ -564,21 +564,13 @@ def tries(folder):
         yield trial.__name__.replace("_", " "), lambda: served(trial, folder / trial.__name__)
 
 
+def trials(folder):
+    return (Trial(title, attempt) for title, attempt in tries(folder))
+
+
 def main():
-    words = given_words()
-    passed = failed = 0
     with tempfile.TemporaryDirectory() as folder:
-        for title, attempt in tries(pathlib.Path(folder)):
-            if not all(it in title for it in words):
-                continue
-            try:
-                why = attempt()
-            except (ValueError, KeyError, IndexError, OSError, subprocess.TimeoutExpired) as error:
-                why = f"{type(error).__name__}: {error}"
-            if why:
-                failed += 1
-                print(f"{title}: {why[:600]}")
-            else:
-                passed += 1
-    print(f"try_status: {passed} passed, {failed} failed")
-    return 1 if failed or not passed else 0
+        return run("try_status", trials(pathlib.Path(folder)), given_words())
+
+
+load_tests = whole(main)

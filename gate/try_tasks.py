@@ -20,7 +20,7 @@ import time
 from clients.python.pathclient import CallError, Cancelled, Lost, NoServer, Object, Refused
 from gate import kept
 from gate.kept import Server, Wrong, check, holds
-from gate.tried import TOP, given_words
+from gate.tried import TOP, given_words, loads
 
 
 class Task:
@@ -378,3 +378,6 @@ TRIALS = (a_semaphore_of_five, a_limiter, an_inventory, a_queue_of_jobs, a_leade
 def main():
     given, words = kept.options(given_words(), kills=4, seed=1)
     return kept.run("try_tasks", TRIALS, words, **given)
+
+
+load_tests = loads(lambda: kept.trials_of("try_tasks", TRIALS, kills=4, seed=1))

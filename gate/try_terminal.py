@@ -16,7 +16,7 @@ import sys
 import tempfile
 import threading
 
-from gate.tried import TOP, given_words, program
+from gate.tried import TOP, given_words, program, whole
 
 SECONDS = 60
 HINT = b"--explain tells more\n"
@@ -160,3 +160,6 @@ def main():
             print(f"try: {fault}")
     print(f"try_terminal: {len(COMMANDS) + 1 - failed} passed, {failed} failed")
     return 1 if failed else 0
+
+
+load_tests = whole(main)

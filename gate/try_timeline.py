@@ -21,6 +21,7 @@ import tempfile
 import xml.etree.ElementTree as tree
 
 from gate.drawn_scripts import Script
+from gate.tried import Trial, run, whole
 from tools import timeline
 
 TOOL = pathlib.Path(__file__).resolve().parent.parent / "tools" / "timeline"
@@ -734,21 +735,16 @@ def tries(folder):
     yield "statuses", lambda: statuses(folder)
 
 
+def trials(folder):
+    return (Trial(title, attempt) for title, attempt in tries(folder))
+
+
 def main():
     if sys.argv[1:]:
         print(__doc__, file=sys.stderr)
         return 2
-    passed = failed = 0
     with tempfile.TemporaryDirectory() as folder:
-        for title, attempt in tries(pathlib.Path(folder)):
-            try:
-                why = attempt()
-            except (ValueError, KeyError, IndexError, OSError, tree.ParseError, subprocess.TimeoutExpired) as error:
-                why = f"{type(error).__name__}: {error}"
-            if why:
-                failed += 1
-                print(f"{title}: {why[:600]}")
-            else:
-                passed += 1
-    print(f"try_timeline: {passed} passed, {failed} failed")
-    return 1 if failed or not passed else 0
+        return run("try_timeline", trials(pathlib.Path(folder)))
+
+
+load_tests = whole(main)
