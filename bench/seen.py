@@ -16,8 +16,8 @@ import statistics
 import tempfile
 import time
 
-from gate.kept import Server, Talk, check, holds
-from gate.tried import given_words
+from gate.kept import Server, Talk
+from gate.tried import check, given_words, holds
 
 SOURCE = """object buffer;
   path 4:(put; get) end;

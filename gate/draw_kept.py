@@ -25,10 +25,10 @@ import tempfile
 
 from gate.drawn_objects import OBJECTS
 from gate.drawn_scripts import Drawer
-from gate.kept import ROOMS, Server, Wrong, check, holds, options
+from gate.kept import ROOMS, Server, options
 from gate.slow_kept import LONGEST, UNTOLD, Number, OneOf, Slow, Speaker
 from gate.slow_world import written
-from gate.tried import given_words, program, whole
+from gate.tried import Wrong, check, given_words, holds, program, whole
 
 # So many conversations are held over one folder, so many clients speak at most, and so long a line may be awaited, in
 # seconds.

@@ -28,8 +28,8 @@ import time
 
 from gate import crowd, losing, refusing
 from gate.crowd import Crowd
-from gate.kept import ROOMS, Server, Talk, Wrong, check, holds, options
-from gate.tried import given_words, lacks, program, whole
+from gate.kept import ROOMS, Server, Talk, options
+from gate.tried import Wrong, check, given_words, holds, lacks, program, whole
 
 # What fails, how, and with which statuses the server may end: where it goes on it ends in order, with 0.
 Kind = collections.namedtuple("Kind", "name env statuses play", defaults=("calls",))

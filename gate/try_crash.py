@@ -28,9 +28,9 @@ import time
 
 from gate import crowd, kept, losing
 from gate.crowd import NAMES, SOURCE, Crowd
-from gate.kept import SECONDS, Talk, Wrong, check, holds
+from gate.kept import SECONDS, Talk
 from gate.served import free_port
-from gate.tried import given_words, loads, program
+from gate.tried import Wrong, check, given_words, holds, loads, program
 
 CLIENTS = 64
 # A server is killed after so long, in seconds; where it is a start that is killed, after so long.

@@ -18,8 +18,8 @@ import time
 
 from gate import kept
 from gate.cutter import Cutter
-from gate.kept import Server, Talk, check, holds, until
-from gate.tried import TOP, given_words, loads
+from gate.kept import Server, Talk
+from gate.tried import TOP, check, given_words, holds, loads, until
 
 SLOTS = """object slots;
   const most = 3;

@@ -22,8 +22,8 @@ import time
 
 from gate import kept
 from gate.crowd import SOURCE
-from gate.kept import Server, Talk, check, holds, until
-from gate.tried import given_words, loads
+from gate.kept import Server, Talk
+from gate.tried import check, given_words, holds, loads, until
 
 LONG = "x" * 1000
 OWED, HELD = 64, 64

@@ -13,8 +13,8 @@ import select
 import time
 
 from gate import kept
-from gate.kept import Server, Talk, Wrong, check
-from gate.tried import given_words, loads
+from gate.kept import Server, Talk
+from gate.tried import Wrong, check, given_words, loads
 
 FILES, CLIENTS = 40, 60
 SHORT = "no file or memory for one more connection: who comes waits until another one ends\n"

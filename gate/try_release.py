@@ -29,8 +29,7 @@ import tempfile
 
 from clients.python.pathclient import Object
 from gate import kept
-from gate.kept import Wrong, check, holds, until
-from gate.tried import TOP, given_words, lacks, program, whole
+from gate.tried import TOP, Wrong, check, given_words, holds, lacks, program, until, whole
 
 SECONDS = 60
 # What a root has before a package is installed: what `dpkg`, the package's scripts and `pathserve` itself call, and `sh`.

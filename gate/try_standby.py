@@ -26,9 +26,8 @@ import time
 
 from clients.python.pathclient import CallError, Expired, Lost, NoServer, Object, Rejected
 from gate import kept
-from gate.kept import Wrong, check, holds, until
 from gate.served import free_port
-from gate.tried import TOP, given_words, lacks, program, whole
+from gate.tried import TOP, Wrong, check, given_words, holds, lacks, program, until, whole
 
 SECONDS, CLIENTS = 60, 4
 # The address that the clients know, and the ports of routers and of servers.

@@ -28,8 +28,8 @@ import time
 import urllib.error
 import urllib.request
 
-from gate.kept import Server, Talk, Wrong, check, holds, until
-from gate.tried import TOP, Trial, given_words, run, whole
+from gate.kept import Server, Talk
+from gate.tried import TOP, Trial, Wrong, check, given_words, holds, run, until, whole
 from tools import status
 
 TOOL = TOP / "tools" / "status"

@@ -19,8 +19,8 @@ import time
 
 from clients.python.pathclient import CallError, Cancelled, Lost, NoServer, Object, Refused
 from gate import kept
-from gate.kept import Server, Wrong, check, holds
-from gate.tried import TOP, given_words, loads
+from gate.kept import Server
+from gate.tried import TOP, Wrong, check, given_words, holds, loads, until
 
 
 class Task:
@@ -220,7 +220,7 @@ def an_inventory(folder, kills, seed):
     for at, draw in enumerate(shops):
         task.run(shop, f"s{at}", draw)
     task.kill(kills)
-    kept.until(lambda: sum(it.is_alive() for it in task.threads) == 1, f"the shops do not end: {task.faults[:3]}")
+    until(lambda: sum(it.is_alive() for it in task.threads) == 1, f"the shops do not end: {task.faults[:3]}")
     task.stops = True
     task.join()
     holds(len(set(ended)) == len(ended), "a reservation ended twice")
@@ -319,7 +319,7 @@ def a_leader(folder, kills, seed):
     for at in range(4):
         task.run(candidate, f"c{at}", random.Random(f"{seed}.{at}"))
     task.kill(kills)
-    kept.until(lambda: len(terms) > 3 or task.faults, "the leader stays the same", 20)
+    until(lambda: len(terms) > 3 or task.faults, "the leader stays the same", 20)
     task.stops = True
     task.join()
     tokens = [it for it, _ in terms]

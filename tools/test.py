@@ -38,7 +38,7 @@ TRY = Part(("gate/try_wrong_bodies",), may_rest=True, is_shown=True)
 CHECK = Part(("gate/try_wrong_bodies", "--check"))
 # These need no program.
 FREE = (
-    *(Part((it,)) for it in ("gate/crash_journal", "gate/draw_schedules", "gate/try_asked", "gate/try_cases", "gate/try_crates", "gate/try_editors", "gate/try_timeline", "gate/try_wrapper")),
+    *(Part((it,)) for it in ("gate/crash_journal", "gate/draw_schedules", "gate/try_asked", "gate/try_cases", "gate/try_crates", "gate/try_editors", "gate/try_timeline", "gate/try_types", "gate/try_wrapper")),
     Part(("gate/public_calls",), more=("--count",)),
 )
 # In the order in which they are begun: first those that take long, or wait much.
