@@ -1,5 +1,5 @@
 -- Of places that nobody has nothing is seen.
-use Rattle.std.proofs.Common.{◌≡◌, ◌∙◌, ap, sym, subst, refl, arith, ℕ, zero, suc, List, [], ◌∷◌}
+use Rattle.std.proofs.Common.{◌≡◌, ◌∙◌, ap, subst, refl, arith, ℕ, zero, suc, List, [], ◌∷◌}
 use Rattle.std.specs.Prelude.{Bool, false, if◌then◌else◌, None, Some, drop, map, slice_get}
 use Rattle.std.proofs.lemmas.Option.{same_Some}
 use Rattle.client_core.specs.declared.client.Client.{Client}
