@@ -3,6 +3,7 @@ use Rattle.std.specs.Prelude.{List}
 use Rattle.hosted_core.specs.Scene.{Scene}
 use Rattle.client_core.specs.declared.clients.Clients.{Clients}
 use Rattle.told_core.specs.Custody.{Custodies}
+use Rattle.custody_core.specs.Views.{custodies_of}
 use Rattle.told_core.specs.State.{State, peers_of}
 use Rattle.table_core.specs.declared.table.Table.{Table}
 
@@ -11,4 +12,4 @@ state_of custody objects clients = record { objects = objects; peers = peers_of 
 
 -- its objects with their clients, its places of connections, and what is held of its objects
 abbrev pub seen : Table → State
-seen t = state_of t.custody t.objects.items t.clients
+seen t = state_of (custodies_of t.custody) t.objects.items t.clients

@@ -10,6 +10,7 @@ ghost use Rattle.post_core.specs.Posts.{Tells};
 ghost use Rattle.tally_core.specs.Tallies.{CountsTaken};
 ghost use Rattle.told_core.specs.Asked.{Opens, Follows};
 ghost use Rattle.told_core.specs.Custody.{Custody, HasNone, not_held_text};
+ghost use Rattle.custody_core.specs.Views.{custodies_of};
 ghost use Rattle.told_core.specs.Deeds.{OnlyTold};
 ghost use Rattle.told_core.specs.Gone.{Settles, NoneHas};
 ghost use Rattle.told_core.specs.Moves.{BeginsHeld, FrontsHeld, IsFrontAt};
@@ -355,7 +356,7 @@ impl Table {
 
     // Whether a session holds nothing, no call of it waits, and no connection has it.
     fn may_free(&self, at: usize, session: u16) -> bool
-        ensures none { result ≡ true → (c : Custody) × (slice_get self.now.custody at ≡ Some c) × HasNone session c.held }
+        ensures none { result ≡ true → (c : Custody) × (slice_get (custodies_of self.now.custody) at ≡ Some c) × HasNone session c.held }
         ensures idle { result ≡ true → NoneWaitsAt self.now.objects.items at session }
         ensures apart { result ≡ true → NoneHas at session (seen self.now) }
     {
