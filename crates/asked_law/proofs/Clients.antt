@@ -105,13 +105,13 @@ has_other Is v p f g s sound there free none (inl is) =
 has_other Is v p f g s sound there free none (inr (q, x, is, ok)) = elim (cases_eq q p) [
   | inl same ↦ absurd (none (subst Is (one_item v.guests p x f (subst (λ n. slice_get v.guests n ≡ Some x) same is.there) there) ok))
   | inr other ↦ inr (
-      q,
-      x,
-      record {
-        seat = get_there (slice_set v.seats f.session Retired) g.session (Named p) s (λ same. free_is q (sym free ∙ ap (slice_get v.seats) (sym same) ∙ is.seat))
-            ∙ get_there v.seats f.session Retired s (λ same. other (one_place v.seats s q p is.seat (ap (slice_get v.seats) same ∙ sound.seated p f there))) ∙ is.seat;
-        there = get_there v.guests p g q other ∙ is.there;
-      },
-      ok,
-    )
+    q,
+    x,
+    record {
+      seat = get_there (slice_set v.seats f.session Retired) g.session (Named p) s (λ same. free_is q (sym free ∙ ap (slice_get v.seats) (sym same) ∙ is.seat))
+          ∙ get_there v.seats f.session Retired s (λ same. other (one_place v.seats s q p is.seat (ap (slice_get v.seats) same ∙ sound.seated p f there))) ∙ is.seat;
+      there = get_there v.guests p g q other ∙ is.there;
+    },
+    ok,
+  )
 ]

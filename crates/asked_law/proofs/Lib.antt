@@ -1,0 +1,4 @@
+pub mod Clients
+pub mod Coming
+pub mod Known
+pub mod Tracing
