@@ -19,9 +19,8 @@ use Rattle.hosted_core.specs.Steps.{IsFollowed}
 use Rattle.written_law.specs.Stands.{AreSeated}
 use Rattle.written_law.proofs.Seating.{seated_enters, seated_leaves, seated_number, seated_renewed}
 use Rattle.asker_law.specs.Awaits.{IsIn}
-use Rattle.asked_law.specs.Asked.{ClientHas, HasAskedFor, IsAskedOf, IsKnown}
+use Rattle.asked_law.specs.Asked.{ClientHas, HasAskedFor, IsAskedOf, IsHere, IsKnown}
 use Rattle.asked_law.proofs.Clients.{free_is, has_guest, has_other, has_seat, has_set, has_taken, nameless_is, one_client, session_at}
-use Rattle.asked_law.proofs.Known.{IsHere}
 
 none_since : (n : ℕ) → ◌≡◌ {A = Option ℕ} None (Some n) → ⊥
 none_since n is = cc

@@ -34,7 +34,7 @@ use Rattle.written_law.proofs.Seating.{seated_enters, seated_keys, seated_leaves
 use Rattle.year_law.proofs.Tables.{whose}
 use Rattle.asker_law.specs.Awaits.{IsIn}
 use Rattle.asker_law.proofs.Lists.{Apart, apart_more, between_in, calls_of, every_in, in_behind, in_front, left_out, settled_out}
-use Rattle.asked_law.specs.Asked.{AreTheirOwn, ClientHas, HasAskedFor, IsAskedOf, IsItsOwn, IsKnown}
+use Rattle.asked_law.specs.Asked.{AreTheirOwn, ClientHas, HasAskedFor, IsAskedOf, IsHere, IsItsOwn, IsKnown}
 use Rattle.asked_law.proofs.Clients.{free_is, free_nameless, has_guest, has_other, has_seat, has_set, has_small, has_taken, nameless_is, one_client, session_at}
 
 pub all_in : {X : Type 0} (P : X → Type 0) (xs : List X) → ((x : X) → IsIn x xs → P x) → Every P xs
@@ -73,8 +73,8 @@ alike_keys v w p g keys there a =
           ];
     }
 
-alike_at : (v w : Guests) (session : ℕ) (Does : Keys → Keys → Type 0) (new : Guests) → IsSound w → AtName w session Does new → Alike v w → Alike v new
-alike_at v w session Does new sound at a = elim (whose w session sound) [
+alike_at : (v w : Guests) (session : ℕ) (K : Keys → Keys → Type 0) (new : Guests) → IsSound w → AtName w session K new → Alike v w → Alike v new
+alike_at v w session K new sound at a = elim (whose w session sound) [
   | inl by ↦
       let does = at.named by.0 by.1 by.2 in
       subst (Alike v) (sym does.2) (alike_keys v w by.0 by.1 does.0 by.2.there a)
@@ -82,9 +82,6 @@ alike_at v w session Does new sound at a = elim (whose w session sound) [
 ]
 
 -- who is here is here still
-abbrev pub IsHere : Guest → Type 0
-IsHere g = g.away ≡ None
-
 pub here_alike : (old new : Guests) (s : ℕ) → Alike old new → ClientHas IsHere old s → ClientHas IsHere new s
 here_alike old new s a (inl is) = inl (ap (λ (l : List Seat). slice_get l s) a.seats ∙ is)
 here_alike old new s a (inr (p, g, is, here)) =
@@ -92,8 +89,8 @@ here_alike old new s a (inr (p, g, is, here)) =
     inr (p, now.0, record { seat = ap (λ (l : List Seat). slice_get l s) a.seats ∙ is.seat; there = now.1 }, now.2 ∙ here)
 
 -- the call of one session ends, or is asked: the calls of others are known still
-known_others : (v : Guests) (session : ℕ) (Does : Keys → Keys → Type 0) (w : Guests) (c : Called) → IsSound v → AtName v session Does w → c.session ≢ session → IsKnown v c → IsKnown w c
-known_others v session Does w c sound at other known = elim (whose v session sound) [
+known_others : (v : Guests) (session : ℕ) (K : Keys → Keys → Type 0) (w : Guests) (c : Called) → IsSound v → AtName v session K w → c.session ≢ session → IsKnown v c → IsKnown w c
+known_others v session K w c sound at other known = elim (whose v session sound) [
   | inl by ↦
       let does = at.named by.0 by.1 by.2 in
       subst (λ (x : Guests). IsKnown x c) (sym does.2)

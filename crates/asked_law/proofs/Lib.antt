@@ -1,4 +1,9 @@
 pub mod Clients
 pub mod Coming
+pub mod Doing
+pub mod Fitting
+pub mod Going
+pub mod Keying
 pub mod Known
 pub mod Tracing
+pub mod Turning

@@ -20,6 +20,10 @@ use Rattle.year_law.specs.Keys.{KeyedCall}
 abbrev pub ClientHas : (Guest → Type 0) → Guests → ℕ → Type 0
 ClientHas Is v session = (slice_get v.seats session ≡ Some Nameless) ⊎ ((p : ℕ) × (g : Guest) × IsNamed v session p g × Is g)
 
+-- a client is not away
+abbrev pub IsHere : Guest → Type 0
+IsHere g = g.away ≡ None
+
 -- a client has asked for a call
 abbrev pub HasAskedFor : Called → Guest → Type 0
 HasAskedFor c g = g.keys.asked ≡ Some (asks c.operation c.arguments)

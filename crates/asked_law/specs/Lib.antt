@@ -1,2 +1,4 @@
 pub mod Asked
+pub mod Keys
 pub mod Tells
+pub mod Turns
