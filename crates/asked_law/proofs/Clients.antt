@@ -1,17 +1,17 @@
 -- Sessions, and the clients that have them, change by change.
-use Rattle.std.proofs.Common.{◌≡◌, ◌≢◌, ◌⊎◌, inl, inr, ◌∙◌, ap, sym, subst, refl, arith, ℕ, ◌<◌, List, [], ◌∷◌, ◌++◌, length}
-use Rattle.std.specs.Prelude.{Bool, true, false, Option, Some, None, nat_lt, slice_get, slice_set, if◌then◌else◌}
+use Rattle.std.proofs.Common.{◌≡◌, ◌≢◌, inl, inr, ◌∙◌, ap, sym, subst, refl, arith, ℕ, ◌<◌, [], ◌∷◌, length}
+use Rattle.std.specs.Prelude.{Bool, true, false, Option, Some, nat_lt, slice_get, slice_set, if◌then◌else◌}
 use Rattle.std.proofs.lemmas.Bool.{cases_eq}
-use Rattle.trace_core.specs.Events.{Called}
+use Rattle.std.proofs.lemmas.Bool.Decides.{nat_tests}
 use Rattle.guest_core.specs.declared.guest.Guest.{Guest}
 use Rattle.guest_core.specs.declared.seats.Seat.{Seat}
 use Rattle.guest_core.specs.declared.seats.Seat.TheVariants.{Void, Free, Nameless, Named, Retired}
-use Rattle.guest_core.specs.Guests.{Guests, IsNamed, IsSound, HasNoName, with_guest, with_other, with_seat}
+use Rattle.guest_core.specs.Guests.{Guests, IsNamed, IsSound, with_guest, with_other, with_seat}
 use Rattle.guest_core.proofs.Items.{get_front, get_here, get_there, get_within, one_item}
 use Rattle.guest_core.proofs.Sound.{one_place}
 use Rattle.hosted_core.specs.Calls.{seat_of}
 use Rattle.written_law.specs.Stands.{AreSeated}
-use Rattle.asked_law.specs.Asked.{ClientHas, IsKnown}
+use Rattle.asked_law.specs.Asked.{ClientHas}
 
 pub nameless_is : (p : ℕ) → ◌≡◌ {A = Option Seat} (Some Nameless) (Some (Named p)) → ⊥
 nameless_is p is = cc

@@ -1,5 +1,5 @@
 -- Clients that come, get a number and leave, and an epoch that begins.
-use Rattle.std.proofs.Common.{◌≡◌, ◌≢◌, ◌⊎◌, inl, inr, ◌∙◌, ap, sym, subst, refl, ℕ, zero, suc, ◌+◌, List, [], ◌∷◌, ◌++◌, length}
+use Rattle.std.proofs.Common.{◌≡◌, ◌≢◌, ◌⊎◌, inl, inr, ◌∙◌, ap, sym, subst, refl, ℕ, zero, suc, ◌+◌, List, [], ◌∷◌, length}
 use Rattle.std.specs.Prelude.{Bool, true, false, Option, Some, None, Ok, map, slice_get, slice_set, unwrap_or}
 use Rattle.trace_core.specs.Events.{Called}
 use Rattle.past_core.specs.declared.past.PastEvent.{PastEvent}
@@ -11,10 +11,10 @@ use Rattle.guest_core.specs.declared.kept.Asked.{Asked}
 use Rattle.guest_core.specs.declared.seats.Seat.{Seat}
 use Rattle.guest_core.specs.declared.seats.Seat.TheVariants.{Void, Free, Nameless, Named, Retired}
 use Rattle.guest_core.specs.Entering.{Enters, Leaves}
-use Rattle.guest_core.specs.Guests.{Guests, IsNamed, guest_of, with_away, with_guest, with_other, with_seat}
+use Rattle.guest_core.specs.Guests.{Guests, guest_of, with_seat}
 use Rattle.guest_core.specs.Seats.{IsLeastFree, renewed}
 use Rattle.guest_core.proofs.Items.{get_here, get_last, get_set, get_there}
-use Rattle.hosted_core.specs.Scene.{Scene, with_guests}
+use Rattle.hosted_core.specs.Scene.{Scene}
 use Rattle.hosted_core.specs.Steps.{IsFollowed}
 use Rattle.written_law.specs.Stands.{AreSeated}
 use Rattle.written_law.proofs.Seating.{seated_enters, seated_leaves, seated_number, seated_renewed}

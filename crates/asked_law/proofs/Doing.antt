@@ -1,6 +1,6 @@
 -- What each deed makes of objects and places.
-use Rattle.std.proofs.Common.{◌≡◌, ◌≢◌, ◌⊎◌, ◌∙◌, ap, sym, subst, refl, ℕ, inl, inr, List, [], ◌∷◌, ◌++◌, Option, Some, None, Result, Ok, Err}
-use Rattle.std.specs.Prelude.{Bool, true, false, map, slice_get, slice_set}
+use Rattle.std.proofs.Common.{◌≡◌, ◌≢◌, ◌∙◌, ap, sym, subst, refl, ℕ, inl, inr, List, [], ◌∷◌, ◌++◌, Option, Some, None, Result, Ok, Err}
+use Rattle.std.specs.Prelude.{true, false, map, slice_get, slice_set}
 use Rattle.std.specs.declared.alloc.AllocError.{AllocError}
 use Rattle.std.proofs.lemmas.List.{append-nil}
 use Rattle.std.proofs.lemmas.Option.{same_Some}
@@ -10,11 +10,10 @@ use Rattle.decl_core.specs.ObjectMap.{object_of}
 use Rattle.trace_core.specs.Events.{Called}
 use Rattle.live_core.specs.declared.call.Ran.{Ran}
 use Rattle.live_core.specs.declared.live.Taken.{Taken}
-use Rattle.live_core.specs.Answers.{asked}
 use Rattle.live_core.specs.Hall.{Every}
 use Rattle.live_core.specs.Lines.{all_lines}
 use Rattle.guest_core.specs.declared.seats.Seat.{Seat}
-use Rattle.guest_core.specs.declared.seats.Seat.TheVariants.{Void, Free, Nameless, Named, Retired}
+use Rattle.guest_core.specs.declared.seats.Seat.TheVariants.{Void, Nameless}
 use Rattle.guest_core.specs.Guests.{Guests, SomebodyHas, with_seat}
 use Rattle.guest_core.specs.Keys.{asks as asks_for}
 use Rattle.replay_core.specs.Steps.{Step, ran}
@@ -37,44 +36,44 @@ use Rattle.client_core.specs.declared.ask.Sight.TheVariants as insides
 use Rattle.client_core.specs.declared.client.Opened.{Opened}
 use Rattle.client_core.specs.Held.{waits_of}
 use Rattle.written_law.specs.Happens.{with_ran, all_happen}
-use Rattle.told_core.specs.State.{Peer, State, change, changed, counted, nobody, one_text, opened_at, opened_in, opening, told_to, waits_at, who_in, with_object, session_by}
+use Rattle.told_core.specs.State.{Peer, State, change, changed, counted, nobody, opened_at, opened_in, opening, told_to, waits_at, with_object, session_by}
 use Rattle.told_core.specs.Deeds.{Texts, Deed, Nothing, OnlyTold, Then}
-use Rattle.told_core.specs.Asked.{IsRefused, OpensBare, OpensAs, Opens, Ends, AllEnd, Submits, IsUnheld, GetsNumber, Sits, Calls, Repeats, RepeatsUnder, IsTurnedAway, AnswersCall, LetsGo, AnswersCancel, AnswersInside, LeavesObject, Goes, Quits, Acts, Heeds, keyed_text}
+use Rattle.told_core.specs.Asked.{IsRefused, OpensBare, OpensAs, Opens, Ends, AllEnd, Submits, GetsNumber, Sits, Calls, Repeats, RepeatsUnder, IsTurnedAway, AnswersCall, LetsGo, AnswersCancel, AnswersInside, Goes, Quits, Acts, Heeds, keyed_text}
 use Rattle.told_core.specs.Custody.{not_held_text}
 use Rattle.told_core.specs.Gone.{CallsFor, SeatsOne, Frees}
 use Rattle.told_core.specs.Inside.{Sees, IsWhy, state_by, form_at, object_in}
-use Rattle.told_core.proofs.Doing.{ends_keeps, all_end_keeps, follows_keeps}
-use Rattle.said_law.specs.Said.{Account, AllWent, SaysNoReply, IsTrue, Says}
+use Rattle.told_core.proofs.Doing.{ends_keeps, all_end_keeps}
+use Rattle.said_law.specs.Said.{Account, SaysNoReply}
 use Rattle.said_law.proofs.Plain.{refusal_plain, opened_plain, accepted_plain, withdrawn_plain, cancelled_plain, bye_plain, waiting_plain, gone_plain, not_held_plain, why_plain, state_plain, who_plain, list_plain}
-use Rattle.said_law.proofs.Going.{ran_more, all_alike, told_alike, no_account, both, at_one, at_own, true_before, true_behind, every_map, every_both}
-use Rattle.said_law.proofs.Doing.{AreTrue, to_true}
+use Rattle.said_law.proofs.Going.{ran_more, all_alike, told_alike, no_account, both, at_one, at_own, every_map, every_both}
+use Rattle.said_law.proofs.Doing.{to_true}
 use Rattle.asker_law.specs.Awaits.{IsIn}
 use Rattle.asker_law.proofs.Ends.{true_false}
-use Rattle.asker_law.proofs.Lists.{calls_of, change_at, changed_was, has_peer, set_at}
-use Rattle.asked_law.specs.Asked.{AreAsked, ClientHas, IsAskedOf, IsHere}
-use Rattle.asked_law.specs.Turns.{AllAsked, AllWentAsked}
-use Rattle.asked_law.proofs.Clients.{has_some}
+use Rattle.asker_law.proofs.Lists.{change_at, changed_was, has_peer, set_at}
+use Rattle.asked_law.specs.Asked.{AreAsked, ClientHas, IsHere}
+use Rattle.asked_law.specs.Turns.{AllAsked, AllWentAsked, AreOwn, IsOwn}
 use Rattle.asked_law.proofs.Coming.{has_come, has_left, has_number}
-use Rattle.asked_law.proofs.Fitting.{NoneAt, all_ends_asked, clears, come_asked, ends_asked, joins_asked, left_asked, opens_asked, same_asked, scene_asked}
-use Rattle.asked_law.proofs.Going.{all_went, went_none, went_one, went_quiet, went_then}
-use Rattle.asked_law.proofs.Known.{HasLetGo, HasMade, has_let_go, has_made, here_alike}
+use Rattle.asked_law.proofs.Fitting.{all_ends_asked, clears, come_asked, ends_asked, joins_asked, left_asked, opens_asked, same_asked, scene_asked}
+use Rattle.asked_law.proofs.Going.{went_none, went_one, went_quiet, went_then}
+use Rattle.asked_law.proofs.Owning.{own_before, own_behind}
+use Rattle.asked_law.proofs.Known.{HasMade, has_let_go, has_made, here_alike}
 
 -- What is done: what happened, that what is told is true of it, and whose calls wait then.
 pub record Done (old : State) (said added : Texts) (new : State) : Type 0 where
   pub account : Account
   pub went : AllWentAsked old.objects added account new.objects
-  pub true_all : AreTrue old account said
+  pub own_all : AreOwn old account said
   pub asked : AllAsked new.objects new.peers
 
 abbrev pub DoneBy : Deed → Type 0
 DoneBy deed = (old new : State) (said added : Texts) → AllAsked old.objects old.peers → deed old said added new → Done old said added new
 
 -- nothing happens, and what is told is true
-pub done_still : (old new : State) (said shown added : Texts) → said ≡ shown → added ≡ [] → new.objects ≡ old.objects → AreTrue old no_account shown → AllAsked new.objects new.peers → Done old said added new
+pub done_still : (old new : State) (said shown added : Texts) → said ≡ shown → added ≡ [] → new.objects ≡ old.objects → AreOwn old no_account shown → AllAsked new.objects new.peers → Done old said added new
 done_still old new said shown added told none same all a = record {
   account = no_account;
   went = subst (λ (x : Texts). AllWentAsked old.objects x no_account new.objects) (sym none) (subst (λ (l : List Scene). AllWentAsked old.objects [] no_account l) (sym same) (went_none old.objects));
-  true_all = subst (λ (s : Texts). AreTrue old no_account s) (sym told) all;
+  own_all = subst (λ (s : Texts). AreOwn old no_account s) (sym told) all;
   asked = a;
 }
 
@@ -82,10 +81,10 @@ pub done_nothing : DoneBy Nothing
 done_nothing old new said added a n =
     let objects = ap (λ (s : State). s.objects) n.left in done_still old new said [] added n.told n.lines objects tt (same_asked old new objects (ap (λ (s : State). s.peers) n.left) a)
 
-done_told : (place : ℕ) (text : List ℕ) (old new : State) (said added : Texts) → AllAsked old.objects old.peers → IsTrue old.objects no_account text → OnlyTold place text old said added new → Done old said added new
+done_told : (place : ℕ) (text : List ℕ) (old new : State) (said added : Texts) → AllAsked old.objects old.peers → IsOwn old.objects no_account text → OnlyTold place text old said added new → Done old said added new
 done_told place text old new said added a is n =
     let objects = ap (λ (s : State). s.objects) n.left in
-    done_still old new said (told_to old.peers place text) added n.told n.lines objects (to_true (IsTrue old.objects no_account) old.peers place text is)
+    done_still old new said (told_to old.peers place text) added n.told n.lines objects (to_true (IsOwn old.objects no_account) old.peers place text is)
     (same_asked old new objects (ap (λ (s : State). s.peers) n.left) a)
 
 pub done_only : (place : ℕ) (text : List ℕ) → SaysNoReply text → DoneBy (OnlyTold place text)
@@ -99,11 +98,11 @@ pub done_two : (old mid new : State) (one two added further : Texts) → Done ol
 done_two old mid new one two added further a b = record {
   account = both a.account b.account;
   went = went_then old.objects mid.objects new.objects added further a.account b.account a.went b.went;
-  true_all = every_both (λ (s : ℕ × List ℕ). IsTrue old.objects (both a.account b.account) s.1) one two
-      (every_map (λ (s : ℕ × List ℕ). IsTrue old.objects a.account s.1) (λ (s : ℕ × List ℕ). IsTrue old.objects (both a.account b.account) s.1) one
-      (λ s is. true_before old.objects a.account b.account s.1 is) a.true_all)
-      (every_map (λ (s : ℕ × List ℕ). IsTrue mid.objects b.account s.1) (λ (s : ℕ × List ℕ). IsTrue old.objects (both a.account b.account) s.1) two
-      (λ s is. true_behind old.objects mid.objects added a.account b.account s.1 (all_went old.objects added a.account mid.objects a.went) is) b.true_all);
+  own_all = every_both (λ (s : ℕ × List ℕ). IsOwn old.objects (both a.account b.account) s.1) one two
+      (every_map (λ (s : ℕ × List ℕ). IsOwn old.objects a.account s.1) (λ (s : ℕ × List ℕ). IsOwn old.objects (both a.account b.account) s.1) one
+      (λ s is. own_before old.objects a.account b.account s.1 is) a.own_all)
+      (every_map (λ (s : ℕ × List ℕ). IsOwn mid.objects b.account s.1) (λ (s : ℕ × List ℕ). IsOwn old.objects (both a.account b.account) s.1) two
+      (λ s is. own_behind old.objects mid.objects added a.account b.account s.1 a.went is) b.own_all);
   asked = b.asked;
 }
 
@@ -126,7 +125,7 @@ done_goes old new said added at before after lines there goes own is same none a
   account = at_one at (all_happen goes []);
   went = subst (λ (x : Texts). AllWentAsked old.objects x (at_one at (all_happen goes [])) new.objects) (sym is)
       (subst (λ (l : List Scene). AllWentAsked old.objects ((at, lines) ∷ []) (at_one at (all_happen goes [])) l) (sym same) (went_one old.objects at before after lines there goes own));
-  true_all = every_map (λ (s : ℕ × List ℕ). SaysNoReply s.1) (λ (s : ℕ × List ℕ). IsTrue old.objects (at_one at (all_happen goes [])) s.1) said (λ s x. inr x) none;
+  own_all = every_map (λ (s : ℕ × List ℕ). SaysNoReply s.1) (λ (s : ℕ × List ℕ). IsOwn old.objects (at_one at (all_happen goes [])) s.1) said (λ s x. inr x) none;
   asked = a;
 }
 
@@ -135,7 +134,7 @@ done_quiet : (old new : State) (at : ℕ) (before after : Scene) → slice_get o
 done_quiet old new at before after there goes own same a = record {
   account = at_one at (all_happen goes []);
   went = subst (λ (l : List Scene). AllWentAsked old.objects [] (at_one at (all_happen goes [])) l) (sym same) (went_quiet old.objects at before after there goes own);
-  true_all = tt;
+  own_all = tt;
   asked = a;
 }
 
@@ -144,8 +143,8 @@ done_before : (old new : State) (first said added : Texts) → IsPlain first →
 done_before old new first said added none d = record {
   account = d.account;
   went = d.went;
-  true_all = every_both (λ (s : ℕ × List ℕ). IsTrue old.objects d.account s.1) first said
-      (every_map (λ (s : ℕ × List ℕ). SaysNoReply s.1) (λ (s : ℕ × List ℕ). IsTrue old.objects d.account s.1) first (λ s is. inr is) none) d.true_all;
+  own_all = every_both (λ (s : ℕ × List ℕ). IsOwn old.objects d.account s.1) first said
+      (every_map (λ (s : ℕ × List ℕ). SaysNoReply s.1) (λ (s : ℕ × List ℕ). IsOwn old.objects d.account s.1) first (λ s is. inr is) none) d.own_all;
   asked = d.asked;
 }
 
@@ -155,7 +154,7 @@ opens_bare place name old new said added a is =
     let now : Opened = record { object = is.at; session = 0; is_named = false; waits = false; calls = 0; told = 0 } in
     let objects = ap (λ (s : State). s.objects) is.left in
     done_still old new said (told_to old.peers place (opened_text name None)) added is.told is.lines objects
-    (to_true (IsTrue old.objects no_account) old.peers place (opened_text name None) (inr (opened_plain name None)))
+    (to_true (IsOwn old.objects no_account) old.peers place (opened_text name None) (inr (opened_plain name None)))
     (same_asked (changed old place (opening now)) new objects (ap (λ (s : State). s.peers) is.left)
     (opens_asked old.objects old.peers place now is.object is.there (λ some. absurd (some refl)) (λ q u by some same session. absurd (some refl))
     (λ c wait same nameless. absurd (void_is (sym (a.asked is.at is.object is.there).seated.nobody ∙ nameless))) a))
@@ -252,9 +251,9 @@ runs_done old start mid new at session operation arguments before after taken th
     let same : new.objects ≡ slice_set old.objects at after = objects ∙ (all_end_keeps at after items start mid ended [] ends).0 ∙ begins in
     let alike = all_alike before after (all_lines (object_of before.hall.object) items) goes in
     let stands : slice_get start.objects at ≡ Some after = ap (λ (l : List Scene). slice_get l at) begins ∙ set_at old.objects at after before there in
-    let all : Every (λ (s : ℕ × List ℕ). IsTrue old.objects account s.1) ended =
-    all_said (IsTrue old.objects account) at after items start mid ended []
-    (every_map (Among (with_ran items [])) (λ (r : Ran). IsTrue old.objects account (ended_text (told_of after r.call.number) r.reply)) items
+    let all : Every (λ (s : ℕ × List ℕ). IsOwn old.objects account s.1) ended =
+    all_said (IsOwn old.objects account) at after items start mid ended []
+    (every_map (Among (with_ran items [])) (λ (r : Ran). IsOwn old.objects account (ended_text (told_of after r.call.number) r.reply)) items
     (λ r among. inl (
       told_of after r.call.number,
       r.reply,
@@ -277,9 +276,9 @@ runs_done old start mid new at session operation arguments before after taken th
       went = subst (λ (x : Texts). AllWentAsked old.objects x account new.objects) (sym lines)
           (subst (λ (l : List Scene). AllWentAsked old.objects ((at, all_lines (object_of before.hall.object) items) ∷ []) account l) (sym same)
           (went_one old.objects at before after (all_lines (object_of before.hall.object) items) there goes made.own));
-      true_all = subst (λ (s : Texts). AreTrue old account s) (sym told)
-          (every_both (λ (s : ℕ × List ℕ). IsTrue old.objects account s.1) first ended
-          (every_map (λ (s : ℕ × List ℕ). SaysNoReply s.1) (λ (s : ℕ × List ℕ). IsTrue old.objects account s.1) first (λ s x. inr x) none) all);
+      own_all = subst (λ (s : Texts). AreOwn old account s) (sym told)
+          (every_both (λ (s : ℕ × List ℕ). IsOwn old.objects account s.1) first ended
+          (every_map (λ (s : ℕ × List ℕ). SaysNoReply s.1) (λ (s : ℕ × List ℕ). IsOwn old.objects account s.1) first (λ s x. inr x) none) all);
       asked = same_asked mid new objects peers
           (all_ends_asked at after items start mid ended [] ends
           (λ r is s c at_s wait. made.others r is c (subst (λ (y : Scene). IsIn c y.hall.waiting) (same_Some s after (sym at_s ∙ stands)) wait)) a);
@@ -362,7 +361,7 @@ repeat_of object (Some s) count key operation arguments told reply says = (s, sa
 repeat_of object None count key operation arguments told reply says = absurd says
 
 again_true : (old : State) (at : ℕ) (object : Scene) (session : Option ℕ) (count key : ℕ) (operation : Option ℕ) (arguments : List Datum) (keyed : Keyed) → slice_get old.objects at ≡ Some object →
-    SaysOf object session count key operation arguments keyed → (keyed ≡ keys.New → ⊥) → IsTrue old.objects no_account (keyed_text keyed)
+    SaysOf object session count key operation arguments keyed → (keyed ≡ keys.New → ⊥) → IsOwn old.objects no_account (keyed_text keyed)
 again_true old at object session count key operation arguments keys.New there says new = absurd (new refl)
 again_true old at object session count key operation arguments (keys.Repeated told reply) there says new =
     let r = repeat_of object session count key operation arguments told reply says in
@@ -372,18 +371,21 @@ again_true old at object session count key operation arguments (keys.Repeated to
       inr (
         refl,
         record {
-          object = at;
-          scene = object;
-          there = there;
-          now = object;
-          lines = [];
-          since = rests;
-          later = [];
-          moment = refl;
-          session = r.0;
-          key = key;
-          asked = asks_for (operation_or operation) arguments;
-          repeats = r.1;
+          is = record {
+            object = at;
+            scene = object;
+            there = there;
+            now = object;
+            lines = [];
+            since = rests;
+            later = [];
+            moment = refl;
+            session = r.0;
+            key = key;
+            asked = asks_for (operation_or operation) arguments;
+            repeats = r.1;
+          };
+          own = tt;
         },
       ),
     )

@@ -1,12 +1,10 @@
 -- Who has opened what, while objects and places go on.
-use Rattle.std.proofs.Common.{◌≡◌, ◌≢◌, ◌⊎◌, inl, inr, ◌∙◌, ap, sym, subst, refl, ℕ, List, [], ◌∷◌, ◌++◌}
-use Rattle.std.specs.Prelude.{Bool, true, false, Option, Some, None, slice_get, slice_set}
+use Rattle.std.proofs.Common.{◌≡◌, ◌≢◌, ◌⊎◌, inl, inr, ◌∙◌, ap, sym, subst, refl, ℕ, List, [], ◌∷◌}
+use Rattle.std.specs.Prelude.{true, false, Some, None, slice_get, slice_set}
 use Rattle.std.proofs.lemmas.Option.{same_Some}
 use Rattle.trace_core.specs.Events.{Called}
 use Rattle.live_core.specs.declared.call.Ran.{Ran}
-use Rattle.live_core.specs.Hall.{Every}
-use Rattle.guest_core.specs.declared.seats.Seat.{Seat}
-use Rattle.guest_core.specs.declared.seats.Seat.TheVariants.{Void, Free, Nameless, Named, Retired}
+use Rattle.guest_core.specs.declared.seats.Seat.TheVariants.{Nameless}
 use Rattle.guest_core.specs.Guests.{Guests}
 use Rattle.hosted_core.specs.Scene.{Scene, with_guests, told_of}
 use Rattle.session_text.specs.Lines.{ended_text}
@@ -150,7 +148,7 @@ opens_asked objects peers place now s there here alone waits a = record {
         let x_is : x ≡ s = same_Some x s (sym at ∙ ap (λ (y : Opened). slice_get objects y.object) own.1 ∙ there) in
         ap (λ (y : Opened). y.waits) own.1
         ∙ waits c (subst (λ (y : Scene). IsIn c y.hall.waiting) x_is wait) (same ∙ ap (λ (y : Opened). y.session) own.1)
-            (subst (λ (y : Opened). slice_get s.guests.seats y.session ≡ Some Nameless) own.1 (subst (λ (y : Scene). slice_get y.guests.seats o.session ≡ Some Nameless) x_is nameless))
+        (subst (λ (y : Opened). slice_get s.guests.seats y.session ≡ Some Nameless) own.1 (subst (λ (y : Scene). slice_get y.guests.seats o.session ≡ Some Nameless) x_is nameless))
     | inr other ↦ a.waits q o x c other.1 at wait same nameless
   ];
 }

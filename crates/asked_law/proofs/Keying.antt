@@ -9,7 +9,6 @@ use Rattle.front_core.specs.Front.{Opening}
 use Rattle.guest_core.specs.declared.guest.Guest.{Guest}
 use Rattle.guest_core.specs.declared.kept.Kept.{Kept}
 use Rattle.guest_core.specs.Guests.{Guests, IsSound}
-use Rattle.guest_core.specs.Keys.{HasKey}
 use Rattle.guest_core.proofs.Sound.{sound_renewed}
 use Rattle.replay_core.specs.Steps.{Step}
 use Rattle.hosted_core.specs.Fronts.{client_of}
@@ -37,12 +36,11 @@ use Rattle.kept_law.specs.Replied.{AreTold, HaveOneHistory}
 use Rattle.kept_law.proofs.Going.{crash_leaves_answered}
 use Rattle.kept_law.proofs.Replying.{stands_in}
 use Rattle.asker_law.proofs.Lists.{set_at, set_other}
-use Rattle.asked_law.specs.Asked.{AreAsked, HasRunUnder}
-use Rattle.asked_law.specs.Keys.{CrashLeavesAsked, HasAskedKeys, IsItsCall, KeysAreAsked, under}
+use Rattle.asked_law.specs.Keys.{CrashLeavesKeys, IsItsCall, KeysAreAsked, under}
 use Rattle.asked_law.specs.Tells.{WasTold}
-use Rattle.asked_law.specs.Turns.{AllWentAsked, AreTurns, HaveAsked, WentIn}
+use Rattle.asked_law.specs.Turns.{AllWentAsked, AreTurns, WentIn}
 use Rattle.asked_law.proofs.Tracing.{AllUnder, Each, all_told, each_map, each_told, steps_each}
-use Rattle.asked_law.proofs.Turning.{turns_have_asked, turns_told}
+use Rattle.asked_law.proofs.Turning.{turns_have_asked}
 
 -- one turn
 record Keeps (P : KeyedCall → Reply → Type 0) (old_table new : Table) (j : ℕ) (f : Opening) (asked : Asked) (added : Texts) (account : Account) (old : Scene) (told : List KeyEvent) : Type 0 where
@@ -118,16 +116,16 @@ module _ (P : KeyedCall → Reply → Type 0) (old new : Table) (j : ℕ) (f : O
   }
 
 -- in all turns what ran is such
-abbrev AllIn : (KeyedCall → Reply → Type 0) → ℕ → Table → List Account → Type 0
+abbrev pub AllIn : (KeyedCall → Reply → Type 0) → ℕ → Table → List Account → Type 0
 AllIn P j first accounts =
     (ts : List Turn) (earlier : List Account) (a : Account) (behind : List Account) (mid : Table) (s : Scene) → AreTold first ts earlier mid → accounts ≡ earlier ++ a ∷ behind →
     slice_get mid.objects.items j ≡ Some s → AllUnder P s (a j)
 
-record HasEach (P : KeyedCall → Reply → Type 0) (first last : Table) (j : ℕ) (f : Opening) (turns : List Turn) (accounts : List Account) (told : List KeyEvent) : Type 0 where
-  at : HasKeysAt first last j f turns accounts told
-  each : Each P at.events
+pub record HasEach (P : KeyedCall → Reply → Type 0) (first last : Table) (j : ℕ) (f : Opening) (turns : List Turn) (accounts : List Account) (told : List KeyEvent) : Type 0 where
+  pub at : HasKeysAt first last j f turns accounts told
+  pub each : Each P at.events
 
-turns_each : (P : KeyedCall → Reply → Type 0) (first last : Table) (turns : List Turn) (accounts : List Account) (j : ℕ) (f : Opening) (old : Scene) (told : List KeyEvent) → AreTurns first turns accounts last → slice_get first.objects.items j ≡ Some old →
+pub turns_each : (P : KeyedCall → Reply → Type 0) (first last : Table) (turns : List Turn) (accounts : List Account) (j : ℕ) (f : Opening) (old : Scene) (told : List KeyEvent) → AreTurns first turns accounts last → slice_get first.objects.items j ≡ Some old →
     HaveKeys f told old.guests → AllIn P j first accounts → Each P told → HasEach P first last j f turns accounts told
 turns_each P first last [] [] j f old told all there keys under_all each = record {
   at = record { scene = old; there = ap (λ (t : Table). slice_get t.objects.items j) all ∙ there; events = told; names = (all, refl); keys = keys };
@@ -135,7 +133,7 @@ turns_each P first last [] [] j f old told all there keys under_all each = recor
 }
 turns_each P first last [] (a ∷ accounts) j f old told all there keys under_all each = absurd all
 turns_each P first last (t ∷ turns) [] j f old told all there keys under_all each = absurd all
-turns_each P first last (t ∷ turns) (a ∷ accounts) j f old told (mid, gives, says, went_so, all) there keys under_all each =
+turns_each P first last (t ∷ turns) (a ∷ accounts) j f old told (mid, gives, says, went_so, own, all) there keys under_all each =
     let one = keeps P first mid j f old told there keys each t.asked t.said t.added a gives (under_all [] [] a accounts first old refl refl there) went_so in
     let more = turns_each P mid last turns accounts j f one.scene one.events all one.there one.keys
     (λ ts earlier b behind m s led cut is. under_all (t ∷ ts) (a ∷ earlier) b behind m s (mid, gives, says, led) (ap (λ (l : List Account). a ∷ l) cut) is) one.each in
@@ -150,49 +148,53 @@ turns_each P first last (t ∷ turns) (a ∷ accounts) j f old told (mid, gives,
       each = more.each;
     }
 
-pub keys_are_asked : KeysAreAsked
-keys_are_asked first last turns have j f old told there keys = record {
-  at = all.at;
-  each = λ k reply was is. each_told Is all.at.events k reply all.each was is;
-  remembered = λ place g key n c reply at_place has is. by g key c (all.at.keys.kept place g key n c at_place has) reply is;
-}
-  where
-    h : HaveOneHistory first last turns
-    h = have.history
+-- it ran in one of these turns as it was asked, or it was told of before them
+abbrev pub RanOrTold : (first last : Table) (turns : List Turn) → HaveOneHistory first last turns → ℕ → List KeyEvent → KeyedCall → Reply → Type 0
+RanOrTold first last turns h j told k reply = IsItsCall first last turns h j k reply ⊎ WasTold told k
 
-    Is : KeyedCall → Reply → Type 0
-    Is k reply = IsItsCall first last turns h j k reply ⊎ WasTold told k
+pub ran_under : (first last : Table) (turns : List Turn) (h : HaveOneHistory first last turns) (j : ℕ) (told : List KeyEvent) → AllIn (RanOrTold first last turns h j told) j first h.accounts
+ran_under first last turns h j told ts earlier a behind mid s led cut at_place k reply run = inl (record {
+  before = ts;
+  sooner = earlier;
+  account = a;
+  later = behind;
+  cut = cut;
+  mid = mid;
+  led = led;
+  scene = s;
+  there = at_place;
+  run = run;
+  stands = λ o begun before_it l. stands_in first last turns h j earlier a behind cut run.later (run.before ++ all_happen run.since []) run.call reply run.ran_so o begun before_it l;
+})
 
-    ran_under : (ts : List Turn) (earlier : List Account) (a : Account) (behind : List Account) (mid : Table) (s : Scene) → AreTold first ts earlier mid → h.accounts ≡ earlier ++ a ∷ behind →
-        slice_get mid.objects.items j ≡ Some s → (k : KeyedCall) (reply : Reply) → HasRunUnder s (a j) k reply → Is k reply
-    ran_under ts earlier a behind mid s led cut at_place k reply run = inl (record {
-      before = ts;
-      sooner = earlier;
-      account = a;
-      later = behind;
-      cut = cut;
-      mid = mid;
-      led = led;
-      scene = s;
-      there = at_place;
-      run = run;
-      stands = λ o begun before_it l. stands_in first last turns h j earlier a behind cut run.later (run.before ++ all_happen run.since []) run.call reply run.ran_so o begun before_it l;
-    })
+pub told_before : (first last : Table) (turns : List Turn) (h : HaveOneHistory first last turns) (j : ℕ) (told : List KeyEvent) → Each (RanOrTold first last turns h j told) told
+told_before first last turns h j told =
+    each_map (λ (k : KeyedCall) (reply : Reply). WasTold told k) (RanOrTold first last turns h j told) told (λ k reply before. inr before) (all_told told)
 
-    all : HasEach Is first last j f turns h.accounts told
-    all = turns_each Is first last turns h.accounts j f old told have.turns_are there keys ran_under
-        (each_map (λ (k : KeyedCall) (reply : Reply). WasTold told k) Is told (λ k reply before. inr before) (all_told told))
-
-    by : (g : Guest) (key : ℕ) (c : Kept) → IsRemembered all.at.events f g.name key c → (reply : Reply) → c.reply ≡ Some reply →
-        IsItsCall first last turns h j (under g key c) reply ⊎ (WasTold told (under g key c) ⊎ IsKeptLine f.clients f.kept g.name key c)
-    by g key c (inl is) reply reply_is = elim (each_told Is all.at.events (under g key c) reply all.each (record { newer = is.newer; older = is.older; cut = is.told_is }) reply_is) [
+-- a call that is remembered
+pub remembered_so : (first last : Table) (turns : List Turn) (h : HaveOneHistory first last turns) (j : ℕ) (told events : List KeyEvent) (f : Opening) (g : Guest) (key : ℕ) (c : Kept) (reply : Reply) →
+    Each (RanOrTold first last turns h j told) events → IsRemembered events f g.name key c → c.reply ≡ Some reply →
+    IsItsCall first last turns h j (under g key c) reply ⊎ (WasTold told (under g key c) ⊎ IsKeptLine f.clients f.kept g.name key c)
+remembered_so first last turns h j told events f g key c reply each (inl is) reply_is =
+    elim (each_told (RanOrTold first last turns h j told) events (under g key c) reply each (record { newer = is.newer; older = is.older; cut = is.told_is }) reply_is) [
       | inl own ↦ inl own
       | inr before ↦ inr (inl before)
     ]
-    by g key c (inr line) reply reply_is = inr (inr line)
+remembered_so first last turns h j told events f g key c reply each (inr line) reply_is = inr (inr line)
 
-pub crash_leaves_asked : CrashLeavesAsked
-crash_leaves_asked first limits seen_so found waits honest between a =
+pub keys_are_asked : KeysAreAsked
+keys_are_asked first last turns have j f old told there keys =
+    let h = have.history in
+    let all = turns_each (RanOrTold first last turns h j told) first last turns h.accounts j f old told have.turns_are there keys (ran_under first last turns h j told) (told_before first last turns h j told) in
+    record {
+      at = all.at;
+      each = λ k reply was is. each_told (RanOrTold first last turns h j told) all.at.events k reply all.each was is;
+      remembered = λ place g key n c reply at_place has is.
+          remembered_so first last turns h j told all.at.events f g key c reply all.each (all.at.keys.kept place g key n c at_place has) is;
+    }
+
+pub crash_leaves_keys : CrashLeavesKeys
+crash_leaves_keys first limits seen_so found waits honest between a =
     let left : LeavesAnswered first limits seen_so found = crash_leaves_answered first limits seen_so found waits honest between in
     let s = left.left.survives in
     record { answered = left; asked = turns_have_asked first s.last (s.answered ++ s.later) s.runs a }

@@ -1,41 +1,31 @@
 -- What happens to an object, and whose calls wait and run.
-use Rattle.std.proofs.Common.{◌≡◌, ◌≢◌, ◌⊎◌, inl, inr, ◌∙◌, ap, sym, subst, refl, arith, ℕ, List, [], ◌∷◌, ◌++◌, length}
-use Rattle.std.specs.Prelude.{Bool, true, false, Option, Some, None, Result, Ok, Err, map, slice_get, slice_set}
+use Rattle.std.proofs.Common.{◌≡◌, ◌≢◌, ◌⊎◌, inl, inr, ◌∙◌, ap, sym, subst, refl, ℕ, List, [], ◌∷◌, ◌++◌}
+use Rattle.std.specs.Prelude.{Some, slice_get, slice_set}
 use Rattle.std.proofs.lemmas.Bool.{cases_eq}
 use Rattle.value_core.specs.declared.datum.Datum.{Datum}
 use Rattle.decl_core.specs.ObjectForm.{ObjectForm}
 use Rattle.trace_core.specs.Events.{Called}
-use Rattle.past_core.specs.declared.past.PastEvent.{PastEvent}
 use Rattle.live_core.specs.declared.call.Ran.{Ran}
 use Rattle.live_core.specs.declared.live.Taken.{Taken}
 use Rattle.live_core.specs.Answers.{asked}
-use Rattle.live_core.specs.Epochs.{numbered_from, told_behind}
 use Rattle.live_core.specs.Hall.{Every, Hall, Told, IsHeld}
 use Rattle.live_core.specs.Settles.{Settles, with_all}
 use Rattle.live_core.specs.Settles.Settles.{rests, runs}
 use Rattle.guest_core.specs.declared.guest.Guest.{Guest}
-use Rattle.guest_core.specs.declared.guests.Entered.{Entered}
-use Rattle.guest_core.specs.declared.guests.EnterFault.{EnterFault}
-use Rattle.guest_core.specs.declared.guests.EnterFault.TheVariants.{InUse, Full, Memory}
-use Rattle.guest_core.specs.declared.kept.Asked.{Asked}
 use Rattle.guest_core.specs.declared.seats.Seat.{Seat}
-use Rattle.guest_core.specs.declared.seats.Seat.TheVariants.{Void, Free, Nameless, Named, Retired}
-use Rattle.guest_core.specs.Entering.{Enters, Leaves}
-use Rattle.guest_core.specs.Guests.{Guests, IsNamed, IsSound, HasNoName, SomebodyHas, guest_of, with_away, with_guest, with_keys, with_seat}
-use Rattle.guest_core.specs.Keys.{Keys, asks}
-use Rattle.guest_core.specs.Seats.{IsLeastFree, renewed}
+use Rattle.guest_core.specs.Guests.{Guests, IsNamed, IsSound, SomebodyHas, with_keys}
+use Rattle.guest_core.specs.Keys.{Keys}
 use Rattle.guest_core.specs.Steps.{AtName}
-use Rattle.guest_core.proofs.Items.{get_here, get_last, get_set, get_there, one_item}
+use Rattle.guest_core.proofs.Items.{get_here, get_set, get_there, one_item}
 use Rattle.hosted_core.specs.Calls.{AreRemembered, Does, IsAsked as AsksOne, LetsGo, seat_of}
-use Rattle.hosted_core.specs.Scene.{Scene, with_guests}
-use Rattle.hosted_core.specs.Steps.{IsFollowed}
+use Rattle.hosted_core.specs.Scene.{Scene}
 use Rattle.written_law.specs.Stands.{AreSeated}
-use Rattle.written_law.proofs.Seating.{seated_enters, seated_keys, seated_leaves, seated_number, seated_remembered, seated_renewed}
+use Rattle.written_law.proofs.Seating.{seated_keys, seated_remembered}
 use Rattle.year_law.proofs.Tables.{whose}
 use Rattle.asker_law.specs.Awaits.{IsIn}
-use Rattle.asker_law.proofs.Lists.{Apart, apart_more, between_in, calls_of, every_in, in_behind, in_front, left_out, settled_out}
+use Rattle.asker_law.proofs.Lists.{Apart, apart_more, between_in, calls_of, every_in, in_behind, settled_out}
 use Rattle.asked_law.specs.Asked.{AreTheirOwn, ClientHas, HasAskedFor, IsAskedOf, IsHere, IsItsOwn, IsKnown}
-use Rattle.asked_law.proofs.Clients.{free_is, free_nameless, has_guest, has_other, has_seat, has_set, has_small, has_taken, nameless_is, one_client, session_at}
+use Rattle.asked_law.proofs.Clients.{has_set, has_small, nameless_is, one_client, session_at}
 
 pub all_in : {X : Type 0} (P : X → Type 0) (xs : List X) → ((x : X) → IsIn x xs → P x) → Every P xs
 all_in P [] f = tt

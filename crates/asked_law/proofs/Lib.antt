@@ -5,5 +5,7 @@ pub mod Fitting
 pub mod Going
 pub mod Keying
 pub mod Known
+pub mod Owning
+pub mod Repeating
 pub mod Tracing
 pub mod Turning

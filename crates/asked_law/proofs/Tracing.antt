@@ -2,7 +2,6 @@
 use Rattle.std.proofs.Common.{◌≡◌, ◌⊎◌, inl, inr, ◌∙◌, ap, sym, subst, refl, ℕ, List, [], ◌∷◌, ◌++◌, Bool, true, false, Option, Some, None, Result, Ok, Err, append_assoc}
 use Rattle.std.specs.Prelude.{IfSome, slice_get, if◌then◌else◌}
 use Rattle.apply_core.specs.declared.reply.Reply.{Reply}
-use Rattle.trace_core.specs.Events.{Called}
 use Rattle.live_core.specs.declared.call.Ran.{Ran}
 use Rattle.guest_core.specs.declared.guest.Guest.{Guest}
 use Rattle.guest_core.specs.declared.guests.Entered.{Entered}
@@ -20,7 +19,7 @@ use Rattle.written_law.specs.Happens.{with_ran as all_ran, happens, all_happen}
 use Rattle.year_law.specs.Keys.{KeyEvent, KeyedCall, epoch_began, name_came, call_ended, client_at, client_of}
 use Rattle.keyed_law.specs.Keyed.{ended_as, ended_by, with_ran, with_came, with_step, with_steps}
 use Rattle.said_law.proofs.Going.{ran_more, all_more, TellsAlike, all_alike, told_alike}
-use Rattle.asked_law.specs.Asked.{AreAsked, AreTheirOwn, HasRunUnder, IsAsked, IsItsOwn}
+use Rattle.asked_law.specs.Asked.{AreAsked, AreTheirOwn, HasRunUnder, IsAsked}
 use Rattle.asked_law.specs.Tells.{StepsTellAsked, WasTold}
 
 -- each call of which it is told that it ended with a reply is such
@@ -98,7 +97,7 @@ module _ (P : KeyedCall → Reply → Type 0) where
   abbrev pub AllUnder : Scene → List Step → Type 0
   AllUnder first steps = (k : KeyedCall) (reply : Reply) → HasRunUnder first steps k reply → P k reply
 
-  under_less : (first : Scene) (more steps whole : List Step) → whole ≡ more ++ steps → AllUnder first whole → AllUnder first steps
+  pub under_less : (first : Scene) (more steps whole : List Step) → whole ≡ more ++ steps → AllUnder first whole → AllUnder first steps
   under_less first more steps whole cut all k reply is = all k reply (subst (λ (l : List Step). HasRunUnder first l k reply) (sym cut) (run_more first more steps k reply is))
 
   as_ended : (g : Guest) (asked : Option Call) (number : ℕ) (reply : Option Reply) (told : List KeyEvent) →
@@ -132,9 +131,9 @@ module _ (P : KeyedCall → Reply → Type 0) where
             lines = lines;
             since = since;
             place = at.0;
-            guest = own_call.1;
-            by = own_call.2;
-            named = own_call.3;
+            guest = own_call.1.0;
+            by = own_call.1.1;
+            named = own_call.1.2;
             later = all_ran all [];
             before = before;
             ran_so = ran_more all (ran r.call r.reply ∷ (before ++ all_happen since []));

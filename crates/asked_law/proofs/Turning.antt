@@ -1,12 +1,11 @@
 -- What each turn makes of objects and places.
-use Rattle.std.proofs.Common.{◌≡◌, ◌≢◌, ◌⊎◌, ◌∙◌, ap, sym, subst, refl, ℕ, zero, suc, inl, inr, List, [], ◌∷◌, ◌++◌, Bool, true, false, Option, Some, None, Result, Ok, Err}
+use Rattle.std.proofs.Common.{◌≡◌, ◌≢◌, ◌⊎◌, ◌∙◌, ap, sym, subst, refl, ℕ, zero, suc, inl, inr, List, [], ◌∷◌, ◌++◌, Bool, true, false, Some, None, Result, Ok, Err}
 use Rattle.std.specs.Prelude.{length, slice_get, slice_set}
 use Rattle.std.specs.declared.alloc.AllocError.{AllocError}
 use Rattle.std.proofs.lemmas.Option.{same_Some}
 use Rattle.trace_core.specs.Events.{Called}
 use Rattle.ask_core.specs.declared.answer.SubmitFault.TheVariants as faults
 use Rattle.guest_core.specs.declared.seats.Seat.{Seat}
-use Rattle.guest_core.specs.declared.seats.Seat.TheVariants.{Nameless}
 use Rattle.hosted_core.specs.Scene.{Scene}
 use Rattle.session_text.specs.declared.line.Line.TheVariants as lines
 use Rattle.session_text.specs.declared.line.Refusal.TheVariants as refusals
@@ -21,15 +20,15 @@ use Rattle.post_core.specs.declared.served.Note.TheVariants as notes
 use Rattle.client_core.specs.declared.ask.Ask.{Ask}
 use Rattle.client_core.specs.declared.ask.Ask.TheVariants as asks
 use Rattle.client_core.specs.declared.client.Opened.{Opened}
-use Rattle.client_core.specs.Held.{waits_of, with_waits}
+use Rattle.client_core.specs.Held.{waits_of}
 use Rattle.told_core.specs.State.{Peer, State, change, changed, comer, holding, left_with, opened_at, opened_in, waiting, waits_at, with_object}
-use Rattle.told_core.specs.Deeds.{Texts, Deed, Nothing, OnlyTold, Then}
-use Rattle.told_core.specs.Asked.{AnswersCancel, Ends, Goes, LetsGo}
+use Rattle.told_core.specs.Deeds.{Texts, Deed, OnlyTold, Then}
+use Rattle.told_core.specs.Asked.{AnswersCancel, Ends, LetsGo}
 use Rattle.told_core.specs.Moves.{BeginsHeld}
 use Rattle.told_core.specs.Turns.HearsLine.{does, cancels, sees, puts_off, holds, refuses}
 use Rattle.told_core.specs.Turns.GoesOn.{rests, does as does_more}
 use Rattle.told_core.specs.Turns.EndsHeld.{all, quits, goes_on}
-use Rattle.told_core.specs.Turns.{HearsLine, HearsLast, HearsAt, TakesLine, GoesOn, EndsAsk, EndsHeld, NoneWaits, Withdraws, WithdrawsAt, Leaves, LeavesIf, Comes, IfHere, AllLeave, Notes, place_of}
+use Rattle.told_core.specs.Turns.{HearsLine, HearsLast, HearsAt, TakesLine, GoesOn, EndsAsk, EndsHeld, WithdrawsAt, Leaves, LeavesIf, Comes, IfHere, AllLeave, Notes, place_of}
 use Rattle.told_core.specs.Given as told
 use Rattle.told_core.specs.Gone.{Settles}
 use Rattle.told_core.specs.Gone.Settles.{rests as settled, goes_on as settles_on, calls as calls_one, seats as seats_two, frees as frees_one}
@@ -41,16 +40,16 @@ use Rattle.table_core.specs.Seen.{seen}
 use Rattle.table_core.specs.declared.table.Table.{Table}
 use Rattle.kept_law.specs.Replied.{AreTold, HaveOneHistory}
 use Rattle.kept_law.proofs.Living.{lives_on}
-use Rattle.asker_law.specs.Asker.{IsQuiet}
-use Rattle.asker_law.specs.Awaits.{IsIn, AllHeld}
+use Rattle.asker_law.specs.Awaits.{IsIn}
 use Rattle.asker_law.proofs.Ends.{with_waits_some}
 use Rattle.asker_law.proofs.Lists.{change_at, changed_was, every_in, has_peer, set_was}
-use Rattle.asked_law.specs.Asked.{IsAskedOf, IsKnown}
-use Rattle.asked_law.specs.Turns.{AllAsked, AllWentAsked, AreTurns, HaveAsked, NobodyHasAsked, TurnsHaveAsked, WentIn}
+use Rattle.asked_law.specs.Asked.{IsKnown}
+use Rattle.asked_law.specs.Turns.{AllAsked, AreOwn, AreTurns, NobodyHasAsked, TurnsHaveAsked, WentIn}
 use Rattle.asked_law.proofs.Coming.{has_begun}
-use Rattle.asked_law.proofs.Doing.{Done, DoneBy, IsIdleAt, calls_for, cancel, done_as, done_nothing, done_only, done_refused, done_still, done_then, done_two, frees, goes, heeds, idle_at, inside, lets_go, seats_one}
+use Rattle.asked_law.proofs.Doing.{Done, DoneBy, IsIdleAt, calls_for, cancel, done_as, done_nothing, done_only, done_still, done_then, done_two, frees, goes, heeds, idle_at, inside, lets_go, seats_one}
 use Rattle.asked_law.proofs.Fitting.{clears, keeps_opened, same_asked, scene_asked}
 use Rattle.asked_law.proofs.Going.{all_went}
+use Rattle.asked_law.proofs.Owning.{own_true}
 use Rattle.asked_law.proofs.Known.{HasLetGo, has_let_go}
 
 refused : (place : ℕ) (refusal : _) → DoneBy (OnlyTold place (line_text (lines.Refused refusal)))
@@ -313,23 +312,25 @@ record Turned (old : State) (asked : Asked) (said added : Texts) (new : State) :
   account : Account
   says : SaysIn old asked said added account new
   went : WentIn old asked added account new
+  own : AreOwn old account said
   now : AllAsked new.objects new.peers
 
 says_of : (old new : State) (said added : Texts) (d : Done old said added new) → Says old said added d.account new
-says_of old new said added d = record { went = all_went old.objects added d.account new.objects d.went; true_all = d.true_all }
+says_of old new said added d = record { went = all_went old.objects added d.account new.objects d.went; true_all = own_true old d.account said d.own_all }
 
 turned : (old new : State) (asked : Asked) (said added : Texts) → AllAsked old.objects old.peers → told.Gives old asked said added new → Turned old asked said added new
 turned old new (Heard who text end) said added a is =
     let d = if_here who (λ (place : ℕ). Then (HearsAt place text end) Settles) (λ place. done_then (HearsAt place text end) Settles (at place text end) settles) old new said added a is in
-    record { account = d.account; says = says_of old new said added d; went = d.went; now = d.asked }
+    record { account = d.account; says = says_of old new said added d; went = d.went; own = d.own_all; now = d.asked }
 turned old new (Noted note) said added a is =
     let d = done_then (Notes note) Settles (noted note) settles old new said added a is in
-    record { account = d.account; says = says_of old new said added d; went = d.went; now = d.asked }
-turned old new (Changes journal text true) said added a is = record { account = no_account; says = (is.0, λ j. refl); went = tt; now = begins old new journal text a is.2 }
+    record { account = d.account; says = says_of old new said added d; went = d.went; own = d.own_all; now = d.asked }
+turned old new (Changes journal text true) said added a is = record { account = no_account; says = (is.0, λ j. refl); went = tt; own = subst (AreOwn old no_account) (sym is.0) tt; now = begins old new journal text a is.2 }
 turned old new (Changes journal text false) said added a is = record {
   account = no_account;
   says = (is.told, λ j. refl);
   went = tt;
+  own = subst (AreOwn old no_account) (sym is.told) tt;
   now = same_asked old new (ap (λ (s : State). s.objects) is.left) (ap (λ (s : State). s.peers) is.left) a;
 }
 
@@ -344,13 +345,13 @@ have_turned [] first last a runs = record { accounts = []; are = runs; now = sub
 have_turned (t ∷ turns) first last a (mid, gives, runs) =
     let one = turned (seen first) (seen mid) t.asked t.said t.added a gives in
     let more = have_turned turns mid last one.now runs in
-    record { accounts = one.account ∷ more.accounts; are = (mid, gives, one.says, one.went, more.are); now = more.now }
+    record { accounts = one.account ∷ more.accounts; are = (mid, gives, one.says, one.went, one.own, more.are); now = more.now }
 
 pub turns_told : (old new : Table) (turns : List Turn) (accounts : List Account) → AreTurns old turns accounts new → AreTold old turns accounts new
-turns_told old new [] [] all = all
-turns_told old new [] (a ∷ accounts) all = all
-turns_told old new (t ∷ turns) [] all = all
-turns_told old new (t ∷ turns) (a ∷ accounts) (mid, gives, says, went, all) = (mid, gives, says, turns_told mid new turns accounts all)
+turns_told old new [] [] same = same
+turns_told old new [] (a ∷ accounts) none = none
+turns_told old new (t ∷ turns) [] none = none
+turns_told old new (t ∷ turns) (a ∷ accounts) (mid, gives, says, went, own, more) = (mid, gives, says, turns_told mid new turns accounts more)
 
 pub turns_have_asked : TurnsHaveAsked
 turns_have_asked first last turns runs a =

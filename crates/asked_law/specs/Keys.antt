@@ -1,5 +1,5 @@
 -- What ran under a key is what was asked under it.
-use Rattle.std.specs.Prelude.{◌≡◌, ◌⊎◌, ◌<◌, ℕ, true, List, [], ◌∷◌, ◌++◌, Some, slice_get}
+use Rattle.std.specs.Prelude.{◌≡◌, ◌⊎◌, ◌<◌, ℕ, true, List, ◌∷◌, ◌++◌, Some, slice_get}
 use Rattle.decl_core.specs.ObjectForm.{ObjectForm}
 use Rattle.apply_core.specs.declared.reply.Reply.{Reply}
 use Rattle.front_core.specs.Front.{Opening}
@@ -64,14 +64,14 @@ KeysAreAsked =
     HaveKeys f told old.guests → HasAskedKeys first last turns h.history j f told
 
 -- A crash leaves one history of turns, as before, in which it is so.
-pub record LeavesAsked (first : Table) (limits : Limits) (seen_so : List Happened) (found : ℕ → List ℕ) : Type 0 where
+pub record LeavesKeys (first : Table) (limits : Limits) (seen_so : List Happened) (found : ℕ → List ℕ) : Type 0 where
   pub answered : LeavesAnswered first limits seen_so found
   pub asked : HaveAsked first answered.left.survives.last (answered.left.survives.answered ++ answered.left.survives.later)
 
 -- So it does at each moment of a loop that is honest, where answers wait for the disk.
-abbrev pub CrashLeavesAsked : Type 0
-CrashLeavesAsked =
+abbrev pub CrashLeavesKeys : Type 0
+CrashLeavesKeys =
     (first : Table) (limits : Limits) (seen_so : List Happened) (found : ℕ → List ℕ) → limits.waits ≡ true →
     IsHonest (rules_of Gives Fronts) first limits seen_so →
     ((j : ℕ) → j < limits.journals → IsBetween (stored_since j seen_so) (since_in j seen_so) (found j)) →
-    AllAsked first.objects.items (seen first).peers → LeavesAsked first limits seen_so found
+    AllAsked first.objects.items (seen first).peers → LeavesKeys first limits seen_so found

@@ -1,4 +1,5 @@
 pub mod Asked
 pub mod Keys
+pub mod Repeats
 pub mod Tells
 pub mod Turns

@@ -1,6 +1,9 @@
 -- Over turns each call that runs is the one for which its client asked.
-use Rattle.std.specs.Prelude.{◌≡◌, ◌≢◌, ◌⊎◌, ℕ, Bool, true, false, List, [], ◌∷◌, ◌++◌, Some, length, slice_get}
+use Rattle.std.specs.Prelude.{◌≡◌, ◌≢◌, ◌⊎◌, ℕ, true, List, [], ◌∷◌, Some, length, slice_get}
+use Rattle.apply_core.specs.declared.reply.Reply.{Reply}
 use Rattle.trace_core.specs.Events.{Called}
+use Rattle.live_core.specs.Hall.{Every}
+use Rattle.session_text.specs.Lines.{ended_text, repeated_text}
 use Rattle.guest_core.specs.declared.seats.Seat.TheVariants.{Nameless}
 use Rattle.replay_core.specs.Steps.{Step}
 use Rattle.hosted_core.specs.Scene.{Scene}
@@ -13,7 +16,7 @@ use Rattle.post_core.specs.Turns.Asked.{Heard, Noted, Changes}
 use Rattle.client_core.specs.declared.client.Opened.{Opened}
 use Rattle.told_core.specs.Deeds.{Texts}
 use Rattle.told_core.specs.State.{Peer, State, opened_in}
-use Rattle.said_law.specs.Said.{Account, SaysIn}
+use Rattle.said_law.specs.Said.{Account, HasRun, HasRemembered, SaysIn, SaysNoReply}
 use Rattle.table_core.specs.Moves.{Gives}
 use Rattle.table_core.specs.Seen.{seen}
 use Rattle.table_core.specs.declared.table.Table.{Table}
@@ -41,20 +44,35 @@ pub record AllWentAsked (old : List Scene) (added : Texts) (account : Account) (
   pub count : length new ≡ length old
   pub each : (j : ℕ) (h k : Scene) → slice_get old j ≡ Some h → slice_get new j ≡ Some k → WentAsked h (to j added) (account j) k
 
+-- at one of the moments of what happened an object had remembered a call, and until then each call that ran was its client's own
+pub record HasRememberedOwn (objects : List Scene) (account : Account) (told : ℕ) (reply : Reply) : Type 0 where
+  pub is : HasRemembered objects account told reply
+  pub own : AreAsked is.since
+
+-- a text tells the end of a call that ran, or of one that was remembered so, with the number that was told of it and its reply; or
+-- no reply
+abbrev pub IsOwn : List Scene → Account → List ℕ → Type 0
+IsOwn objects account text =
+    ((n : ℕ) × (reply : Reply) × (((text ≡ ended_text n reply) × HasRun objects account n reply) ⊎ ((text ≡ repeated_text n reply) × HasRememberedOwn objects account n reply)))
+    ⊎ SaysNoReply text
+
+abbrev pub AreOwn : State → Account → Texts → Type 0
+AreOwn old account said = Every (λ (s : ℕ × List ℕ). IsOwn old.objects account s.1) said
+
 -- so do objects in a turn in which no epoch begins
 abbrev pub WentIn : State → Asked → Texts → Account → State → Type 0
 WentIn old (Heard who line end) added account new = AllWentAsked old.objects added account new.objects
 WentIn old (Noted note) added account new = AllWentAsked old.objects added account new.objects
 WentIn old (Changes journal text went) added account new = Unit {0}
 
--- These turns lead from old to new, this happened in each of them, what each tells is true of that, and objects went so.
+-- These turns lead from old to new, this happened in each of them, what each tells is true of that and so, and objects went so.
 abbrev pub AreTurns : Table → List Turn → List Account → Table → Type 0
 AreTurns old [] [] new = new ≡ old
 AreTurns old [] (a ∷ accounts) new = ⊥
 AreTurns old (t ∷ turns) [] new = ⊥
 AreTurns old (t ∷ turns) (a ∷ accounts) new =
     (mid : Table) × Gives old t.asked t.said t.added mid × SaysIn (seen old) t.asked t.said t.added a (seen mid) × WentIn (seen old) t.asked t.added a (seen mid)
-    × AreTurns mid turns accounts new
+    × AreOwn (seen old) a t.said × AreTurns mid turns accounts new
 
 -- Turns have one history, in which it is so; and so it is behind them.
 pub record HaveAsked (first last : Table) (turns : List Turn) : Type 0 where

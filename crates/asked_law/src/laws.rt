@@ -1,6 +1,7 @@
 //! The laws, each a function without a body whose contract it is.
 
-ghost use Rattle.asked_law.specs.Keys.{CrashLeavesAsked, KeysAreAsked};
+ghost use Rattle.asked_law.specs.Keys.{CrashLeavesKeys, KeysAreAsked};
+ghost use Rattle.asked_law.specs.Repeats.{RepeatsAreAsked};
 ghost use Rattle.asked_law.specs.Tells.{StepsTellAsked};
 ghost use Rattle.asked_law.specs.Turns.{NobodyHasAsked, TurnsHaveAsked};
 
@@ -27,7 +28,14 @@ pub fn keys_are_asked()
     ensures { KeysAreAsked }
 {}
 
+/// Who is told how a call ended that was made before under a key asks for just what that call had asked, and is told of the call
+/// that was made so: which stands in the one history, or of which it was told before these turns, or which the front of the oldest
+/// epoch has.
+pub fn repeats_are_asked()
+    ensures { RepeatsAreAsked }
+{}
+
 /// After a crash, where answers wait for the disk, there is one history of turns, in which it is so.
-pub fn crash_leaves_asked()
-    ensures { CrashLeavesAsked }
+pub fn crash_leaves_keys()
+    ensures { CrashLeavesKeys }
 {}
