@@ -6,6 +6,7 @@ pub mod Going
 pub mod Keying
 pub mod Known
 pub mod Owning
+pub mod Reading
 pub mod Repeating
 pub mod Tracing
 pub mod Turning

@@ -2,6 +2,7 @@
 
 ghost use Rattle.asked_law.specs.Keys.{CrashLeavesKeys, KeysAreAsked};
 ghost use Rattle.asked_law.specs.Repeats.{RepeatsAreAsked};
+ghost use Rattle.asked_law.specs.Starts.{StartsAreAsked};
 ghost use Rattle.asked_law.specs.Tells.{StepsTellAsked};
 ghost use Rattle.asked_law.specs.Turns.{NobodyHasAsked, TurnsHaveAsked};
 
@@ -33,6 +34,12 @@ pub fn keys_are_asked()
 /// epoch has.
 pub fn repeats_are_asked()
     ensures { RepeatsAreAsked }
+{}
+
+/// Each call of which the epochs tell that a start has read that it ended under a key with a reply has its end in their one history:
+/// of the operation and with the arguments that were asked.
+pub fn starts_are_asked()
+    ensures { StartsAreAsked }
 {}
 
 /// After a crash, where answers wait for the disk, there is one history of turns, in which it is so.
