@@ -1,4 +1,3 @@
-#!/usr/bin/env python3
 """Measures `pathserve serve` on loads of several kinds, beside what a small model makes of the paths.
 
 usage: bench/serve_model.py [--program FILE] [--calls N] [--runs N] [--rows]
@@ -23,12 +22,9 @@ import pathlib
 import socket
 import statistics
 import subprocess
-import sys
 import tempfile
 
-sys.dont_write_bytecode = True
-sys.path.insert(0, str(pathlib.Path(__file__).resolve().parent.parent / "tools"))
-from ready import TOP, given_words, program  # noqa: E402
+from tools.ready import TOP, given_words, program
 
 CELL = """object {name};
   path {path} end;
@@ -204,7 +200,3 @@ def main():
     alone = ", ".join(f"{name} {it * 1e6:.1f}" for name, it in numbers.latency.items())
     print(f"us: latency {alone}; machine of a get {numbers.overlap * 1e6:.1f}, held by a put {numbers.turn * 1e6:.1f}; "
           f"processors {PROCESSORS}, load of the machine {os.getloadavg()[0]:.1f}")
-
-
-if __name__ == "__main__":
-    main()

@@ -7,7 +7,6 @@ import selectors
 import socket
 import time
 
-from kept import Wrong, check, holds
 
 ACCOUNTS, FUNDS = 8, 100
 NAMES = ("counter", "ledger", "buffer", "echo")
