@@ -59,7 +59,7 @@ record Turned (heard : Lines) (past : Texts) (old : State) (asked : Asked) (said
   along : ToldAlong heard old.objects account past said
   awaits : Awaits heard (past ++ said) new.objects new.peers
 
-did_says : (heard : Lines) (past : Texts) (old new : State) (said added : Texts) (d : Did heard past old said added new) → Says old said added d.account new
+pub did_says : (heard : Lines) (past : Texts) (old new : State) (said added : Texts) (d : Did heard past old said added new) → Says old said added d.account new
 did_says heard past old new said added d = record { went = d.went; true_all = along_true heard old.objects d.account past said d.told }
 
 turned : (before after : List Turn) (t : Turn) (past : Texts) (old new : State) (asked : Asked) (said added : Texts) → t.asked ≡ asked → AreCut (before ++ t ∷ after) → Awaits (HasSaid before) past old.objects old.peers →
@@ -108,15 +108,15 @@ asked_told before old new [] (a ∷ accounts) all = all
 asked_told before old new (t ∷ turns) [] all = all
 asked_told before old new (t ∷ turns) (a ∷ accounts) (mid, gives, says, along, all) = (mid, gives, says, asked_told (before ++ t ∷ []) mid new turns accounts all)
 
-said_next : (before : List Turn) (t : Turn) → said_by (before ++ t ∷ []) ≡ said_by before ++ t.said
+pub said_next : (before : List Turn) (t : Turn) → said_by (before ++ t ∷ []) ≡ said_by before ++ t.said
 said_next [] t = append-nil t.said
 said_next (b ∷ before) t = ap (λ (l : Texts). b.said ++ l) (said_next before t) ∙ sym (append_assoc b.said (said_by before) t.said)
 
-turns_nil : (xs : List Turn) → xs ++ [] ≡ xs
+pub turns_nil : (xs : List Turn) → xs ++ [] ≡ xs
 turns_nil [] = refl
 turns_nil (x ∷ xs) = ap (λ (l : List Turn). x ∷ l) (turns_nil xs)
 
-turns_on : (before : List Turn) (t : Turn) (turns : List Turn) → (before ++ t ∷ []) ++ turns ≡ before ++ t ∷ turns
+pub turns_on : (before : List Turn) (t : Turn) (turns : List Turn) → (before ++ t ∷ []) ++ turns ≡ before ++ t ∷ turns
 turns_on before t turns = append_assoc before (t ∷ []) turns
 
 all_asked : (before turns : List Turn) (first last : Table) → AreCut (before ++ turns) → Awaits (HasSaid before) (said_by before) first.objects.items (seen first).peers → Runs Gives first turns last →
@@ -163,7 +163,7 @@ turn_at earlier first last (b ∷ before) after t (a ∷ accounts) (mid, gives, 
     }
 
 -- where nobody has opened an object nobody waits
-quiet_awaits : (s : State) → AllHeld s.objects → IsQuiet s → Awaits (HasSaid []) [] s.objects s.peers
+pub quiet_awaits : (s : State) → AllHeld s.objects → IsQuiet s → Awaits (HasSaid []) [] s.objects s.peers
 quiet_awaits s held quiet = record {
   held = held;
   alone = λ place other o u by also waits waits_too object session.
