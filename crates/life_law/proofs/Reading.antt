@@ -1,6 +1,6 @@
 -- What a start reads of what was written.
 use Rattle.std.proofs.Common.{◌≡◌, ◌⊎◌, inl, inr, ◌∙◌, ap, sym, subst, refl, ℕ, ◌<◌, List, [], ◌∷◌, ◌++◌, length, append_assoc}
-use Rattle.std.specs.Prelude.{codes, false, Option, Some, None, slice_get}
+use Rattle.std.specs.Prelude.{codes, Option, Some, None, slice_get}
 use Rattle.std.proofs.lemmas.List.{append-nil, append_cancel_left}
 use Rattle.std.proofs.lemmas.Option.{same_Some}
 use Rattle.path_tree.specs.Trace.{Event, running_calls}
@@ -27,7 +27,7 @@ use Rattle.hold_front.specs.HeldText.{HasHeld}
 use Rattle.hold_front.specs.Laws.{AreEndings, HeldAreLines}
 use Rattle.hold_law.specs.Ended.{HoldsBy}
 use Rattle.hold_law.proofs.Turning.{turns_hold}
-use Rattle.replay_core.specs.Steps.{Begun, Step, nothing_heard, told_by}
+use Rattle.replay_core.specs.Steps.{Begun, nothing_heard, told_by}
 use Rattle.recover_core.specs.declared.recover.House.{House}
 use Rattle.recover_core.specs.declared.recover.Recovered.{Recovered}
 use Rattle.recover_core.specs.Playing.{begun_by}
@@ -36,7 +36,6 @@ use Rattle.hosted_core.specs.Fronts.{IsNextFront, IsPastOf, front_of}
 use Rattle.hosted_core.specs.Scene.{Scene, next_base, next_epoch}
 use Rattle.hosted_core.specs.Steps.{BeginsBy}
 use Rattle.written_law.specs.Read.{Adds}
-use Rattle.written_law.specs.Stands.{Stands}
 use Rattle.written_law.proofs.Beginning.{followed_stands}
 use Rattle.year_law.specs.Read.{IsReadOf}
 use Rattle.year_law.specs.Year.{Epoch, Follows, AreEpochs, all_ends, first_opening}
@@ -53,12 +52,11 @@ use Rattle.said_law.specs.Said.{Account}
 use Rattle.table_core.specs.Moves.{Gives, Fronts}
 use Rattle.table_core.specs.Seen.{seen}
 use Rattle.table_core.specs.declared.table.Table.{Table}
-use Rattle.kept_law.specs.Kept.{Stood}
 use Rattle.kept_law.specs.Lived.{HasLived, LeavesOneHistory, epoch_in}
 use Rattle.kept_law.specs.Replied.{AreTold, ends_in}
 use Rattle.kept_law.proofs.Empty.{front_change, no_bytes, no_lines, nothing_played, since_change}
 use Rattle.kept_law.proofs.Going.{runs_are_steps, set_at}
-use Rattle.kept_law.proofs.Living.{begun_epochs, crash_leaves_one_history, read_lives_on, turns_have_one_history, turns_live_on}
+use Rattle.kept_law.proofs.Living.{begun_epochs, crash_leaves_one_history, read_lives_on, turns_have_one_history}
 use Rattle.life_law.specs.Ends.{CrashSaysHeld, IsHeldRead}
 use Rattle.life_law.specs.Keeps.{Keeps, KeepsAt}
 use Rattle.life_law.specs.Lives.{CrashLeavesLives, IsReadOn, LivesOn, ReadsOn, StartsAt, WrittenLivesOn, epoch_at}
