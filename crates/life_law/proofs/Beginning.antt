@@ -1,6 +1,6 @@
 -- Objects that begin keep that.
-use Rattle.std.proofs.Common.{◌≡◌, ◌⊎◌, inl, inr, ◌∙◌, ap, sym, subst, refl, arith, ℕ, zero, suc, ◌+◌, ◌^◌, ◌<◌, ◌≤◌, List, [], ◌∷◌, ◌++◌, length, map, Bool, true, false}
-use Rattle.std.specs.Prelude.{Option, Some, None, Ok, if◌then◌else◌, bytes_eq}
+use Rattle.std.proofs.Common.{◌≡◌, ◌∙◌, ap, sym, subst, refl, arith, ℕ, suc, ◌<◌, ◌≤◌, List, [], ◌∷◌, ◌++◌, length, map, Bool, true, false}
+use Rattle.std.specs.Prelude.{Option, Some, None, if◌then◌else◌, bytes_eq}
 use Rattle.std.proofs.lemmas.Option.{same_Some}
 use Rattle.std.proofs.lemmas.List.{length-map}
 use Rattle.path_tree.specs.Known.{next, place_of}
@@ -10,7 +10,6 @@ use Rattle.value_core.specs.Contents.{Contents}
 use Rattle.decl_core.specs.declared.object.Object.{Object}
 use Rattle.decl_core.specs.ObjectForm.{ObjectForm}
 use Rattle.decl_core.specs.ObjectMap.{object_of}
-use Rattle.decl_core.specs.RefusalWord.{IsRefusalWord}
 use Rattle.apply_core.specs.declared.reply.Reply.{Reply}
 use Rattle.apply_core.specs.declared.reply.Reply.TheVariants.{Done, Refused, Failed}
 use Rattle.apply_core.specs.History.{IsLegal, IsReplyOn, leads_to}
@@ -28,16 +27,15 @@ use Rattle.guest_core.specs.declared.kept.Asked.{Asked}
 use Rattle.guest_core.specs.Guests.{Guests, guest_of}
 use Rattle.guest_core.specs.Keys.{asks}
 use Rattle.replay_core.specs.Said.{Asked as Told}
-use Rattle.replay_core.specs.Sound.{IsPlayed}
 use Rattle.replay_core.specs.Steps.{Begun, Heard, Step, ran, cancelled, named, happened_of, nothing_heard}
 use Rattle.replay_core.specs.Tells.{IsCall, Tells, Tell, start_told, end_told, cancel_told, name_told}
 use Rattle.recover_core.specs.Clients.{Remembers, Recalls, Opens, OpenAll, Makes, MakeAll, reply_in}
 use Rattle.recover_core.specs.Playing.{begun_by}
 use Rattle.written_law.specs.Stands.{AreSeated}
-use Rattle.written_law.proofs.Recovering.{remembers_seated, recalls_seated, opens_seated, open_all_seated, make_all_seated}
+use Rattle.written_law.proofs.Recovering.{remembers_seated, opens_seated, open_all_seated, make_all_seated}
 use Rattle.written_law.proofs.Replying.{typed_at}
 use Rattle.written_law.proofs.Seating.{nobody_seated, seated_admits, seated_keys}
-use Rattle.life_law.specs.Keeps.{AskedFits, IsWorded, KeptWell, KeysKeep, GuestsKeep, Keeps}
+use Rattle.life_law.specs.Keeps.{AskedFits, IsWorded, GuestsKeep}
 use Rattle.life_law.specs.Rows.{BehindKeeps, FirstKeeps}
 use Rattle.life_law.proofs.Keeping.{admits_keep, asks_keep, at_name_keep, ends_keep, long_min, none_worded, written_worded}
 use Rattle.life_law.proofs.Lists.{every_left, every_right}

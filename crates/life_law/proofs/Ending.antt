@@ -1,8 +1,7 @@
 -- Calls that ended.
-use Rattle.std.proofs.Common.{◌≡◌, ◌⊎◌, inl, inr, ◌∙◌, ap, sym, subst, refl, arith, ℕ, zero, suc, ◌+◌, ◌<◌, ◌≤◌, List, [], ◌∷◌, ◌++◌, length, append_assoc}
-use Rattle.std.specs.Prelude.{Bool, true, false, Option, Some, None, slice_get}
+use Rattle.std.proofs.Common.{◌≡◌, inl, inr, ◌∙◌, ap, sym, subst, refl, arith, ℕ, zero, suc, ◌<◌, ◌≤◌, List, [], ◌∷◌, ◌++◌, length, append_assoc}
+use Rattle.std.specs.Prelude.{Some, slice_get}
 use Rattle.std.proofs.lemmas.Option.{same_Some, slice_get_within}
-use Rattle.value_core.specs.declared.datum.Datum.{Datum}
 use Rattle.value_core.specs.Datum.{IsDatum}
 use Rattle.decl_core.specs.declared.object.Object.{Object}
 use Rattle.decl_core.specs.ObjectForm.{ObjectForm}
@@ -15,29 +14,27 @@ use Rattle.live_core.specs.Settles.{Settles, rests, runs, contents_of}
 use Rattle.front_core.specs.Front.{IsLong}
 use Rattle.front_core.specs.Front as front
 use Rattle.hold_front.specs.Laws.{AreEndings, HeldAreLines, IsEnding}
-use Rattle.hold_law.specs.Ended.{EndsOver, HoldsBy, ends_of}
+use Rattle.hold_law.specs.Ended.{ends_of}
 use Rattle.hold_law.proofs.Holding.{calls_end, ends_alike, ends_both, quiet_none}
 use Rattle.hold_law.proofs.Keeping.{ran_ends}
 use Rattle.replay_core.specs.Steps.{Begun, Heard, Step, told_by}
 use Rattle.hosted_core.specs.Calls.{RepliesDatum}
-use Rattle.hosted_core.specs.Scene.{Scene, told_of}
+use Rattle.hosted_core.specs.Scene.{Scene}
 use Rattle.hosted_core.specs.Steps as hosted
 use Rattle.named_law.specs.Named.{IsNamed}
 use Rattle.written_law.specs.Happens.{all_happen, happens}
 use Rattle.written_law.specs.Stands.{IsAwaited, Stands}
 use Rattle.written_law.specs.Told.{heard_of}
 use Rattle.written_law.proofs.Telling.{steps_are_told}
-use Rattle.post_core.specs.Turns.{Asked, Turn}
+use Rattle.post_core.specs.Turns.{Asked}
 use Rattle.post_core.specs.Turns.Asked.{Heard as Hears, Noted, Changes}
 use Rattle.told_core.specs.Custody.{as_told}
-use Rattle.said_law.specs.Said.{Account, SaysIn, Went}
+use Rattle.said_law.specs.Said.{SaysIn, Went}
 use Rattle.said_law.proofs.Going.{all_alike, all_more}
-use Rattle.table_core.specs.Moves.{Gives}
 use Rattle.table_core.specs.Seen.{seen}
-use Rattle.table_core.specs.declared.table.Table.{Table}
 use Rattle.kept_law.proofs.Going.{get_at}
 use Rattle.life_law.specs.Ends.{HeldSaysSo, TurnsEndSo}
-use Rattle.life_law.specs.Keeps.{Keeps, KeepsAt}
+use Rattle.life_law.specs.Keeps.{Keeps}
 use Rattle.life_law.proofs.Keeping.{steps_keep, told_long}
 use Rattle.life_law.proofs.Lists.{every_all}
 use Rattle.life_law.proofs.Rows.{is_operation}

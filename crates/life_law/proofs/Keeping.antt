@@ -1,10 +1,8 @@
 -- What happens to an object keeps that.
-use Rattle.std.proofs.Common.{◌≡◌, ◌⊎◌, inl, inr, ◌∙◌, ap, sym, subst, refl, arith, ℕ, zero, suc, ◌+◌, ◌-◌, ◌^◌, ◌<◌, ◌≤◌, List, [], ◌∷◌, ◌++◌, length, map, take}
-use Rattle.std.specs.Prelude.{Bool, true, false, Option, Some, None, Result, Ok, Err, min, slice_get, slice_set, slice_index_or}
+use Rattle.std.proofs.Common.{◌≡◌, inl, inr, ◌∙◌, ap, sym, subst, refl, arith, ℕ, ◌+◌, ◌-◌, ◌^◌, ◌<◌, ◌≤◌, List, [], ◌∷◌, ◌++◌, map}
+use Rattle.std.specs.Prelude.{Bool, true, false, Option, Some, None, Result, Ok, Err, min, slice_get}
 use Rattle.std.proofs.lemmas.Option.{same_Some}
-use Rattle.value_core.specs.declared.datum.Datum.{Datum}
 use Rattle.decl_core.specs.ObjectForm.{ObjectForm}
-use Rattle.decl_core.specs.ObjectMap.{object_of}
 use Rattle.decl_core.specs.RefusalWord.{IsRefusalWord}
 use Rattle.apply_core.specs.declared.reply.Reply.{Reply}
 use Rattle.apply_core.specs.declared.reply.Reply.TheVariants.{Done, Refused, Failed}
@@ -19,13 +17,12 @@ use Rattle.guest_core.specs.declared.guests.Entered.{Entered}
 use Rattle.guest_core.specs.declared.guests.EnterFault.{EnterFault}
 use Rattle.guest_core.specs.declared.guests.EnterFault.TheVariants.{InUse, Full, Memory}
 use Rattle.guest_core.specs.declared.kept.Asked.{Asked}
-use Rattle.guest_core.specs.declared.kept.Kept.{Kept}
 use Rattle.guest_core.specs.Entering.{Enters, Admits, Leaves}
 use Rattle.guest_core.specs.Guests.{Guests, guest_of}
 use Rattle.guest_core.specs.Keys.{Keys, Asks, Ends, asks, fresh_keys}
 use Rattle.guest_core.specs.Steps.{AtName}
 use Rattle.replay_core.specs.Steps.{Begun, Heard, told_by}
-use Rattle.hosted_core.specs.Calls.{AreRemembered, Does}
+use Rattle.hosted_core.specs.Calls.{AreRemembered}
 use Rattle.hosted_core.specs.Scene.{Scene, told_of}
 use Rattle.hosted_core.specs.Steps as hosted
 use Rattle.hosted_core.specs.Steps.{IsFollowed}

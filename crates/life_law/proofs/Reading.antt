@@ -1,11 +1,13 @@
 -- What a start reads of what was written.
 use Rattle.std.proofs.Common.{◌≡◌, ◌⊎◌, inl, inr, ◌∙◌, ap, sym, subst, refl, ℕ, ◌<◌, List, [], ◌∷◌, ◌++◌, length, append_assoc}
-use Rattle.std.specs.Prelude.{codes, false, Option, Some, None, slice_get}
+use Rattle.std.specs.Prelude.{codes, Option, Some, None, slice_get}
 use Rattle.std.proofs.lemmas.List.{append-nil, append_cancel_left}
 use Rattle.std.proofs.lemmas.Option.{same_Some}
 use Rattle.path_tree.specs.Trace.{Event, running_calls}
 use Rattle.path_count.specs.Stands.{StandsFor}
+use Rattle.value_core.specs.Contents.{Contents}
 use Rattle.decl_core.specs.ObjectForm.{ObjectForm}
+use Rattle.apply_core.specs.History.{End}
 use Rattle.decl_core.specs.ObjectMap.{object_of}
 use Rattle.trace_core.specs.Events.{Happened as Ended}
 use Rattle.past_core.specs.declared.past.PastEvent.{PastEvent}
@@ -25,7 +27,7 @@ use Rattle.hold_front.specs.HeldText.{HasHeld}
 use Rattle.hold_front.specs.Laws.{AreEndings, HeldAreLines}
 use Rattle.hold_law.specs.Ended.{HoldsBy}
 use Rattle.hold_law.proofs.Turning.{turns_hold}
-use Rattle.replay_core.specs.Steps.{Begun, Step, nothing_heard, told_by}
+use Rattle.replay_core.specs.Steps.{Begun, nothing_heard, told_by}
 use Rattle.recover_core.specs.declared.recover.House.{House}
 use Rattle.recover_core.specs.declared.recover.Recovered.{Recovered}
 use Rattle.recover_core.specs.Playing.{begun_by}
@@ -34,10 +36,9 @@ use Rattle.hosted_core.specs.Fronts.{IsNextFront, IsPastOf, front_of}
 use Rattle.hosted_core.specs.Scene.{Scene, next_base, next_epoch}
 use Rattle.hosted_core.specs.Steps.{BeginsBy}
 use Rattle.written_law.specs.Read.{Adds}
-use Rattle.written_law.specs.Stands.{Stands}
 use Rattle.written_law.proofs.Beginning.{followed_stands}
 use Rattle.year_law.specs.Read.{IsReadOf}
-use Rattle.year_law.specs.Year.{Epoch, Follows, AreEpochs}
+use Rattle.year_law.specs.Year.{Epoch, Follows, AreEpochs, all_ends, first_opening}
 use Rattle.year_law.proofs.Reading.{epochs_up_to, read_is_epoch}
 use Rattle.year_law.proofs.Sound.{epochs_are_sound}
 use Rattle.post_core.specs.Texts.{Begins, to}
@@ -47,17 +48,18 @@ use Rattle.keep_loop.specs.Seen.{Happened}
 use Rattle.keep_loop.specs.Epochs.{rules_of, front_in, before_in, since_in, stored_since, Agrees, HasBegun, LastBegan, change_to, BeginsNone}
 use Rattle.keep_loop.specs.Stands.{IsBetween, Survives}
 use Rattle.told_core.specs.Custody.{Custody, Custodies, held_lines, held_lines_in}
+use Rattle.said_law.specs.Said.{Account}
 use Rattle.table_core.specs.Moves.{Gives, Fronts}
 use Rattle.table_core.specs.Seen.{seen}
 use Rattle.table_core.specs.declared.table.Table.{Table}
-use Rattle.kept_law.specs.Kept.{Stood}
 use Rattle.kept_law.specs.Lived.{HasLived, LeavesOneHistory, epoch_in}
+use Rattle.kept_law.specs.Replied.{AreTold, ends_in}
 use Rattle.kept_law.proofs.Empty.{front_change, no_bytes, no_lines, nothing_played, since_change}
 use Rattle.kept_law.proofs.Going.{runs_are_steps, set_at}
-use Rattle.kept_law.proofs.Living.{begun_epochs, crash_leaves_one_history, read_lives_on, turns_have_one_history, turns_live_on}
+use Rattle.kept_law.proofs.Living.{begun_epochs, crash_leaves_one_history, read_lives_on, turns_have_one_history}
 use Rattle.life_law.specs.Ends.{CrashSaysHeld, IsHeldRead}
 use Rattle.life_law.specs.Keeps.{Keeps, KeepsAt}
-use Rattle.life_law.specs.Lives.{CrashLeavesLives, IsReadOn, LivesOn, ReadsOn, StartsAt, WrittenLivesOn}
+use Rattle.life_law.specs.Lives.{CrashLeavesLives, IsReadOn, LivesOn, ReadsOn, StartsAt, WrittenLivesOn, epoch_at}
 use Rattle.life_law.proofs.Ending.{held_says_so, turns_end_so}
 use Rattle.life_law.proofs.Rows.{next_front_has_rows}
 use Rattle.life_law.proofs.Turning.{objects_keep}
@@ -81,7 +83,7 @@ keeps_at t j o written earlier s = record {
   keeps = s.keeps;
 }
 
-lived_at : (t : Table) (j : ℕ) (o : ObjectForm) (written : Opening) (earlier : List Epoch) → StartsAt t j o written earlier → HasLived t j o (begun_by written) earlier
+abbrev lived_at : (t : Table) (j : ℕ) (o : ObjectForm) (written : Opening) (earlier : List Epoch) → StartsAt t j o written earlier → HasLived t j o (begun_by written) earlier
 lived_at t j o written earlier s =
     record { scene = s.scene; there = s.there; names = s.names; heard = nothing_heard; stands = s.stands; base = s.base; epochs = s.epochs }
 
@@ -150,46 +152,65 @@ first_lives first last j o written earlier turns found s runs none within =
     (record { names = s.names; old = s.scene; new = went.0; all = went.2; stands = s.stands }) within.1
 
 -- a journal that has begun anew by a text, in a turn of these
-record Anew (first : Table) (j : ℕ) (o : ObjectForm) (text found : List ℕ) (turns : List Turn) : Type 0 where
+record Anew (first : Table) (j : ℕ) (o : ObjectForm) (opening : List Contents) (ends : List End) (text found : List ℕ) (turns : List Turn) : Type 0 where
   before : List Turn
   rest : List Turn
   cut : turns ≡ before ++ rest
   at : Table
   runs : Runs Gives first before at
+  accounts : List Account
+  told : AreTold first before accounts at
   scene : Scene
+  there : slice_get at.objects.items j ≡ Some scene
   past_runs : List PastRun
   rows : HasRows o (front_of scene (next_epoch scene) past_runs (next_base scene))
   text_is : text ≡ front_text o (front_of scene (next_epoch scene) past_runs (next_base scene)) ++ held_lines o (slice_get (seen at).custody j)
+  newest : Epoch
+  older : List Epoch
+  opening_is : first_opening newest older ≡ opening
+  ends_are : all_ends o newest older ≡ ends ++ ends_in o j accounts
   mid : Table
-  epochs : List Epoch
-  lived : HasLived mid j o (begun_by (front_of scene (next_epoch scene) past_runs (next_base scene))) epochs
+  lived : HasLived mid j o (begun_by (front_of scene (next_epoch scene) past_runs (next_base scene))) (newest ∷ older)
   lines : List ℕ
   lost : List ℕ
   adds : Adds o (front_of scene (next_epoch scene) past_runs (next_base scene)) lines
   found_is : lines ≡ found ++ lost
 
-abbrev anew_front : {first : Table} {j : ℕ} {o : ObjectForm} {text found : List ℕ} {turns : List Turn} → Anew first j o text found turns → Opening
+abbrev anew_front : {first : Table} {j : ℕ} {o : ObjectForm} {opening : List Contents} {ends : List End} {text found : List ℕ} {turns : List Turn} → Anew first j o opening ends text found turns → Opening
 anew_front a = front_of a.scene (next_epoch a.scene) a.past_runs (next_base a.scene)
 
 -- one that has just begun anew, of which its object was not told
-record Ahead (last : Table) (j : ℕ) (o : ObjectForm) (text found : List ℕ) : Type 0 where
+record Ahead (first last : Table) (j : ℕ) (o : ObjectForm) (opening : List Contents) (ends : List End) (text found : List ℕ) (turns : List Turn) : Type 0 where
+  accounts : List Account
+  told : AreTold first turns accounts last
   scene : Scene
+  there : slice_get last.objects.items j ≡ Some scene
   past_runs : List PastRun
   rows : HasRows o (front_of scene (next_epoch scene) past_runs (next_base scene))
   text_is : text ≡ front_text o (front_of scene (next_epoch scene) past_runs (next_base scene)) ++ held_lines o (slice_get (seen last).custody j)
-  epochs : List Epoch
-  lives : LivesOn o (front_of scene (next_epoch scene) past_runs (next_base scene)) found epochs
+  newest : Epoch
+  older : List Epoch
+  opening_is : first_opening newest older ≡ opening
+  ends_are : all_ends o newest older ≡ ends ++ ends_in o j accounts
+  lives : LivesOn o (front_of scene (next_epoch scene) past_runs (next_base scene)) found (newest ∷ older)
   nothing : found ≡ []
 
 module _ (first last : Table) (j : ℕ) (o : ObjectForm) (written : Opening) (earlier : List Epoch) (s : StartsAt first j o written earlier) (text found : List ℕ) (turns : List Turn) (runs : Runs Gives first turns last) where
-  l : HasLived first j o (begun_by written) earlier
+  abbrev l : HasLived first j o (begun_by written) earlier
   l = lived_at first j o written earlier s
 
   k : KeepsAt first j o
   k = keeps_at first j o written earlier s
 
+  -- what it opened with, and the ends of its calls until it began so
+  abbrev opening : List Contents
+  opening = first_opening (epoch_at s) earlier
+
+  abbrev ends_before : List End
+  ends_before = all_ends o (epoch_at s) earlier
+
   -- a journal that has begun anew, and lines behind that
-  begun_anew : (before : List ℕ) → LastBegan j text before turns → Begins (before ++ found) (added_by j turns) → Anew first j o text found turns
+  begun_anew : (before : List ℕ) → LastBegan j text before turns → Begins (before ++ found) (added_by j turns) → Anew first j o opening ends_before text found turns
   begun_anew before b only =
       let parts = runs_split first last b.earlier (change_to j text ∷ b.since) (subst (λ ts. Runs Gives first ts last) b.cut runs) in
       let at : Table = parts.0 in
@@ -199,7 +220,9 @@ module _ (first last : Table) (j : ℕ) (o : ObjectForm) (written : Opening) (ea
       let begins = held.begins in
       let bare : List ℕ = held.fronts.front in
       let on : KeepsAt at j o = objects_keep first at b.earlier j o parts.1 k in
-      let reached = turns_live_on first at b.earlier j o (begun_by written) earlier parts.1 l in
+      let history = turns_have_one_history first at b.earlier parts.1 in
+      let lives = history.lives j o (begun_by written) earlier l in
+      let reached = lives.0 in
       let here = reached.lived in
       let was = here.scene in
       let now = begins.after in
@@ -221,12 +244,18 @@ module _ (first last : Table) (j : ℕ) (o : ObjectForm) (written : Opening) (ea
         cut = b.cut;
         at = at;
         runs = parts.1;
+        accounts = history.accounts;
+        told = history.told;
         scene = was;
+        there = here.there;
         past_runs = w.runs;
         rows = next_front_has_rows o reached.begun here.heard was now.past [] bare here.names here.stands keeps w;
         text_is = text_shown o was f (seen at).custody j (slice_get at.objects.items j) text bare held.fronts.told here.there here.stands.object w.added;
+        newest = epoch_in here;
+        older = reached.earlier;
+        opening_is = reached.opening_is;
+        ends_are = reached.ends_are ∙ ap (λ (x : List End). ends_before ++ x) lives.1;
         mid = mid;
-        epochs = epoch_in here ∷ reached.earlier;
         lived = record { scene = now; there = there; names = here.names; heard = nothing_heard; stands = stands; base = epochs.0; epochs = epochs.1 };
         lines = added_by j b.since;
         lost = within.0;
@@ -234,22 +263,33 @@ module _ (first last : Table) (j : ℕ) (o : ObjectForm) (written : Opening) (ea
         found_is = within.1;
       }
 
-  behind_lives : Anew first j o text found turns → ReadsOn o text found
+  behind_lives : Anew first j o opening ends_before text found turns → ReadsOn first j o opening ends_before turns text found
   behind_lives a = record {
+    before = a.before;
+    rest = a.rest;
+    cut = a.cut;
+    at = a.at;
+    accounts = a.accounts;
+    told = a.told;
     scene = a.scene;
+    there = a.there;
     runs = a.past_runs;
-    held = slice_get (seen a.at).custody j;
     text_is = a.text_is;
-    earlier = a.epochs;
     rows = a.rows;
-    lives = written_lives_on a.mid j o (begun_by (anew_front a)) a.epochs (anew_front a) a.lines found a.lost a.lived refl a.rows a.adds a.found_is;
+    newest = a.newest;
+    older = a.older;
+    opening_is = a.opening_is;
+    ends_are = a.ends_are;
+    lives = written_lives_on a.mid j o (begun_by (anew_front a)) (a.newest ∷ a.older) (anew_front a) a.lines found a.lost a.lived refl a.rows a.adds a.found_is;
   }
 
   -- one that has just begun anew, of which the object was not told
-  just_begun : Fronts last j text → found ≡ [] → Ahead last j o text found
+  just_begun : Fronts last j text → found ≡ [] → Ahead first last j o opening ends_before text found turns
   just_begun at none =
       let on : KeepsAt last j o = objects_keep first last turns j o runs k in
-      let reached = turns_live_on first last turns j o (begun_by written) earlier runs l in
+      let history = turns_have_one_history first last turns runs in
+      let lives = history.lives j o (begun_by written) earlier l in
+      let reached = lives.0 in
       let here = reached.lived in
       let was = here.scene in
       let keeps : Keeps o was = subst (λ (x : Scene). Keeps o x) (same_Some on.stood.scene was (sym on.stood.there ∙ here.there)) on.keeps in
@@ -258,18 +298,40 @@ module _ (first last : Table) (j : ℕ) (o : ObjectForm) (written : Opening) (ea
       let f = front_of was (next_epoch was) w.runs (next_base was) in
       let rows : HasRows o f = next_front_has_rows o reached.begun here.heard was next.past [] at.front here.names here.stands keeps w in
       record {
+        accounts = history.accounts;
+        told = history.told;
         scene = was;
+        there = here.there;
         past_runs = w.runs;
         rows = rows;
         text_is = text_shown o was f (seen last).custody j (slice_get last.objects.items j) text at.front at.told here.there here.stands.object w.added;
-        epochs = epoch_in here ∷ reached.earlier;
+        newest = epoch_in here;
+        older = reached.earlier;
+        opening_is = reached.opening_is;
+        ends_are = reached.ends_are ∙ ap (λ (x : List End). ends_before ++ x) lives.1;
         lives = ahead_on last j o reached.begun reached.earlier here w.runs next.past w.events next.counted found none rows;
         nothing = none;
       }
 
-  ahead_lives : Ahead last j o text found → ReadsOn o text found
-  ahead_lives a =
-      record { scene = a.scene; runs = a.past_runs; held = slice_get (seen last).custody j; text_is = a.text_is; earlier = a.epochs; rows = a.rows; lives = a.lives }
+  ahead_lives : Ahead first last j o opening ends_before text found turns → ReadsOn first j o opening ends_before turns text found
+  ahead_lives a = record {
+    before = turns;
+    rest = [];
+    cut = sym (append-nil turns);
+    at = last;
+    accounts = a.accounts;
+    told = a.told;
+    scene = a.scene;
+    there = a.there;
+    runs = a.past_runs;
+    text_is = a.text_is;
+    rows = a.rows;
+    newest = a.newest;
+    older = a.older;
+    opening_is = a.opening_is;
+    ends_are = a.ends_are;
+    lives = a.lives;
+  }
 
   -- and the lines of what is held
   module _ (law : HeldAreLines) (rules : RulesForm) (past : List Ended) (h : HoldsBy first j rules past) (are : AreEndings o past) where
@@ -298,11 +360,11 @@ module _ (first last : Table) (j : ℕ) (o : ObjectForm) (written : Opening) (ea
               (ap (λ (x : List ℕ). x ++ found) told ∙ append_assoc (front_text o f) (held_text o rules.holds c.held) found);
         }
 
-    behind_says : Anew first j o text found turns → IsHeldRead first j o rules past turns text found
+    behind_says : Anew first j o opening ends_before text found turns → IsHeldRead first j o rules past turns text found
     behind_says a = held_at a.before a.rest a.at a.cut a.runs (anew_front a) a.text_is
         (λ held each told. (written_has_held o rules.holds (anew_front a) held (text ++ found) a.lines found a.lost a.rows each a.adds a.found_is told).0)
 
-    ahead_says : Ahead last j o text found → IsHeldRead first j o rules past turns text found
+    ahead_says : Ahead first last j o opening ends_before text found turns → IsHeldRead first j o rules past turns text found
     ahead_says a = held_at turns [] last (sym (append-nil turns)) runs (front_of a.scene (next_epoch a.scene) a.past_runs (next_base a.scene)) a.text_is
         (λ held each told. record { rows = a.rows; each = each; told = told; ends = ap (has_verb (codes "held")) a.nothing })
 
@@ -313,9 +375,14 @@ some_none : {a : List ℕ} → ◌≡◌ {A = Option (List ℕ)} (Some a) None �
 some_none is = cc
 
 -- which of both it is, where a journal has begun anew
+abbrev BegunSo : (first last : Table) (j : ℕ) (o : ObjectForm) (written : Opening) (earlier : List Epoch) → StartsAt first j o written earlier → List ℕ → List ℕ → List Turn → Type 0
+BegunSo first last j o written earlier s text found turns =
+    Anew first j o (first_opening (epoch_at s) earlier) (all_ends o (epoch_at s) earlier) text found turns
+    ⊎ Ahead first last j o (first_opening (epoch_at s) earlier) (all_ends o (epoch_at s) earlier) text found turns
+
 begins_so : (first : Table) (limits : Limits) (all : List Happened) (found : ℕ → List ℕ) (v : Survives Gives first limits all (λ j. before_in j all ++ found j)) (j : ℕ) (o : ObjectForm) (written : Opening)
-    (earlier : List Epoch) (text : List ℕ) → j < limits.journals → IsBetween (stored_since j all) (since_in j all) (found j) → front_in j all ≡ Some text → StartsAt first j o written earlier →
-    HasBegun (rules_of Gives Fronts) v.last j all (v.answered ++ v.later) → Anew first j o text (found j) (v.answered ++ v.later) ⊎ Ahead v.last j o text (found j)
+    (earlier : List Epoch) (text : List ℕ) → j < limits.journals → IsBetween (stored_since j all) (since_in j all) (found j) → front_in j all ≡ Some text → (s : StartsAt first j o written earlier) →
+    HasBegun (rules_of Gives Fronts) v.last j all (v.answered ++ v.later) → BegunSo first v.last j o written earlier s text (found j) (v.answered ++ v.later)
 begins_so first limits all found v j o written earlier text within between is s (inl agrees) =
     inl (begun_anew first v.last j o written earlier s text (found j) (v.answered ++ v.later) v.runs (before_in j all)
     (subst (λ (x : Option (List ℕ)). Agrees j x (before_in j all) (v.answered ++ v.later)) is agrees) (v.only j within))
@@ -349,8 +416,9 @@ crash_leaves_lives first limits all found waits honest between = record {
     v : Survives Gives first limits all (λ j. before_in j all ++ found j)
     v = history.answered.left.survives
 
-    by : (j : ℕ) (o : ObjectForm) (written : Opening) (earlier : List Epoch) (text : List ℕ) → StartsAt first j o written earlier →
-        Anew first j o text (found j) (v.answered ++ v.later) ⊎ Ahead v.last j o text (found j) → ReadsOn o text (found j)
+    by : (j : ℕ) (o : ObjectForm) (written : Opening) (earlier : List Epoch) (text : List ℕ) → (s : StartsAt first j o written earlier) →
+        BegunSo first v.last j o written earlier s text (found j) (v.answered ++ v.later) →
+        ReadsOn first j o (first_opening (epoch_at s) earlier) (all_ends o (epoch_at s) earlier) (v.answered ++ v.later) text (found j)
     by j o written earlier text s (inl a) = behind_lives first v.last j o written earlier s text (found j) (v.answered ++ v.later) v.runs a
     by j o written earlier text s (inr a) = ahead_lives first v.last j o written earlier s text (found j) (v.answered ++ v.later) v.runs a
 
@@ -373,7 +441,7 @@ crash_says_held law first limits all found waits honest between = record {
     v : Survives Gives first limits all (λ j. before_in j all ++ found j)
     v = history.answered.left.survives
 
-    by : (j : ℕ) (o : ObjectForm) (written : Opening) (earlier : List Epoch) (rules : RulesForm) (past : List Ended) (text : List ℕ) → StartsAt first j o written earlier → HoldsBy first j rules past → AreEndings o past →
-        Anew first j o text (found j) (v.answered ++ v.later) ⊎ Ahead v.last j o text (found j) → IsHeldRead first j o rules past (v.answered ++ v.later) text (found j)
+    by : (j : ℕ) (o : ObjectForm) (written : Opening) (earlier : List Epoch) (rules : RulesForm) (past : List Ended) (text : List ℕ) → (s : StartsAt first j o written earlier) → HoldsBy first j rules past → AreEndings o past →
+        BegunSo first v.last j o written earlier s text (found j) (v.answered ++ v.later) → IsHeldRead first j o rules past (v.answered ++ v.later) text (found j)
     by j o written earlier rules past text s h are (inl a) = behind_says first v.last j o written earlier s text (found j) (v.answered ++ v.later) v.runs law rules past h are a
     by j o written earlier rules past text s h are (inr a) = ahead_says first v.last j o written earlier s text (found j) (v.answered ++ v.later) v.runs law rules past h are a

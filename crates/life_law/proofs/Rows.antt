@@ -1,8 +1,7 @@
 -- The lines of a front, each by itself.
-use Rattle.std.proofs.Common.{◌≡◌, ◌≢◌, ◌⊎◌, inl, inr, ◌∙◌, ap, sym, subst, refl, arith, ℕ, zero, suc, ◌+◌, ◌-◌, ◌^◌, ◌<◌, ◌≤◌, List, [], ◌∷◌, ◌++◌, length, map}
-use Rattle.std.specs.Prelude.{All, Option, Some, None, min, slice_get}
-use Rattle.std.proofs.lemmas.Option.{same_Some, slice_get_within}
-use Rattle.value_core.specs.declared.datum.Datum.{Datum}
+use Rattle.std.proofs.Common.{◌≡◌, subst, refl, arith, ℕ, zero, suc, ◌+◌, ◌-◌, ◌^◌, ◌<◌, ◌≤◌, List, [], ◌∷◌, length, map}
+use Rattle.std.specs.Prelude.{Option, Some, None, slice_get}
+use Rattle.std.proofs.lemmas.Option.{slice_get_within}
 use Rattle.value_core.specs.Datum.{IsDatum}
 use Rattle.value_core.specs.Contents.{IsContents, kind_of}
 use Rattle.decl_core.specs.ObjectForm.{ObjectForm}
@@ -14,9 +13,8 @@ use Rattle.live_core.specs.Hall as hall
 use Rattle.past_core.specs.declared.past.PastEvent.{PastEvent}
 use Rattle.front_core.specs.declared.past.PastRun.{PastRun}
 use Rattle.front_core.specs.declared.past.PastRun.TheVariants.{Calls, Begins, Ends}
-use Rattle.front_core.specs.Front.{Every, HasRows, IsAnswer, IsCall, IsCarried, IsClient, IsKept, IsLong, IsOperation, IsRun, IsSession}
+use Rattle.front_core.specs.Front.{Every, HasRows, IsAnswer, IsCarried, IsClient, IsKept, IsLong, IsOperation, IsRun, IsSession}
 use Rattle.guest_core.specs.declared.guest.Guest.{Guest}
-use Rattle.guest_core.specs.declared.kept.Asked.{Asked}
 use Rattle.guest_core.specs.declared.kept.Kept.{Kept}
 use Rattle.guest_core.specs.declared.seats.Seat.TheVariants.{Named, Void}
 use Rattle.guest_core.specs.Guests.{Guests}
@@ -27,7 +25,7 @@ use Rattle.hosted_core.specs.Scene.{Scene, next_base, next_epoch}
 use Rattle.named_law.specs.Named.{IsNamed}
 use Rattle.written_law.specs.Stands.{AreSeated, IsAwaited, Stands}
 use Rattle.written_law.proofs.Seating.{not_0}
-use Rattle.life_law.specs.Keeps.{AskedFits, IsWorded, KeptWell, KeysKeep, GuestsKeep, Keeps}
+use Rattle.life_law.specs.Keeps.{IsWorded, KeptWell, KeysKeep, Keeps}
 use Rattle.life_law.specs.Rows.{FirstHasRows, FrontHasRows, NextHasRows}
 use Rattle.life_law.proofs.Keeping.{long_min, told_long}
 use Rattle.life_law.proofs.Lists.{every_all, every_both, every_by}

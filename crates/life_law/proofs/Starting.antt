@@ -1,5 +1,5 @@
 -- Objects of a new life.
-use Rattle.std.proofs.Common.{◌≡◌, subst, ℕ, []}
+use Rattle.std.proofs.Common.{subst, []}
 use Rattle.decl_core.specs.ObjectMap.{object_of}
 use Rattle.replay_core.specs.Steps.{nothing_heard, told_by}
 use Rattle.recover_core.specs.Playing.{begun_by}

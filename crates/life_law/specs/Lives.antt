@@ -1,9 +1,10 @@
 -- What a start reads of what was written lives on, wherever a crash has cut it.
-use Rattle.std.specs.Prelude.{◌≡◌, ◌<◌, ◌≤◌, ℕ, true, List, [], ◌∷◌, ◌++◌, Option, Some, None, slice_get}
+use Rattle.std.specs.Prelude.{◌≡◌, ◌<◌, ◌≤◌, ℕ, true, List, [], ◌∷◌, ◌++◌, Some, None, slice_get}
 use Rattle.value_core.specs.Contents.{Contents}
 use Rattle.decl_core.specs.declared.object.Object.{Object}
 use Rattle.decl_core.specs.ObjectForm.{ObjectForm}
 use Rattle.decl_core.specs.ObjectMap.{object_of}
+use Rattle.apply_core.specs.History.{End}
 use Rattle.live_core.specs.declared.call.Limits.{Limits as Seats}
 use Rattle.past_core.specs.declared.past.PastEvent.{PastEvent}
 use Rattle.front_core.specs.declared.past.PastRun.{PastRun}
@@ -20,16 +21,20 @@ use Rattle.keep_start.specs.First.{BeginsFirst}
 use Rattle.named_law.specs.Named.{IsNamed}
 use Rattle.written_law.specs.Read.{Adds}
 use Rattle.written_law.specs.Stands.{Stands}
-use Rattle.year_law.specs.Year.{Epoch, AreEpochs, IsSound, epoch_of}
+use Rattle.year_law.specs.Year.{Epoch, AreEpochs, IsSound, all_ends, epoch_of, first_opening}
 use Rattle.year_law.specs.Read.{IsReadOf}
+use Rattle.post_core.specs.Turns.{Turn}
 use Rattle.keep_loop.specs.declared.keep.Limits.{Limits}
 use Rattle.keep_loop.specs.Seen.{Happened}
 use Rattle.keep_loop.specs.Epochs.{rules_of, front_in, since_in, stored_since}
 use Rattle.keep_loop.specs.Stands.{IsHonest, IsBetween}
-use Rattle.told_core.specs.Custody.{Custody, held_lines}
+use Rattle.told_core.specs.Custody.{held_lines}
+use Rattle.said_law.specs.Said.{Account}
 use Rattle.table_core.specs.Moves.{Gives, Fronts}
+use Rattle.table_core.specs.Seen.{seen}
 use Rattle.table_core.specs.declared.table.Table.{Table}
 use Rattle.kept_law.specs.Lived.{BeginsAt, HasLived, LeavesOneHistory}
+use Rattle.kept_law.specs.Replied.{AreTold, ends_in}
 use Rattle.life_law.specs.Keeps.{Keeps}
 
 -- Whoever reads this front, with these bytes behind it, reads the front that was written, and an epoch of the object behind the
@@ -79,22 +84,38 @@ BehindStarts =
     IsReadOf (object_of object) lines b.begins.came e → AreEpochs (object_of object) e earlier →
     StartsAt t j (object_of object) (front_of b.scene b.scene.epoch b.adds.tells.runs b.scene.base) (e ∷ earlier)
 
--- A journal last began anew by a text: a front, which tells of an object as it was, and behind that the lines of what was held.
--- Each line of the front says something by itself; and what is read of it, and of what was found behind it, lives on.
-pub record ReadsOn (o : ObjectForm) (text found : List ℕ) : Type 0 where
+-- the epoch in which it stands
+abbrev pub epoch_at : {t : Table} {j : ℕ} {o : ObjectForm} {written : Opening} {earlier : List Epoch} → StartsAt t j o written earlier → Epoch
+epoch_at {written = written} s = epoch_of s.scene.hall (told_by (begun_by written) []) s.base
+
+-- A journal last began anew by a text, in these turns or just behind them: a front, which tells of the object as it was then,
+-- and behind that the lines of what was held. Each line of the front says something by itself; and what is read of it, and of
+-- what was found behind it, lives on behind the epochs that the object has had: they are those of before, and the ends in them
+-- are those of before, and behind these the ends of the turns until then.
+pub record ReadsOn (first : Table) (j : ℕ) (o : ObjectForm) (opening : List Contents) (ends : List End) (turns : List Turn) (text found : List ℕ) : Type 0 where
+  pub before : List Turn
+  pub rest : List Turn
+  pub cut : turns ≡ before ++ rest
+  pub at : Table
+  pub accounts : List Account
+  pub told : AreTold first before accounts at
   pub scene : Scene
+  pub there : slice_get at.objects.items j ≡ Some scene
   pub runs : List PastRun
-  pub held : Option Custody
-  pub text_is : text ≡ front_text o (front_of scene (next_epoch scene) runs (next_base scene)) ++ held_lines o held
-  pub earlier : List Epoch
+  pub text_is : text ≡ front_text o (front_of scene (next_epoch scene) runs (next_base scene)) ++ held_lines o (slice_get (seen at).custody j)
   pub rows : HasRows o (front_of scene (next_epoch scene) runs (next_base scene))
-  pub lives : LivesOn o (front_of scene (next_epoch scene) runs (next_base scene)) found earlier
+  pub newest : Epoch
+  pub older : List Epoch
+  pub opening_is : first_opening newest older ≡ opening
+  pub ends_are : all_ends o newest older ≡ ends ++ ends_in o j accounts
+  pub lives : LivesOn o (front_of scene (next_epoch scene) runs (next_base scene)) found (newest ∷ older)
 
 -- After a crash at each moment of a loop that is honest, where answers wait for the disk, there is one history of turns, as
 -- before; and of each object what a start reads of its journal, without the lines of what was held, lives on.
 pub record LeavesLives (first : Table) (limits : Limits) (seen : List Happened) (found : ℕ → List ℕ) : Type 0 where
   pub history : LeavesOneHistory first limits seen found
-  pub anew : (j : ℕ) (o : ObjectForm) (written : Opening) (earlier : List Epoch) (text : List ℕ) → j < limits.journals → front_in j seen ≡ Some text → StartsAt first j o written earlier → ReadsOn o text (found j)
+  pub anew : (j : ℕ) (o : ObjectForm) (written : Opening) (earlier : List Epoch) (text : List ℕ) → j < limits.journals → front_in j seen ≡ Some text → (s : StartsAt first j o written earlier) →
+      ReadsOn first j o (first_opening (epoch_at s) earlier) (all_ends o (epoch_at s) earlier) (history.answered.left.survives.answered ++ history.answered.left.survives.later) text (found j)
   pub at_first : (j : ℕ) (o : ObjectForm) (written : Opening) (earlier : List Epoch) → j < limits.journals → front_in j seen ≡ None → StartsAt first j o written earlier → LivesOn o written (found j) earlier
 
 abbrev pub CrashLeavesLives : Type 0
