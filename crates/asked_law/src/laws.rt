@@ -12,8 +12,8 @@ pub fn steps_tell_asked()
     ensures { StepsTellAsked }
 {}
 
-/// Over any turns each call that runs is the one for which the client of its session asked; who has a session has it alone; and a
-/// session without a name never leaves while a call of it waits.
+/// Over any turns each call that waits or runs is the one for which the client of its session asked, and a client has that
+/// session; and who has a session of an object has it alone.
 pub fn turns_have_asked()
     ensures { TurnsHaveAsked }
 {}
