@@ -1,6 +1,6 @@
 """Measures what a call takes of a server of one program beside one of another.
 
-usage: bench/beside.py BEFORE AFTER [--calls N] [--runs N]
+usage: bench/beside BEFORE AFTER [--calls N] [--runs N]
 
 BEFORE and AFTER are files of programs that were built the same way. Of `get` and `put`, over one connection and over
 16, each serves so many calls (20,000) in turn, in so many runs (5), so that both meet what else the machine does. It

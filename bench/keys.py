@@ -1,6 +1,6 @@
 """Measures what keys and names cost a server: calls under keys beside plain ones, calls that are asked for again, and memory.
 
-usage: bench/keys.py [--program FILE] [--before FILE] [--runs N] [--calls N]
+usage: bench/keys [--program FILE] [--before FILE] [--runs N] [--calls N]
 
 Per load: calls a second in N runs (7 where it is not given) of up to N calls (16,000), plain and under keys in turn, so that both meet
 what else the machine does; the medians, and how much longer a call takes under a key: the ratio of the medians, and the median of

@@ -1,6 +1,6 @@
 """Measures `pathserve run` on a script of 65,536 calls of `cell` (call, steps, finish), sent over a pipe.
 
-usage: bench/script.py [--program FILE] [RUNS]
+usage: bench/script [--program FILE] [RUNS]
 
 Per run: microseconds a call after 1, 30,000 and 60,000 calls of history, in bulk (1,000 calls are sent, and all their answers
 read) and in turn (each line is sent once the answer to the one before it was read); seconds for all 65,536 calls in one

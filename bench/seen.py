@@ -1,6 +1,6 @@
 """Measures what it costs a kept server to be looked at: `why N`, `who` and `list` beside calls that wait, and a status each second.
 
-usage: bench/seen.py [--program FILE] [--runs N] [--asked N] [--waiting N] [--seconds N]
+usage: bench/seen [--program FILE] [--runs N] [--asked N] [--waiting N] [--seconds N]
 
 So many clients (256) wait for a call of a buffer that is empty. One more asks `why` of each in turn, then `who`, then `list`, so
 many times (2,000) in each of so many runs (5): microseconds of a processor of the server for one question and its answer, with

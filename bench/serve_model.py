@@ -1,6 +1,6 @@
 """Measures `pathserve serve` on loads of several kinds, beside what a small model makes of the paths.
 
-usage: bench/serve_model.py [--program FILE] [--calls N] [--runs N] [--rows]
+usage: bench/serve_model [--program FILE] [--calls N] [--runs N] [--rows]
 
 Calls that the paths let overlap share the processors: 1 / machine a second, where `machine` is what a call takes of all processors,
 server and load together; but a connection makes one call at a time, so no more than connections / latency. Calls that exclude each other

@@ -1,6 +1,6 @@
 """Measures what a call takes by how many entries its part has, and how long they are.
 
-usage: bench/size.py [--program FILE] [--only WORD] [--ways WORD,..] [--bytes N,..] [--sizes N,..] [--calls N] [--instructions]
+usage: bench/size [--program FILE] [--only WORD] [--ways WORD,..] [--bytes N,..] [--sizes N,..] [--calls N] [--instructions]
 
 Of a queue of texts, a table of integers, a table of texts and an array of texts, with 1, 10, 100 and 1,000 entries of 10 and of
 200 bytes (the keys of a table of integers are as long; other keys have 8): microseconds of a processor a call for each form of
