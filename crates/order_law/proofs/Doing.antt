@@ -1,9 +1,8 @@
 -- What is done for a line, in each talk.
 use Rattle.std.proofs.Common.{◌≡◌, ◌⊎◌, inl, inr, ◌∙◌, arith, ap, sym, subst, refl, ℕ, zero, suc, List, [], ◌∷◌, ◌++◌}
-use Rattle.std.specs.Prelude.{Bool, true, false, codes, ◌%◌, Option, Some, None, Result, Ok, Err, IfOk, slice_get, slice_set, map}
+use Rattle.std.specs.Prelude.{Bool, true, false, Option, Some, None, Result, Ok, Err, IfOk, slice_get, slice_set, map}
 use Rattle.std.specs.Global.{Vec}
 use Rattle.std.specs.declared.alloc.AllocError.{AllocError}
-use Rattle.std.proofs.lemmas.Option.{same_Some}
 use Rattle.value_core.specs.declared.datum.Datum.{Datum}
 use Rattle.apply_core.specs.History.{End}
 use Rattle.apply_core.specs.declared.reply.Reply.{Reply}
@@ -15,7 +14,7 @@ use Rattle.trace_core.specs.Events.{Called}
 use Rattle.trace_core.specs.Text.{operation_name}
 use Rattle.ask_core.specs.declared.answer.SubmitFault.TheVariants as faults
 use Rattle.session_text.specs.declared.line.Line.TheVariants as lines
-use Rattle.session_text.specs.Lines.{accepted_text, bye_text, ended_text, line_text, opened_text, repeated_text}
+use Rattle.session_text.specs.Lines.{accepted_text, bye_text, line_text, opened_text, repeated_text}
 use Rattle.live_core.specs.Answers.{asked as asked_call}
 use Rattle.live_core.specs.Lines.{all_lines}
 use Rattle.guest_core.specs.declared.seats.Seat.TheVariants.{Nameless}
@@ -37,26 +36,26 @@ use Rattle.told_core.specs.Asked.{OpensBare, OpensAs, Opens, GetsNumber, Sits, C
 use Rattle.told_core.specs.Custody.{not_held_text}
 use Rattle.told_core.specs.Deeds.{Texts, OnlyTold}
 use Rattle.told_core.specs.Gone.{SeatsOne, Frees}
-use Rattle.told_core.specs.Inside.{Sees, IsWhy, state_by, form_at, object_in}
-use Rattle.told_core.specs.State.{Peer, State, change, changed, counted, nobody, opened_at, opened_in, opening, told_to, waits_at, who_at, who_in}
+use Rattle.told_core.specs.Inside.{IsWhy, state_by, form_at, object_in}
+use Rattle.told_core.specs.State.{Peer, State, change, changed, counted, nobody, opened_at, opened_in, opening, told_to, who_at, who_in}
 use Rattle.said_law.proofs.Going.{at_one, both}
-use Rattle.said_law.proofs.Plain.{refusal_plain, opened_plain, bye_plain, waiting_plain, gone_plain, not_held_plain, why_plain, state_plain, who_plain, list_plain}
+use Rattle.said_law.proofs.Plain.{refusal_plain, opened_plain, waiting_plain, gone_plain, not_held_plain, why_plain, state_plain, who_plain, list_plain}
 use Rattle.said_law.specs.Said.{Account, AllWent, SaysNoReply}
 use Rattle.asker_law.specs.Awaits.{Lines, waits_in, Awaits}
-use Rattle.asker_law.proofs.Acting.{HasSat, IsWished, IsWish, did_gets, did_heeds, did_inside, did_leaves, did_opens, did_quits, did_repeats, did_seats_one, did_frees, has_sat, idle_of}
+use Rattle.asker_law.proofs.Acting.{HasSat, IsWished, IsWish, did_gets, did_inside, did_opens, did_quits, did_repeats, did_seats_one, did_frees, has_sat, idle_of}
 use Rattle.asker_law.proofs.Calling.{call_is_whole}
-use Rattle.asker_law.proofs.Deeds.{Did, did_from, did_only, did_refused, did_two}
+use Rattle.asker_law.proofs.Deeds.{Did, did_only, did_refused, did_two}
 use Rattle.asker_law.proofs.Ends.{true_false, with_ran}
 use Rattle.asker_law.proofs.Making.{HasDone, IsMade, did_cancel, did_submits, has_done}
 use Rattle.order_law.specs.Stands.{Stands, StandsIn, Voiced, ends_by}
-use Rattle.order_law.specs.Talk.{Line, Talk, Part, Wanted, IsNoEnd, ends_of, texts_to}
+use Rattle.order_law.specs.Talk.{Line, Talk, Wanted, IsNoEnd, ends_of, texts_to}
 use Rattle.order_law.specs.Talk.Part.{Accepts as accepts_part, Quits as quits_part}
 use Rattle.order_law.specs.Talk.Talk.{Away, Here}
 use Rattle.order_law.proofs.Ending.{ran_at}
 use Rattle.order_law.proofs.Lists.{history_both, is_who, picked_behind, to_both, told_mine, told_other}
 use Rattle.order_law.proofs.Making.{Lead, at_ends, cancel_voice, coe_twice, lead_other, only_voice, plain_end, runs_voice, stands_made, voiced_none_more, wants_made}
 use Rattle.order_law.proofs.Standing.{mine_is, stands_gone, stands_map, stands_mine, stands_other, wants_set}
-use Rattle.order_law.proofs.Voicing.{Spoke, SpokeBy, moves_back, spoke_as, voiced_answers, voiced_back, voiced_map, voiced_none}
+use Rattle.order_law.proofs.Voicing.{SpokeBy, moves_back, voiced_answers, voiced_back, voiced_map, voiced_none}
 
 -- the first line of one that is there is done now; or that of another
 abbrev pub IsTurn : ℕ → ℕ → ℕ → State → Result Ask AllocError → Talk → Type 0

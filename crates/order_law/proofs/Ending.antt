@@ -1,6 +1,6 @@
 -- Calls that end, in the talks of those that wait for them.
 use Rattle.std.proofs.Common.{◌≡◌, ◌⊎◌, inl, inr, ◌∙◌, ap, sym, subst, refl, ℕ, List, [], ◌∷◌, ◌++◌}
-use Rattle.std.specs.Prelude.{Bool, true, false, ◌==◌, ◌%◌, if◌then◌else◌, Option, Some, None, slice_get}
+use Rattle.std.specs.Prelude.{Bool, true, false, ◌==◌, if◌then◌else◌, Option, Some, None, slice_get}
 use Rattle.std.proofs.lemmas.List.{append-nil}
 use Rattle.std.proofs.lemmas.Option.{same_Some}
 use Rattle.apply_core.specs.History.{End}
@@ -19,8 +19,8 @@ use Rattle.told_core.specs.State.{Peer, State, change, waiting, opened_in, who_i
 use Rattle.asker_law.specs.Awaits.{IsIn, Pool}
 use Rattle.asker_law.proofs.Ends.{true_false}
 use Rattle.asker_law.proofs.Lists.{calls_of}
-use Rattle.order_law.specs.Stands.{AreHeld, IsAt, IsWaiting, Stands, Voiced, Wants}
-use Rattle.order_law.specs.Talk.{Line, Talk, Part, Wanted, Follows, line_in, text_in, end_in, IsKept, ArePicked, texts_to, texts_of, ends_of}
+use Rattle.order_law.specs.Stands.{Stands, Voiced, Wants}
+use Rattle.order_law.specs.Talk.{Line, Talk, Part, Wanted, Follows, line_in, text_in, end_in, IsKept, ArePicked, texts_to}
 use Rattle.order_law.specs.Talk.Part.{Ends}
 use Rattle.order_law.specs.Talk.Talk.{Away, Here}
 use Rattle.order_law.proofs.Lists.{is_who, ran_ends, told_mine, told_other}

@@ -1,10 +1,9 @@
 -- Parts of talks, and what is told of lists of texts.
-use Rattle.std.proofs.Common.{◌≡◌, ◌≢◌, ◌⊎◌, inl, inr, ◌∙◌, ap, sym, subst, refl, ℕ, List, [], ◌∷◌, ◌++◌, append_assoc}
-use Rattle.std.specs.Prelude.{Bool, true, false, ◌==◌, if◌then◌else◌, Option, Some, None, map, slice_get}
+use Rattle.std.proofs.Common.{◌≡◌, ◌⊎◌, inl, inr, ◌∙◌, ap, sym, subst, refl, ℕ, List, [], ◌∷◌, ◌++◌, append_assoc}
+use Rattle.std.specs.Prelude.{Bool, ◌==◌, if◌then◌else◌, Option, Some, None, map, slice_get}
 use Rattle.std.proofs.lemmas.Bool.Decides.{eqb_tells}
 use Rattle.std.proofs.lemmas.List.{append-nil}
 use Rattle.apply_core.specs.History.{End}
-use Rattle.apply_core.specs.declared.reply.Reply.{Reply}
 use Rattle.decl_core.specs.ObjectForm.{ObjectForm}
 use Rattle.trace_core.specs.Events.{Called, end_of, history_of}
 use Rattle.live_core.specs.declared.call.Ran.{Ran}
@@ -14,7 +13,7 @@ use Rattle.written_law.specs.Happens.{with_ran}
 use Rattle.post_core.specs.declared.served.LineEnd.{LineEnd}
 use Rattle.told_core.specs.Deeds.{Texts}
 use Rattle.told_core.specs.State.{Peer, one_text, told_to, who_in}
-use Rattle.order_law.specs.Talk.{Talk, Part, Wanted, Follows, Course, line_in, lines_of, text_in, texts_of, end_in, ends_of, IsWanted, IsKept, AllKept, ArePicked, texts_to}
+use Rattle.order_law.specs.Talk.{Talk, Part, Wanted, Course, line_in, lines_of, text_in, texts_of, end_in, ends_of, IsWanted, IsKept, AllKept, ArePicked, texts_to}
 use Rattle.order_law.specs.Talk.Part.{Comes, Hears, Between, Answers, Accepts, Ends, Withdraws, Quits, Leaves}
 
 pub course_both : (xs ys : List Part) (a b c : Talk) → Course xs a b → Course ys b c → Course (xs ++ ys) a c

@@ -1,6 +1,6 @@
 -- Calls that are made or cancelled, in the talks of all.
 use Rattle.std.proofs.Common.{◌≡◌, ◌≢◌, ◌⊎◌, inl, inr, ◌∙◌, ap, sym, subst, refl, ℕ, List, [], ◌∷◌, ◌++◌}
-use Rattle.std.specs.Prelude.{Bool, true, false, ◌==◌, ◌%◌, if◌then◌else◌, Option, Some, None, slice_get, slice_set}
+use Rattle.std.specs.Prelude.{Bool, true, false, ◌==◌, ◌%◌, if◌then◌else◌, Some, slice_get, slice_set}
 use Rattle.std.proofs.lemmas.List.{append-nil}
 use Rattle.std.proofs.lemmas.Option.{same_Some}
 use Rattle.value_core.specs.declared.datum.Datum.{Datum}
@@ -12,40 +12,36 @@ use Rattle.trace_core.specs.Events.{Called, history_of}
 use Rattle.trace_core.specs.Text.{operation_name}
 use Rattle.script_text.specs.Answers.{cancelled_line}
 use Rattle.ask_core.specs.declared.answer.Cancelled.TheVariants as cancels_by
-use Rattle.session_text.specs.Lines.{accepted_text, cancel_name, line_text, withdrawn_text}
+use Rattle.session_text.specs.Lines.{cancel_name, line_text, withdrawn_text}
 use Rattle.live_core.specs.declared.call.Ran.{Ran}
-use Rattle.live_core.specs.declared.live.Taken.{Taken}
 use Rattle.live_core.specs.Answers.{asked}
 use Rattle.live_core.specs.Hall.{Hall}
 use Rattle.live_core.specs.Lines.{all_lines}
-use Rattle.replay_core.specs.Steps.{Step, happened_of}
-use Rattle.hosted_core.specs.Scene.{Scene, told_of}
-use Rattle.client_core.specs.declared.ask.Ask.TheVariants as asks
+use Rattle.replay_core.specs.Steps.{happened_of}
+use Rattle.hosted_core.specs.Scene.{Scene}
 use Rattle.client_core.specs.declared.client.Opened.{Opened}
-use Rattle.client_core.specs.Asks.{Asks}
 use Rattle.written_law.specs.Happens.{with_ran as behind_ran}
 use Rattle.post_core.specs.declared.served.LineEnd.{LineEnd}
 use Rattle.told_core.specs.Asked as told
 use Rattle.told_core.specs.Asked.{AllEnd, LetsGo, Submits}
 use Rattle.told_core.specs.Deeds.{Texts, OnlyTold}
 use Rattle.told_core.specs.Gone.{CallsFor}
-use Rattle.told_core.specs.State.{Peer, State, change, changed, counted, opening, told_to, who_at, who_in, with_object}
+use Rattle.told_core.specs.State.{Peer, State, told_to, who_at, with_object}
 use Rattle.said_law.proofs.Going.{at_one}
 use Rattle.said_law.proofs.Plain.{cancelled_plain, refusal_plain}
 use Rattle.said_law.specs.Said.{Account, SaysNoReply}
 use Rattle.asker_law.specs.Awaits.{IsIn, Lines, Pool, waits_in, Awaits}
 use Rattle.asker_law.proofs.Deeds.{Did}
 use Rattle.asker_law.proofs.Ends.{with_ran}
-use Rattle.asker_law.proofs.Lists.{between_in, calls_of, every_in, in_behind, left_out, set_at, set_was}
-use Rattle.asker_law.proofs.Making.{HasDone, IsMade, did_calls_for, did_submits, has_done}
+use Rattle.asker_law.proofs.Lists.{between_in, every_in, left_out, set_at, set_was}
+use Rattle.asker_law.proofs.Making.{HasDone, did_calls_for, has_done}
 use Rattle.order_law.specs.Stands.{Stands, StandsIn, Voiced, Wants, ends_by}
-use Rattle.order_law.specs.Talk.{AnswersCancel, Line, Talk, Part, Wanted, IsNoEnd, IsWanted, ends_of, texts_to}
-use Rattle.order_law.specs.Talk.Part.{Accepts, Withdraws}
-use Rattle.order_law.specs.Talk.Talk.{Away, Here}
+use Rattle.order_law.specs.Talk.{AnswersCancel, Talk, Wanted, IsNoEnd, IsWanted, ends_of, texts_to}
+use Rattle.order_law.specs.Talk.Part.{Withdraws}
 use Rattle.order_law.proofs.Ending.{all_voice, one_voice, ran_at}
-use Rattle.order_law.proofs.Lists.{WantedMoves, picked_none, ran_ends, ran_history, to_both, told_mine, told_other}
-use Rattle.order_law.proofs.Standing.{SameObjects, mine_is, same_moves, same_set, stands_map, stands_mine, stands_other, wants_set}
-use Rattle.order_law.proofs.Voicing.{Spoke, SpokeBy, spoke_as, voiced_back, voiced_both, voiced_map, voiced_none}
+use Rattle.order_law.proofs.Lists.{WantedMoves, picked_none, ran_ends, ran_history, told_other}
+use Rattle.order_law.proofs.Standing.{same_moves, same_set, stands_map, wants_set}
+use Rattle.order_law.proofs.Voicing.{SpokeBy, spoke_as, voiced_back, voiced_both, voiced_map, voiced_none}
 
 -- what went along two equations is what it was
 pub coe_twice : (account : Account) → coe 0 1 (_. Account) (coe 0 1 (_. Account) account) ≡ account

@@ -1,11 +1,9 @@
 -- What turns are in each talk, one after the other.
-use Rattle.std.proofs.Common.{◌≡◌, ◌≢◌, ◌⊎◌, inl, inr, ◌∙◌, ap, sym, subst, refl, ℕ, ◌+◌, List, [], ◌∷◌, ◌++◌, append_assoc, length}
-use Rattle.std.specs.Prelude.{Bool, true, false, ◌==◌, ◌%◌, if◌then◌else◌, Option, Some, None, slice_get, slice_set}
+use Rattle.std.proofs.Common.{◌≡◌, ◌≢◌, ◌⊎◌, inl, inr, ◌∙◌, ap, sym, subst, refl, ℕ, ◌+◌, List, [], ◌∷◌, ◌++◌, length}
+use Rattle.std.specs.Prelude.{Bool, true, false, ◌%◌, if◌then◌else◌, Option, Some, None, slice_get, slice_set}
 use Rattle.std.proofs.lemmas.Bool.Decides.{eqb_tells}
 use Rattle.std.proofs.lemmas.List.{append-nil}
-use Rattle.std.proofs.lemmas.Option.{same_Some}
 use Rattle.decl_core.specs.ObjectForm.{ObjectForm}
-use Rattle.apply_core.specs.History.{End}
 use Rattle.trace_core.specs.Events.{Called}
 use Rattle.live_core.specs.Epochs.{numbered_from}
 use Rattle.hosted_core.specs.Scene.{Scene}
@@ -14,41 +12,39 @@ use Rattle.client_core.specs.declared.client.Opened.{Opened}
 use Rattle.post_core.specs.Turns.{Asked, Turn, Runs, heard_of, line_from}
 use Rattle.post_core.specs.Turns.Asked.{Heard, Noted, Changes}
 use Rattle.post_core.specs.declared.served.LineEnd.{LineEnd}
-use Rattle.post_core.specs.declared.served.LineEnd.TheVariants as ends
 use Rattle.keep_loop.specs.Cuts.{IsCut}
-use Rattle.told_core.specs.Deeds.{Texts, Nothing, Then}
-use Rattle.told_core.specs.Gone.{Settles}
+use Rattle.told_core.specs.Deeds.{Texts}
 use Rattle.told_core.specs.Given as told
 use Rattle.told_core.specs.Moves.{BeginsHeld}
 use Rattle.told_core.specs.State.{Peer, State, who_at, who_in}
-use Rattle.told_core.specs.Turns.{HearsAt, IfHere, place_of}
-use Rattle.said_law.specs.Said.{Account, IsTrue, Says, SaysIn}
+use Rattle.told_core.specs.Turns.{place_of}
+use Rattle.said_law.specs.Said.{Account, SaysIn}
 use Rattle.said_law.proofs.Going.{no_account}
 use Rattle.table_core.specs.Moves.{Gives}
 use Rattle.table_core.specs.Seen.{seen}
 use Rattle.table_core.specs.declared.table.Table.{Table}
 use Rattle.kept_law.specs.Kept.{LeavesAnswered}
-use Rattle.kept_law.specs.Replied.{AreTold, HaveOneHistory, ends_in}
+use Rattle.kept_law.specs.Replied.{AreTold, ends_in}
 use Rattle.kept_law.proofs.Going.{crash_leaves_answered}
 use Rattle.kept_law.proofs.Living.{lives_on}
-use Rattle.asker_law.specs.Asker.{AreCut, HasSaid, end_by, said_by}
-use Rattle.asker_law.specs.Awaits.{AllHeld, AreHeard, Awaits, IsIn, Lines, SaidBy, waits_in}
+use Rattle.asker_law.specs.Asker.{AreCut, HasSaid, said_by}
+use Rattle.asker_law.specs.Awaits.{AreHeard, Awaits, IsIn, Lines, SaidBy, waits_in}
 use Rattle.asker_law.proofs.Beginning.{begins_awaits}
 use Rattle.asker_law.proofs.Deeds.{Did, did_nothing, did_two, same_awaits}
 use Rattle.asker_law.proofs.Heard.{awaits_lines, cut_last, is_here_at, own_heard, said_more}
 use Rattle.asker_law.proofs.Lines.{heard_map}
 use Rattle.asker_law.proofs.Lists.{set_was}
 use Rattle.asker_law.proofs.Places.{awaits_past}
-use Rattle.asker_law.proofs.Runs.{did_says, quiet_awaits, said_next, turns_nil, turns_on}
+use Rattle.asker_law.proofs.Runs.{did_says, quiet_awaits, said_next, turns_on}
 use Rattle.asker_law.proofs.Turning.{IsHereAt}
-use Rattle.order_law.specs.Order.{AnswersAreInOrder, AreInOrder, CrashLeavesInOrder, IsEmpty}
+use Rattle.order_law.specs.Order.{AnswersAreInOrder, CrashLeavesInOrder}
 use Rattle.order_law.specs.Stands.{Stands, StandsIn, Voiced, Wants, ends_by}
 use Rattle.order_law.specs.Talk.{Talk, Wanted, IsWanted, texts_to}
 use Rattle.order_law.specs.Talk.Part.{Hears}
 use Rattle.order_law.specs.Talk.Talk.{Away, Here}
 use Rattle.order_law.proofs.Hearing.{AllWhole, HeardSo, heard_at}
 use Rattle.order_law.proofs.Leaving.{spoke_notes}
-use Rattle.order_law.proofs.Lists.{WantedMoves, to_both}
+use Rattle.order_law.proofs.Lists.{WantedMoves}
 use Rattle.order_law.proofs.Making.{moves_set}
 use Rattle.order_law.proofs.Settling.{spoke_settles}
 use Rattle.order_law.proofs.Standing.{same_moves, same_set, stands_map, wanted_same}

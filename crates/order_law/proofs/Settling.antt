@@ -1,6 +1,6 @@
 -- What is done of lines that are held, in each talk.
 use Rattle.std.proofs.Common.{◌≡◌, ◌⊎◌, inl, inr, ◌∙◌, ap, sym, subst, refl, ℕ, zero, suc, List, [], ◌∷◌, ◌++◌}
-use Rattle.std.specs.Prelude.{Bool, true, false, ◌==◌, ◌%◌, Option, Some, None, Result, IfOk, slice_get}
+use Rattle.std.specs.Prelude.{Bool, false, Option, Some, None, Result, IfOk, slice_get}
 use Rattle.std.specs.declared.alloc.AllocError.{AllocError}
 use Rattle.std.proofs.lemmas.Option.{same_Some}
 use Rattle.line_core.specs.Runs.{NoLineFeed}

@@ -1,19 +1,17 @@
 -- Where a talk stands in a state.
-use Rattle.std.proofs.Common.{◌≡◌, ◌≢◌, ◌⊎◌, inl, inr, ◌∙◌, ap, sym, subst, refl, ℕ, zero, suc, List, [], ◌∷◌, ◌++◌, length}
-use Rattle.std.specs.Prelude.{Bool, true, false, ◌%◌, Option, Some, None, slice_get, slice_set}
+use Rattle.std.proofs.Common.{◌≡◌, ◌≢◌, ◌⊎◌, inl, inr, ◌∙◌, ap, sym, subst, refl, ℕ, zero, suc, List, [], ◌∷◌, length}
+use Rattle.std.specs.Prelude.{true, ◌%◌, Option, Some, None, slice_get, slice_set}
 use Rattle.std.proofs.lemmas.Option.{same_Some}
-use Rattle.line_core.specs.Runs.{NoLineFeed}
 use Rattle.decl_core.specs.ObjectMap.{object_of}
 use Rattle.decl_core.specs.declared.object.Object.{Object}
 use Rattle.trace_core.specs.Events.{Called}
 use Rattle.trace_core.specs.Text.{operation_name}
 use Rattle.hosted_core.specs.Scene.{Scene}
 use Rattle.client_core.specs.declared.client.Opened.{Opened}
-use Rattle.client_core.specs.Held.{is_whole_before, waits_of}
-use Rattle.told_core.specs.State.{Peer, State, change, nobody, who_in}
+use Rattle.told_core.specs.State.{Peer, change, nobody, who_in}
 use Rattle.asker_law.specs.Awaits.{IsIn, Pool, waits_in}
 use Rattle.asker_law.proofs.Lists.{changed_was, change_at, same_or_not, set_at, set_other, set_was}
-use Rattle.order_law.specs.Stands.{AreHeld, IsAt, IsWaiting, Stands, StandsIn, Wants}
+use Rattle.order_law.specs.Stands.{AreHeld, IsAt, IsWaiting, Stands, Wants}
 use Rattle.order_law.specs.Talk.{Line, Talk, Wanted, IsWanted}
 use Rattle.order_law.specs.Talk.Talk.{Away, Here}
 use Rattle.order_law.proofs.Lists.{WantedMoves}

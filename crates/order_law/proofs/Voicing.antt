@@ -1,14 +1,12 @@
 -- What deeds are in a talk.
-use Rattle.std.proofs.Common.{◌≡◌, ◌⊎◌, inl, inr, ◌∙◌, ap, sym, subst, refl, ℕ, List, [], ◌∷◌, ◌++◌}
-use Rattle.std.specs.Prelude.{Option, Some, None, slice_get}
+use Rattle.std.proofs.Common.{◌≡◌, ◌∙◌, ap, sym, subst, refl, ℕ, List, [], ◌∷◌, ◌++◌}
+use Rattle.std.specs.Prelude.{Option, None}
 use Rattle.std.proofs.lemmas.List.{append-nil}
 use Rattle.decl_core.specs.ObjectForm.{ObjectForm}
 use Rattle.decl_core.specs.ObjectMap.{object_of}
 use Rattle.decl_core.specs.declared.object.Object.{Object}
 use Rattle.apply_core.specs.History.{End}
-use Rattle.trace_core.specs.Events.{history_of}
 use Rattle.trace_core.specs.Text.{operation_name}
-use Rattle.replay_core.specs.Steps.{happened_of}
 use Rattle.hosted_core.specs.Scene.{Scene}
 use Rattle.post_core.specs.Texts.{to}
 use Rattle.post_core.specs.declared.served.LineEnd.{LineEnd}
@@ -21,7 +19,7 @@ use Rattle.asker_law.proofs.Deeds.{Did, all_object, was_at, did_nothing, did_two
 use Rattle.order_law.specs.Stands.{StandsIn, Voiced, ends_by}
 use Rattle.order_law.specs.Talk.{Line, Talk, Part, Wanted, Course, lines_of, texts_of, ends_of, AllKept, ArePicked, IsAtOnce, IsIdle, IsNoEnd, texts_to}
 use Rattle.order_law.specs.Talk.Part.{Answers, Between}
-use Rattle.order_law.specs.Talk.Talk.{Away, Here}
+use Rattle.order_law.specs.Talk.Talk.{Here}
 use Rattle.order_law.proofs.Lists.{WantedMoves, course_both, ends_both, history_both, kept_both, kept_map, lines_both, picked_both, texts_both, to_both}
 
 -- nothing of it
