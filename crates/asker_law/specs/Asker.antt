@@ -1,5 +1,5 @@
 -- Each reply that a connection is told is that of the call for which a line of it asked.
-use Rattle.std.specs.Prelude.{◌≡◌, ◌⊎◌, ◌<◌, ℕ, Bool, true, false, List, [], ◌∷◌, ◌++◌, Some, None, slice_get}
+use Rattle.std.specs.Prelude.{◌≡◌, ◌⊎◌, ◌<◌, ℕ, Bool, true, false, List, [], ◌∷◌, ◌++◌}
 use Rattle.std.specs.Str.Lines.{strip_carriage_return}
 use Rattle.session_text.specs.Lines.{accepted_text}
 use Rattle.hosted_core.specs.Scene.{told_of}
