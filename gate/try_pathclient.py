@@ -1043,7 +1043,7 @@ def judged(folder):
         text = "".join((OBJECTS / f"{it}.pp").read_text(encoding="ascii") for it in names)
         (folder / f"made{is_aio}.py").write_text(stubs.stubs(text, is_aio, "objects"))
     (folder / "program.py").write_text("""from madeFalse import PhoneBook, PrintSpooler
-from clients.python.pathclient import Refused
+from pathclient import Refused
 with PrintSpooler(7000) as printer, printer.holding_fetch(within=1) as job:
     page: str = job + "x"
 with PhoneBook(7000) as book:
