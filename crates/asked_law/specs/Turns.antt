@@ -18,10 +18,9 @@ use Rattle.told_core.specs.Deeds.{Texts}
 use Rattle.told_core.specs.State.{Peer, State, opened_in}
 use Rattle.said_law.specs.Said.{Account, HasRun, HasRemembered, SaysIn, SaysNoReply}
 use Rattle.table_core.specs.Moves.{Gives}
-use Rattle.table_core.specs.Seen.{seen}
+use Rattle.table_core.specs.Seen.{IsQuiet, seen}
 use Rattle.table_core.specs.declared.table.Table.{Table}
 use Rattle.kept_law.specs.Replied.{HaveOneHistory}
-use Rattle.asker_law.specs.Asker.{IsQuiet}
 use Rattle.asker_law.specs.Awaits.{IsIn, AllHeld}
 use Rattle.asked_law.specs.Asked.{AreAsked, ClientHas, IsAskedOf, IsHere}
 

@@ -157,7 +157,8 @@ module _ (heard : Lines) where
         apart = is.apart;
         before = is.before;
         there = is.there;
-        custody = is.custody;
+        known = is.known;
+      custody = is.custody;
         has = is.has;
         owed = is.owed;
         taken = is.taken;
