@@ -158,7 +158,7 @@ module _ (heard : Lines) where
         before = is.before;
         there = is.there;
         known = is.known;
-      custody = is.custody;
+        custody = is.custody;
         has = is.has;
         owed = is.owed;
         taken = is.taken;
