@@ -385,9 +385,9 @@ def try_not_run(count, where, text):
             # A program of the system or of the kit: whether it is installed is not the document's business.
             count.passed += 1
         elif count.is_so(path.exists() and os.access(path, os.X_OK), where, f"no program {words[0]}") and words[0].startswith(("tools/", "gate/")):
-            # (a command of a package is two lines: what it knows stands in its module)
-            module = path.with_name(path.name + ".py")
-            source = (module if module.is_file() else path).read_text(encoding="utf-8")
+            # (a command in Python only hands its words on to the module of its name)
+            module = path.with_name(f"{path.name}.py")
+            source = (module if module.exists() else path).read_text(encoding="utf-8")
             for flag in (it for it in words if it.startswith("--")):
                 count.is_so(flag in source, where, f"{words[0]} knows no {flag}")
 
