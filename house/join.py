@@ -14,6 +14,12 @@ A plan has a block a join; lines behind `#` are comments:
       about TEXT                    a line of the head of lib.rt, above the heads of the parts; each `about` is one line
       edit NAME ..                  the wrong bodies that are kept, where the parts have more than ten
                                     (else as many of each part, in the order of their names)
+      why TEXT                      why these belong together (said by --why alone)
+      reason TEXT                   why CRATE may be over a limit; docs/DECISIONS.md gets it
+    alone CRATE: TEXT               a crate that is in no join, and why
+
+A part that crates.txt does not have is passed over, and told; a block of which one part is left does nothing. So a plan may
+name crates that come, or that another branch takes away. At the end stands which crates are in no block.
 
 The first part keeps all its names: CRATE itself where it is a part. A module, a file of specs/ or one of proofs/ of
 another part whose name is taken gets the name of its part before it. A join is done once: where its parts are gone and
@@ -93,6 +99,12 @@ class Join:
     def __init__(self, crate, parts):
         self.crate, self.parts = crate, parts
         self.short, self.module, self.row, self.at, self.about, self.edit = {}, {}, None, None, [], []
+        self.also, self.why, self.reason = {}, None, None
+
+
+def alone_of(text):
+    """The crates that a plan leaves as they are."""
+    return re.findall(r"^alone (\w+):", text, re.M)
 
 
 def plan_of(text):
@@ -100,7 +112,7 @@ def plan_of(text):
     found = []
     for number, line in enumerate(text.splitlines(), 1):
         words = line.split() if not line.startswith("#") else []
-        if not words:
+        if not words or words[0] == "alone":
             continue
         if words[0] == "join":
             need(len(words) > 2 and words[1].endswith(":"), f"plan:{number}: join CRATE: PART ..")
@@ -116,6 +128,12 @@ def plan_of(text):
             one.row = rest
         elif words[0] == "at" and len(words) == 2:
             one.at = words[1]
+        elif words[0] == "also" and len(words) > 2:
+            one.also[words[1]] = rest.split(None, 1)[1]
+        elif words[0] == "why":
+            one.why = rest
+        elif words[0] == "reason":
+            one.reason = rest
         elif words[0] == "about":
             one.about.append(rest)
         elif words[0] == "edit":
@@ -397,12 +415,17 @@ def lemma_root(names, part):
 
 def new_lines(top, join, lines):
     """crates.txt as it is then."""
-    flags, uses, parts = collections.Counter(), [], set(join.parts)
+    flags, uses, parts = {}, [], set(join.parts)
     for it in join.parts:
         for flag in lines[it][0]:
             word, _, value = flag.partition("=")
-            need(value.isdigit(), f"{it} has {flag}")
-            flags[word] += int(value)
+            if value.isdigit():
+                flags[word] = flags.get(word, 0) + int(value)
+            else:
+                # Handles, in the order in which they are written.
+                both = {*flags.get(word, "").split("+"), *value.split("+")}
+                flags[word] = "+".join(it for it in ("Threads", "Wait", "Net", "Processes") if it in both)
+                need(both - {""} <= {"Threads", "Wait", "Net", "Processes"}, f"{it} has {flag}")
         uses += [use for use in lines[it][1] if use not in parts and use not in uses]
     order = list(lines)
     uses.sort(key=lambda it: (it not in lines, order.index(it) if it in lines else 0))
@@ -456,15 +479,20 @@ def architecture(text, join, names):
             part_rows.add(at)
     lacking = set(names.parts) - set(told)
     need(not lacking, f"docs/ARCHITECTURE.md has no row for {' '.join(lacking)}")
-    need(join.at in (None, *names.parts), f"{join.crate} stands at {join.at}, which is no part")
-    last = next((at for at, mine in rows.items() if join.at in mine), max(rows))
-    row = f"| `{join.crate}` | {join.row or '; '.join(dict.fromkeys(told[it].rstrip('.') for it in names.order))} |"
+    last = next((at for at, mine in rows.items() if join.at in mine), None)
+    other = next((at for at, line in enumerate(lines) if join.at and line.startswith(f"| `{join.at}` |")), None)
+    need(join.at is None or last is not None or other is not None, f"{join.crate} stands at {join.at}, which has no row")
+    last = last if last is not None else other if other is not None else max(rows)
+    more = "".join(f"; {text}" for it, text in join.also.items() if it in names.parts)
+    row = f"| `{join.crate}` | {join.row + more if join.row else '; '.join(dict.fromkeys(told[it].rstrip('.') for it in names.order))} |"
     kept = []
     for at, line in enumerate(lines):
-        if at == last:
+        if at == last and last in rows:
             kept.append(row)
         if at not in rows or at in part_rows:
             kept.append(line)
+        if at == last and last not in rows:
+            kept.append(row)
     return "\n".join(kept)
 
 
@@ -514,13 +542,13 @@ def work(top, join, dry):
     """Does one join, and returns what there is to say."""
     lines = crates(top)
     gone = [it for it in join.parts if it not in lines]
-    if join.crate in lines and {it for it in join.parts if it != join.crate} <= set(gone):
-        return [f"{join.crate}: joined already"]
-    need(not gone, f"{join.crate}: crates.txt has no {', '.join(gone)}")
+    join.parts = [it for it in join.parts if it in lines]
+    if len({*join.parts, join.crate} & set(lines)) < 2:
+        return [f"{join.crate}: nothing to join{' any more' * (join.crate in lines)}: crates.txt has no {', '.join(gone)}"]
     need(join.crate in join.parts or join.crate not in lines, f"{join.crate} is another crate")
     names = Names(top, lines, join)
     to = places(join, names)
-    said = [f"{join.crate}: {' '.join(names.order)}", *(f"  {it}" for it in names.renamed)]
+    said = [f"{join.crate}: {' '.join(names.order)}", *(f"  not there: {it}" for it in gone), *(f"  {it}" for it in names.renamed)]
     said += [f"  no more: {file.relative_to(top)}" for file, place in to.items() if place is None]
     # What is written: the new texts by their paths.
     new = {top / "crates.txt": new_lines(top, join, lines)}
@@ -610,6 +638,68 @@ def work(top, join, dry):
             folder.rmdir()
     for file, text in new.items():
         write(file, text)
+    return said
+
+
+FUNCTION = re.compile(r"^\s*(?:pub(?:\([^)]*\))? )?(?:const )?fn \w+", re.M)
+ABOVE = "## Crates over a hundred functions"
+
+
+def reasons(top, plan):
+    """Writes into docs/DECISIONS.md why crates of the plan have more than 100 functions, each with how many it has."""
+    rows, said = [], []
+    for join in plan:
+        folder = top / "crates" / join.crate / "src"
+        count = sum(len(FUNCTION.findall(read(it))) for it in folder.rglob("*.rt")) if folder.is_dir() else 0
+        if count > 100:
+            said += [f"{join.crate}: {count} functions" + (", and the plan has no reason" if not join.reason else "")]
+            rows += [f"- **`{join.crate}`** ({count}): {join.reason}"] if join.reason else []
+    file = top / "docs" / "DECISIONS.md"
+    text = read(file)
+    if rows and ABOVE not in text:
+        head, mark, rest = text.partition("\n## `text_core`" if "\n## `text_core`" in text else "\n## `path_")
+        need(mark, "docs/DECISIONS.md has no section for the first crate")
+        lines = [ABOVE, "", *(part for row in rows for part in wrapped(row))]
+        write(file, f"{head}\n" + "\n".join(lines) + f"\n{mark}{rest}")
+    return said
+
+
+def wrapped(row, width=120):
+    """The lines of an entry of a list."""
+    lines = [""]
+    for word in row.split():
+        if lines[-1] and len(lines[-1]) + 1 + len(word) > width:
+            lines.append("  " + word)
+        else:
+            lines[-1] += f" {word}" if lines[-1] else word
+    return lines
+
+
+def words_of(top):
+    """Puts into documents what house/words.txt has for lines that would speak of one crate as of two: its blocks are a line
+    `in FILE`, the lines that go, each behind `-`, and those that come, each behind `+`."""
+    file, said, path, old, new = pathlib.Path(__file__).resolve().parent / "words.txt", [], None, [], []
+    if not file.exists():
+        return said
+
+    def put():
+        if not path or not old:
+            return
+        text, gone, come = read(top / path), "\n".join(old) + "\n", "".join(f"{it}\n" for it in new)
+        if text.count(gone) == 1:
+            write(top / path, text.replace(gone, come))
+        elif come not in text or not come:
+            said.append(f"{path}: stands {text.count(gone)} times, so it is left: {old[0][:100]}")
+
+    for line in [*file.read_text(encoding="utf-8").splitlines(), ""]:
+        if line[:1] == "-" and not new:
+            old.append(line[1:])
+        elif line[:1] == "+":
+            new.append(line[1:])
+        else:
+            put()
+            old, new = ([line[1:]] if line[:1] == "-" else []), []
+            path = line[3:] if line.startswith("in ") else path
     return said
 
 
@@ -708,18 +798,28 @@ def main():
     if bool(given.plan) == given.look:
         words.error("either --plan FILE or --look")
     top = given.top.resolve()
-    try:
-        for join in plan_of(read(given.plan)) if given.plan else ():
-            if not given.only or join.crate in given.only:
-                print("\n".join(work(top, join, given.dry)), flush=True)
-    except Fault as why:
-        print(f"house/join.py: {why}", file=sys.stderr)
-        return 1
+    faults, plan = [], []
+    if given.plan:
+        # What is untracked would be moved too.
+        plan = plan_of(read(given.plan))
+        left = set(crates(top)) - {it for join in plan for it in (join.crate, *join.parts)} - set(alone_of(read(given.plan)))
+        print("".join(f"{it}: in no block of the plan\n" for it in sorted(left)), end="")
+    for join in plan:
+        if given.only and join.crate not in given.only:
+            continue
+        try:
+            print("\n".join(work(top, join, given.dry)), flush=True)
+        except Fault as why:
+            # Of this block nothing was written; the others need it not.
+            faults.append(f"house/join.py: {join.crate}: {why}")
+            print(faults[-1], flush=True)
     if given.dry:
-        return 0
+        return 1 if faults else 0
+    if plan and not given.only:
+        print("\n".join(reasons(top, plan) + words_of(top)), flush=True)
     said = look(top)
-    print("\n".join(said + [f"look: {len(said)} names lead nowhere, {len(crates(top))} crates"]))
-    return 1 if said else 0
+    print("\n".join(faults + said + [f"look: {len(said)} names lead nowhere, {len(crates(top))} crates, {len(faults)} blocks not done"]))
+    return 1 if said or faults else 0
 
 
 if __name__ == "__main__":
