@@ -13,7 +13,7 @@ A plan has a block a join; lines behind `#` are comments:
       at PART                         the layer: its row stands where that of PART stood (else where the last of them did)
       about TEXT                    a line of the head of lib.rt, above the heads of the parts; each `about` is one line
       edit NAME ..                  the wrong bodies that are kept, where the parts have more than ten
-                                    (else as many of each part, in the order of their names)
+                                    (else as many of each part, first of different functions)
       why TEXT                      why these belong together (said by --why alone)
       reason TEXT                   why CRATE may be over a limit; docs/DECISIONS.md gets it
     alone CRATE: TEXT               a crate that is in no join, and why
@@ -338,9 +338,22 @@ class Names:
         return self.code(text, own) if not text.lstrip().startswith("--") else self.lemma(text)
 
 
+CLAUSE = re.compile(r"^clause: .* of (\S+)", re.M)
+
+
+def by_functions(files):
+    """Files of edits in the order of their names, but first one for each function whose clause refuses one."""
+    first, rest, seen = [], [], set()
+    for file in sorted(files):
+        told = CLAUSE.search(read(file)) if file.suffix == ".edit" else None
+        (rest if told is None or told[1] in seen else first).append(file)
+        seen.update(told and [told[1]] or [])
+    return first + rest
+
+
 def chosen_edits(join, names, folder):
     """The wrong bodies that are kept in a folder: each as its file and its new name."""
-    of = {it: sorted((names.parts[it].folder / folder).glob("*")) if (names.parts[it].folder / folder).is_dir() else [] for it in names.order}
+    of = {it: by_functions((names.parts[it].folder / folder).glob("*")) if (names.parts[it].folder / folder).is_dir() else [] for it in names.order}
     every = [(it, file) for it in names.order for file in of[it]]
     if folder == "wrong-bodies" and sum(file.suffix == ".edit" for _, file in every) > MOST_EDITS:
         if join.edit:
@@ -496,12 +509,6 @@ def architecture(text, join, names):
     return "\n".join(kept)
 
 
-def without_repeats(text, crate):
-    """`C`, `C` and `C` said once, and a list of crates in a string of a tool without a word twice."""
-    text = re.sub(rf"(`{crate}`)(?:(?:,| and|, and) `{crate}`)+", r"\1", text)
-    return text
-
-
 def tool(text, names):
     """A tool of gate/ or a list: words of a string that are crates stand once in neighbouring strings."""
     text = names.plain(text)
@@ -603,7 +610,7 @@ def work(top, join, dry):
         elif path.suffix == ".md":
             if str(path) == "docs/ARCHITECTURE.md":
                 text = architecture(text, join, names)
-            after = without_repeats(names.plain(text), join.crate)
+            after = names.plain(text)
         elif str(path) == "gate/public_calls.txt":
             after = names.plain(without_open(text, names, said))
         elif path.parts[0] in ("gate", "tools", "bench"):
@@ -673,6 +680,38 @@ def wrapped(row, width=120):
         else:
             lines[-1] += f" {word}" if lines[-1] else word
     return lines
+
+
+ITEM = r"(?:\*\*)?`\w+`(?:\*\*)?"
+LIST = re.compile(rf"{ITEM}(?:(?:,| and|, and)\s+{ITEM})+")
+
+
+def lists(top):
+    """Takes crates that a list of a document names again out of it."""
+    known = set(crates(top))
+
+    def once(found):
+        words = re.split(rf"({ITEM})", found[0])[1:-1]
+        items, marks = words[::2], words[1::2]
+        kept, seen = [], set()
+        for it, mark in zip(items, ["", *marks]):
+            name = it.strip("*`")
+            if name in known and name in seen:
+                continue
+            seen.add(name)
+            kept.append((mark, it))
+        if len(kept) == len(items):
+            return found[0]
+        if len(kept) > 1 and "and" in marks[-1] and "and" not in kept[-1][0]:
+            kept[-1] = (kept[-1][0].replace(",", " and", 1), kept[-1][1])
+        return kept[0][1] + "".join(mark + it for mark, it in kept[1:])
+
+    for file in listed(top):
+        if file.suffix == ".md" and str(file.relative_to(top)) not in LEFT and file.relative_to(top).parts[0] != "house":
+            text = read(file)
+            after = LIST.sub(once, text)
+            if after != text:
+                write(file, after)
 
 
 def words_of(top):
@@ -816,6 +855,7 @@ def main():
     if given.dry:
         return 1 if faults else 0
     if plan and not given.only:
+        lists(top)
         print("\n".join(reasons(top, plan) + words_of(top)), flush=True)
     said = look(top)
     print("\n".join(faults + said + [f"look: {len(said)} names lead nowhere, {len(crates(top))} crates, {len(faults)} blocks not done"]))
