@@ -81,8 +81,12 @@ def write(path, text):
 
 def crates(top):
     """The lines of crates.txt by their crates: each the words before the colon and those behind it."""
+    return lines_of(read(top / "crates.txt"))
+
+
+def lines_of(text):
     found = {}
-    for line in read(top / "crates.txt").splitlines():
+    for line in text.splitlines():
         head, _, rest = line.partition("#")[0].partition(":")
         if head.split():
             found[head.split()[0]] = (head.split()[1:], rest.replace(",", " ").split())
@@ -226,12 +230,6 @@ class Names:
         need(not twice, f"the root would hand on {', '.join(twice)} twice")
         clash = set(exported) & set(self.modules.values())
         need(not clash, f"the root has a module and a name {', '.join(clash)}")
-        union = "|".join(sorted(map(re.escape, self.parts), key=len, reverse=True))
-        self.any_part = re.compile(rf"(?<![\w])(?:{union})(?![\w])")
-        self.in_antt = re.compile(rf"\bRattle\.({union})((?:\.\w+)*)")
-        self.in_rust = re.compile(rf"(?<![\w:.$])({union}|crate)((?:::\w+)+)(?![\w])")
-        self.in_text = re.compile(rf"(?<![\w:.$])({union})((?:::\w+)+)(?![\w])")
-        self.in_path = re.compile(rf"(?<![\w])({union})/((?:src|specs|proofs|wrong-bodies|wrong-by-\w+)/[\w./+-]+)")
 
     def antt_path(self, part, words):
         """The words behind Rattle.PART, as they are in the joined crate."""
@@ -254,12 +252,6 @@ class Names:
         words[0] = self.modules.get((part, words[0]), words[0])
         return words
 
-    def antt(self, text):
-        def new(found):
-            words = found[2].split(".")[1:]
-            return ".".join(["Rattle", self.crate, *self.antt_path(found[1], words)])
-        return self.in_antt.sub(new, text)
-
     def file_path(self, part, path):
         """The path of a file of a part in the joined crate."""
         words = path.split("/")
@@ -273,24 +265,42 @@ class Names:
             words[1] = self.modules.get((part, stem), stem)
         return "/".join(words)
 
+
+class All:
+    """All joins of a run: each text is gone through once."""
+
+    def __init__(self, every):
+        self.of = {part: names for names in every for part in names.parts}
+        self.joined = {names.crate for names in every}
+        union = "|".join(sorted(map(re.escape, self.of), key=len, reverse=True))
+        self.any_part = re.compile(rf"(?<![\w])(?:{union})(?![\w])")
+        self.in_antt = re.compile(rf"\bRattle\.({union})((?:\.\w+)*)")
+        self.in_rust = re.compile(rf"(?<![\w:.$])({union}|crate)((?:::\w+)+)(?![\w])")
+        self.in_text = re.compile(rf"(?<![\w:.$])({union})((?:::\w+)+)(?![\w])")
+        self.in_path = re.compile(rf"(?<![\w])({union})/((?:src|specs|proofs|wrong-bodies|wrong-by-\w+)/[\w./+-]+)")
+
+    def antt(self, text):
+        def new(found):
+            names = self.of[found[1]]
+            return ".".join(["Rattle", names.crate, *names.antt_path(found[1], found[2].split(".")[1:])])
+        return self.in_antt.sub(new, text)
+
     def code(self, text, own):
         """A source of the crate `own`, with each name as it is then."""
-        inside = own in self.parts
-        words = [*self.parts, "crate::"] if inside else list(self.parts)
+        mine = self.of.get(own)
 
         def line_of(line):
-            if not any(it in line for it in words):
+            if not (mine and "crate::" in line) and not self.any_part.search(line):
                 return line
             is_comment = line.lstrip().startswith("//")
 
             def new(found):
                 head, words = found[1], found[2].split("::")[1:]
                 if head == "crate":
-                    if not inside:
-                        return found[0]
-                    return "::".join(["crate", *self.rust_path(own, words)])
-                here = "crate" if inside and not is_comment else self.crate
-                return "::".join([here, *self.rust_path(head, words)])
+                    return "::".join(["crate", *mine.rust_path(own, words)]) if mine else found[0]
+                names = self.of[head]
+                here = "crate" if names is mine and not is_comment else names.crate
+                return "::".join([here, *names.rust_path(head, words)])
 
             before = line
             line = self.in_rust.sub(new, self.antt(line))
@@ -304,15 +314,17 @@ class Names:
         return "\n".join(map(line_of, text.split("\n")))
 
     def lemma(self, text):
-        lines = self.antt(text).split("\n")
-        return "\n".join(self.plain(it) if it.lstrip().startswith("--") else it for it in lines)
+        text = self.antt(text)
+        if "--" not in text:
+            return text
+        return "\n".join(self.plain(it) if it.lstrip().startswith("--") else it for it in text.split("\n"))
 
     def plain(self, text):
         """A text of a document or a comment."""
-        text = self.in_path.sub(lambda it: f"{self.crate}/{self.file_path(it[1], it[2])}", text)
+        text = self.in_path.sub(lambda it: f"{self.of[it[1]].crate}/{self.of[it[1]].file_path(it[1], it[2])}", text)
         text = self.antt(text)
-        text = self.in_text.sub(lambda it: "::".join([self.crate, *self.rust_path(it[1], it[2].split("::")[1:])]), text)
-        return self.any_part.sub(self.crate, text)
+        text = self.in_text.sub(lambda it: "::".join([self.of[it[1]].crate, *self.of[it[1]].rust_path(it[1], it[2].split("::")[1:])]), text)
+        return self.any_part.sub(lambda it: self.of[it[0]].crate, text)
 
     def edit(self, text, own):
         """A wrong body of the crate `own`."""
@@ -323,19 +335,38 @@ class Names:
             if word == "file":
                 other = re.match(r"\.\./(\w+)/(.*)", rest)
                 at = other[1] if other else own
-                if at in self.parts:
-                    rest = self.file_path(at, other[2] if other else rest)
-                    there = self.crate
-                    line = f"file: {rest}" if own in self.parts else f"file: ../{there}/{rest}"
+                if at in self.of:
+                    rest = self.of[at].file_path(at, other[2] if other else rest)
+                    there = self.of[at]
+                    line = f"file: {rest}" if there is self.of.get(own) else f"file: ../{there.crate}/{rest}"
             elif word in ("old", "new"):
-                line = f"{word}: {self.code_line(rest, at)}"
+                line = f"{word}: {self.code(rest, at) if not rest.lstrip().startswith('--') else self.lemma(rest)}"
             elif word not in ("clause", "case", "gone", "told"):
                 line = self.plain(line)
             lines.append(line)
         return "\n".join(lines)
 
-    def code_line(self, text, own):
-        return self.code(text, own) if not text.lstrip().startswith("--") else self.lemma(text)
+    def tool(self, text):
+        """A tool of gate/ or a list: words of a string that are crates stand once in neighbouring strings."""
+        def once(found):
+            seen = set()
+
+            def one(word):
+                if word[1] in seen:
+                    return ""
+                seen.add(word[1])
+                return word[0]
+            return re.sub(rf"\b({'|'.join(self.joined)})\b ?", one, found[0])
+
+        # Strings of nothing but names of crates, one behind the other.
+        return re.sub(r'"(?:[a-z_0-9]+ ?){2,}"(?:\s*"(?:[a-z_0-9]+ ?)+")*', once, self.plain(text))
+
+    def many(self, line):
+        """Whether a line names several parts of one join."""
+        found = collections.defaultdict(set)
+        for it in self.any_part.findall(line):
+            found[self.of[it].crate].add(it)
+        return any(len(it) > 1 for it in found.values())
 
 
 CLAUSE = re.compile(r"^clause: .* of (\S+)", re.M)
@@ -403,14 +434,14 @@ def places(join, names):
     return found
 
 
-def root_of(join, names):
+def root_of(join, names, every):
     """The src/lib.rt of the joined crate."""
     head = list(join.about)
     for it in names.order:
         text = names.parts[it].head()
-        head += [""] * bool(head) + [names.plain(line) for line in text]
+        head += [""] * bool(head) + [every.plain(line) for line in text]
     modules = sorted((names.modules[it, name], sight) for it in names.order for name, sight in names.parts[it].modules.items())
-    exports = [names.code(line, it) for it in names.order for line in names.parts[it].exports()[0]]
+    exports = [every.code(line, it) for it in names.order for line in names.parts[it].exports()[0]]
     exports = [line.replace("pub use crate::", "pub use ") for line in exports]
     text = "".join(f"//! {line}".rstrip() + "\n" for line in head) + "#![tactic(auto)]\n\n"
     text += "".join(f"{sight}mod {name};\n" for name, sight in modules)
@@ -426,8 +457,9 @@ def lemma_root(names, part):
     return "".join(rows)
 
 
-def new_lines(top, join, lines):
+def new_lines(old, join):
     """crates.txt as it is then."""
+    lines = lines_of(old)
     flags, uses, parts = {}, [], set(join.parts)
     for it in join.parts:
         for flag in lines[it][0]:
@@ -445,7 +477,7 @@ def new_lines(top, join, lines):
     own = " ".join([join.crate, *(f"{word}={count}" for word, count in flags.items())]) + ":" + "".join(f" {it}" for it in uses)
     text, last = [], max(order.index(it) for it in join.parts)
     place = 0
-    for line in read(top / "crates.txt").splitlines():
+    for line in old.splitlines():
         head, _, rest = line.partition(":")
         name = head.split()[0] if head.split() and not head.startswith("#") else None
         if name is None:
@@ -509,25 +541,6 @@ def architecture(text, join, names):
     return "\n".join(kept)
 
 
-def tool(text, names):
-    """A tool of gate/ or a list: words of a string that are crates stand once in neighbouring strings."""
-    text = names.plain(text)
-    crate = names.crate
-
-    def once(found):
-        seen = [False]
-
-        def one(word):
-            if seen[0]:
-                return ""
-            seen[0] = True
-            return word[0]
-        return re.sub(rf"\b{crate}\b ?", one, found[0])
-
-    # Strings of nothing but names of crates, one behind the other.
-    return re.sub(r'"(?:[a-z_0-9]+ ?){2,}"(?:\s*"(?:[a-z_0-9]+ ?)+")*', once, text)
-
-
 def without_open(text, names, said):
     """gate/public_calls.txt without the rows of parts that are open, where not all of them are; one row where all are."""
     rows = [it for it in names.order if f"{it}: open\n" in text]
@@ -545,107 +558,122 @@ def listed(top):
     return sorted({top / it for it in found if it and (top / it).is_file()})
 
 
-def work(top, join, dry):
-    """Does one join, and returns what there is to say."""
-    lines = crates(top)
-    gone = [it for it in join.parts if it not in lines]
-    join.parts = [it for it in join.parts if it in lines]
-    if len({*join.parts, join.crate} & set(lines)) < 2:
-        return [f"{join.crate}: nothing to join{' any more' * (join.crate in lines)}: crates.txt has no {', '.join(gone)}"]
-    need(join.crate in join.parts or join.crate not in lines, f"{join.crate} is another crate")
-    names = Names(top, lines, join)
-    to = places(join, names)
-    said = [f"{join.crate}: {' '.join(names.order)}", *(f"  not there: {it}" for it in gone), *(f"  {it}" for it in names.renamed)]
-    said += [f"  no more: {file.relative_to(top)}" for file, place in to.items() if place is None]
-    # What is written: the new texts by their paths.
-    new = {top / "crates.txt": new_lines(top, join, lines)}
-    home = top / "crates" / join.crate
-    count = collections.Counter()
-    for file, place in to.items():
-        if place is None:
-            continue
-        own = file.relative_to(top / "crates").parts[0]
-        part = pathlib.PurePath(place).parts[0]
-        count[part] += 1
-        if pathlib.PurePath(place).name in ("lib.rt", "Lib.antt"):
+def work(top, joins, dry):
+    """Does the joins that can be done. Returns why others are not."""
+    faults, done = [], []
+    listing = read(top / "crates.txt")
+    moved, texts = {}, {}
+    for join in joins:
+        lines = lines_of(listing)
+        gone = [it for it in join.parts if it not in lines]
+        join.parts = [it for it in join.parts if it in lines]
+        if len({*join.parts, join.crate} & set(lines)) < 2:
+            print(f"{join.crate}: nothing to join{' any more' * (join.crate in lines)}: crates.txt has no {', '.join(gone)}")
             continue
         try:
-            text = read(file)
-        except UnicodeDecodeError:
-            raise Fault(f"{file} is no text") from None
-        if file.suffix == ".rt":
-            text = names.code(text, own)
-        elif file.suffix == ".antt":
-            text = names.lemma(text)
-        elif part in EDITS:
-            text = names.edit(text, own)
-        new[home / place] = text
-    new[home / "src" / "lib.rt"] = root_of(join, names)
-    for part in ("specs", "proofs"):
-        if any((names.parts[it].folder / part).is_dir() for it in names.order):
-            new[home / part / "Lib.antt"] = lemma_root(names, part)
-    moved = set(to)
+            need(join.crate in join.parts or join.crate not in lines, f"{join.crate} is another crate")
+            twice = [it for it in join.parts for other, _, _ in done if it in other.parts or it == other.crate]
+            need(not twice, f"{', '.join(twice)} is of two joins")
+            names = Names(top, lines, join)
+            to = places(join, names)
+            listing = new_lines(listing, join)
+        except Fault as why:
+            # Of this block nothing is done; the others need it not.
+            faults.append(f"house/join.py: {join.crate}: {why}")
+            continue
+        done.append((join, names, to))
+        print("\n".join([f"{join.crate}: {' '.join(names.order)}", *(f"  not there: {it}" for it in gone), *(f"  {it}" for it in names.renamed),
+                         *(f"  no more: {file.relative_to(top)}" for file, place in to.items() if place is None)]), flush=True)
+    if not done:
+        return faults
+    every = All([names for _, names, _ in done])
+    # What is written: the new texts by their paths.
+    new = {top / "crates.txt": listing}
+    for join, names, to in done:
+        home = top / "crates" / join.crate
+        moved.update(to)
+        for file, place in to.items():
+            if place is None or pathlib.PurePath(place).name in ("lib.rt", "Lib.antt"):
+                continue
+            own = file.relative_to(top / "crates").parts[0]
+            try:
+                text = read(file)
+            except UnicodeDecodeError:
+                raise Fault(f"{file} is no text") from None
+            if file.suffix == ".rt":
+                text = every.code(text, own)
+            elif file.suffix == ".antt":
+                text = every.lemma(text)
+            elif pathlib.PurePath(place).parts[0] in EDITS:
+                text = every.edit(text, own)
+            # Nothing is lost: as many lines as before.
+            need(text.count("\n") == read(file).count("\n"), f"{file}: another number of lines")
+            new[home / place] = text
+        new[home / "src" / "lib.rt"] = root_of(join, names, every)
+        for part in ("specs", "proofs"):
+            if any((names.parts[it].folder / part).is_dir() for it in names.order):
+                new[home / part / "Lib.antt"] = lemma_root(names, part)
     for file in listed(top):
         path = file.relative_to(top)
-        if file in moved or str(path) in LEFT or path.parts[0] == "house" or file in new and file.name == "crates.txt":
+        if file in moved or str(path) in LEFT or path.parts[0] == "house" or path.name == "crates.txt":
             continue
         try:
             text = read(file)
         except UnicodeDecodeError:
             continue
-        if not any(it in text for it in names.parts) or not names.any_part.search(text):
+        if not every.any_part.search(text):
             continue
+        said = []
         if path.parts[0] == "crates":
             own = path.parts[1]
             if file.suffix == ".rt":
-                after = names.code(text, own)
+                after = every.code(text, own)
             elif file.suffix == ".antt":
-                after = names.lemma(text)
+                after = every.lemma(text)
             elif path.parts[2] in EDITS:
-                after = names.edit(text, own)
+                after = every.edit(text, own)
             else:
-                after = names.plain(text)
+                after = every.plain(text)
         elif path.name == "wrong-bodies.tried":
-            after = "".join(it for it in text.splitlines(True) if it.split()[0] not in names.parts)
+            after = "".join(it for it in text.splitlines(True) if it.split()[0] not in every.of)
         elif path.suffix == ".md":
             if str(path) == "docs/ARCHITECTURE.md":
-                text = architecture(text, join, names)
-            after = names.plain(text)
+                for join, names, _ in done:
+                    text = architecture(text, join, names)
+            after = every.plain(text)
         elif str(path) == "gate/public_calls.txt":
-            after = names.plain(without_open(text, names, said))
+            for _, names, _ in done:
+                text = without_open(text, names, said)
+            after = every.plain(text)
         elif path.parts[0] in ("gate", "tools", "bench"):
-            after = tool(text, names)
+            after = every.tool(text)
         else:
-            after = names.plain(text)
-        if after != text or str(path) == "docs/ARCHITECTURE.md":
+            after = every.plain(text)
+        if after != read(file):
             new[file] = after
-            count["other files"] += path.parts[0] == "crates"
-            if path.parts[0] != "crates" and path.name not in ("wrong-bodies.tried", "ARCHITECTURE.md"):
-                pairs = zip(read(file).split("\n"), after.split("\n"))
-                said += [f"  {path}:{at}: {b.strip()[:140]}" for at, (a, b) in enumerate(pairs, 1)
-                         if a != b and len(set(names.any_part.findall(a))) > 1]
-    # Nothing is lost: as many lines as before, but roots.
-    for file, place in to.items():
-        if place and file.name not in ("lib.rt", "Lib.antt"):
-            need(new[home / place].count("\n") == read(file).count("\n"), f"{file}: another number of lines")
-    said.append("  " + ", ".join(f"{part} {number}" for part, number in sorted(count.items())))
+            if path.parts[0] != "crates" and path.name not in ("wrong-bodies.tried", "ARCHITECTURE.md", "public_calls.txt", "type_names.txt"):
+                said += [f"  {path}:{at}: {b.strip()[:140]}" for at, (a, b) in enumerate(zip(text.split("\n"), after.split("\n")), 1)
+                         if a != b and every.many(a)]
+        print("".join(f"{it}\n" for it in said), end="")
+    print(f"{len(done)} joins, {len(moved)} files moved, {len(new)} written", flush=True)
     if dry:
-        return said
-    for file in to:
+        return faults
+    for file in moved:
         file.unlink()
         TEXTS.pop(file, None)
-    for it in names.order:
-        folder = names.parts[it].folder
-        for at in sorted((at for at in folder.rglob("*") if at.is_dir()), key=lambda at: -len(at.parts)):
-            if "out" not in at.relative_to(folder).parts and not any(at.iterdir()):
-                at.rmdir()
-        if it != join.crate:
-            shutil.rmtree(folder / "out", ignore_errors=True)
-            need(not any(folder.iterdir()), f"{folder} has more: {', '.join(map(str, folder.iterdir()))}")
-            folder.rmdir()
+    for join, names, _ in done:
+        for it in names.order:
+            folder = names.parts[it].folder
+            for at in sorted((at for at in folder.rglob("*") if at.is_dir()), key=lambda at: -len(at.parts)):
+                if "out" not in at.relative_to(folder).parts and not any(at.iterdir()):
+                    at.rmdir()
+            if it != join.crate:
+                shutil.rmtree(folder / "out", ignore_errors=True)
+                need(not any(folder.iterdir()), f"{folder} has more: {', '.join(map(str, folder.iterdir()))}")
+                folder.rmdir()
     for file, text in new.items():
         write(file, text)
-    return said
+    return faults
 
 
 FUNCTION = re.compile(r"^\s*(?:pub(?:\([^)]*\))? )?(?:const )?fn \w+", re.M)
@@ -843,15 +871,12 @@ def main():
         plan = plan_of(read(given.plan))
         left = set(crates(top)) - {it for join in plan for it in (join.crate, *join.parts)} - set(alone_of(read(given.plan)))
         print("".join(f"{it}: in no block of the plan\n" for it in sorted(left)), end="")
-    for join in plan:
-        if given.only and join.crate not in given.only:
-            continue
-        try:
-            print("\n".join(work(top, join, given.dry)), flush=True)
-        except Fault as why:
-            # Of this block nothing was written; the others need it not.
-            faults.append(f"house/join.py: {join.crate}: {why}")
-            print(faults[-1], flush=True)
+    try:
+        faults = work(top, [join for join in plan if not given.only or join.crate in given.only], given.dry)
+    except Fault as why:
+        print(f"house/join.py: {why}", file=sys.stderr)
+        return 1
+    print("".join(f"{it}\n" for it in faults), end="", flush=True)
     if given.dry:
         return 1 if faults else 0
     if plan and not given.only:
