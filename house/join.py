@@ -742,6 +742,35 @@ def lists(top):
                 write(file, after)
 
 
+PROVED = "## What is proved, crate by crate"
+
+
+def entries(top):
+    """Puts what docs/PROOFS.md says of one crate in several entries into the first of them."""
+    file = top / "docs" / "PROOFS.md"
+    head, mark, rest = read(file).partition(f"\n{PROVED}\n")
+    body, end, tail = rest.partition("\n## ")
+    kept, first, at = [], {}, None
+    for line in body.split("\n"):
+        label = re.match(r"- \*\*`(\w+)`\*\*\. (.*)", line)
+        if label and label[1] in first:
+            at = first[label[1]]
+            at.append(f"  {label[2]}")
+        elif line.startswith("- "):
+            at = [line]
+            kept.append(at)
+            if label:
+                first[label[1]] = at
+        elif line.startswith("  ") and at:
+            at.append(line)
+        else:
+            at = None
+            kept.append([line])
+    text = head + mark + "\n".join(line for it in kept for line in it) + end + tail
+    if text != read(file):
+        write(file, text)
+
+
 def words_of(top):
     """Puts into documents what house/words.txt has for lines that would speak of one crate as of two: its blocks are a line
     `in FILE`, the lines that go, each behind `-`, and those that come, each behind `+`."""
@@ -881,7 +910,9 @@ def main():
         return 1 if faults else 0
     if plan and not given.only:
         lists(top)
-        print("\n".join(reasons(top, plan) + words_of(top)), flush=True)
+        said = reasons(top, plan) + words_of(top)
+        entries(top)
+        print("\n".join(said), flush=True)
     said = look(top)
     print("\n".join(faults + said + [f"look: {len(said)} names lead nowhere, {len(crates(top))} crates, {len(faults)} blocks not done"]))
     return 1 if said or faults else 0
