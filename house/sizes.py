@@ -76,7 +76,7 @@ class House:
             self.src[home] += src
             self.seconds[home] += seconds
             if at.get(home) in (None, it) or home not in self.layer:
-                mine = layer.get(it, "?")
+                mine = layer.get(it, "Text")
                 if at.get(home) == it or home not in self.layer or at.get(home) is None and ORDER.index(mine) > ORDER.index(self.layer[home]):
                     self.layer[home] = mine
         for home, parts in self.parts.items():
