@@ -276,6 +276,7 @@ class All:
         self.any_part = re.compile(rf"(?<![\w])(?:{union})(?![\w])")
         self.in_antt = re.compile(rf"\bRattle\.({union})((?:\.\w+)*)")
         self.in_rust = re.compile(rf"(?<![\w:.$])({union}|crate)((?:::\w+)+)(?![\w])")
+        self.in_braces = re.compile(rf"(?<![\w:.$])({union}|crate)::\{{([^{{}}]*)")
         self.in_text = re.compile(rf"(?<![\w:.$])({union})((?:::\w+)+)(?![\w])")
         self.in_path = re.compile(rf"(?<![\w])({union})/((?:src|specs|proofs|wrong-bodies|wrong-by-\w+)/[\w./+-]+)")
 
@@ -294,16 +295,31 @@ class All:
                 return line
             is_comment = line.lstrip().startswith("//")
 
-            def new(found):
-                head, words = found[1], found[2].split("::")[1:]
+            def place(head):
+                """The join, the part and the new head of a path; None where it stays."""
                 if head == "crate":
-                    return "::".join(["crate", *mine.rust_path(own, words)]) if mine else found[0]
+                    return (mine, own, "crate") if mine else None
                 names = self.of[head]
-                here = "crate" if names is mine and not is_comment else names.crate
-                return "::".join([here, *names.rust_path(head, words)])
+                return names, head, "crate" if names is mine and not is_comment else names.crate
+
+            def new(found):
+                at = place(found[1])
+                return "::".join([at[2], *at[0].rust_path(at[1], found[2].split("::")[1:])]) if at else found[0]
+
+            def several(found):
+                at = place(found[1])
+                if not at:
+                    return found[0]
+
+                def item(one):
+                    word = at[0].rust_path(at[1], [one[2]])[0]
+                    if word == one[2]:
+                        return one[0]
+                    return one[1] + word + (one[3] if one[3] else f" as {one[2]}")
+                return f"{at[2]}::{{" + ",".join(re.sub(r"^(\s*)(\w+)(::| as )?", item, it) for it in found[2].split(","))
 
             before = line
-            line = self.in_rust.sub(new, self.antt(line))
+            line = self.in_braces.sub(several, self.in_rust.sub(new, self.antt(line)))
             # A module that is brought in by its own name, and has another now.
             one = re.fullmatch(r"(\s*(?:pub )?use [\w:]*::)(\w+);", line)
             old = re.fullmatch(r"\s*(?:pub )?use [\w:]*::(\w+);", before)
@@ -801,6 +817,9 @@ def words_of(top):
 
 # Whether each name leads somewhere.
 
+# Heads of paths in imports that are no crates of the repository.
+HEADS = {"crate", "self", "super", "std", "core", "alloc"}
+IMPORTED = re.compile(r"^\s*(?:pub(?:\([^)]*\))? )?use (\w+)::(?:\{([^{}]*))?")
 NAMED_IN_RUST = re.compile(r"(?<![\w:.$'])(\w+)::(\w+)(?:::(\w+))?")
 NAMED_IN_ANTT = re.compile(r"\bRattle\.(\w+)\.(\w+)\.(\w+)(?:\.(\w+))?(?:\.(\w+))?")
 
@@ -845,6 +864,18 @@ def look(top):
             for line in text.split("\n"):
                 if line.lstrip().startswith("//"):
                     continue
+                brought = IMPORTED.match(line)
+                if brought:
+                    head, several = brought.groups()
+                    here = file.parent / file.stem if file.stem not in ("lib", "main", "mod") else file.parent
+                    child = re.search(rf"\bmod {head};|\buse [^;]*(?:::|::\{{[^}}]*\b|\bas ){head}\b", text) or (here / f"{head}.rt").exists()
+                    if head not in HEADS and head not in lines and head not in lines[it][1] and not head[0].isupper() and not child:
+                        said.append(f"{where}: {line.strip()}: there is no {head}")
+                    if head in lines and several is not None and all_of[head].root:
+                        exports.setdefault(head, set(all_of[head].exports()[1]))
+                        for word in re.findall(r"(?:^|,)\s*(\w+)", several):
+                            holds = word in exports[head] or word in all_of[head].modules or word == "self"
+                            said += [f"{where}: {head}::{word} leads nowhere"] * (not holds)
                 for found in NAMED_IN_RUST.finditer(re.sub(r'"(?:\\.|[^"\\])*"', '""', line)):
                     head, name, inner = found.groups()
                     other = it if head == "crate" else head
