@@ -215,7 +215,8 @@ class Names:
                 self.modules[it, name] = new
                 renamed += [f"{it}::{name} is {join.crate}::{new}"] * (new != name)
         for part in ("specs", "proofs"):
-            taken = {}
+            # What stands in proofs/ by the names of modules is rattle's, and may differ from a file by more than case alone.
+            taken = {new.lower(): it for (it, _), new in self.modules.items()} if part == "proofs" else {}
             for it, crate in self.parts.items():
                 short = camel(join.short.get(it, it.partition("_")[0]))
                 for name in crate.lemmas[part]:
@@ -834,6 +835,8 @@ def look(top):
             crate.modules = {name: "" for _, name in MOD.findall(read(crate.folder / "src" / "main.rt"))}
         listed_files = {file.stem if file.parent.name == "src" else file.relative_to(crate.folder / "src").parts[0] for file in (crate.folder / "src").rglob("*.rt")} - {"lib", "main"}
         said += [f"{it}: src/{name} and its root do not agree" for name in listed_files ^ set(crate.modules)]
+        small = {name.lower(): name for name in crate.modules}
+        said += [f"{it}: proofs/{name}.antt and the module {small[name.lower()]} differ in case alone" for name in crate.lemmas["proofs"] if name.lower() in small]
         for part in ("specs", "proofs"):
             there = {file.stem for file in (crate.folder / part).glob("*.antt")} - {"Lib"} if (crate.folder / part).is_dir() else set()
             said += [f"{it}: {part}/{name} and Lib.antt do not agree" for name in there ^ set(crate.lemmas[part])]
