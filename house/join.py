@@ -9,6 +9,7 @@ A plan has a block a join; lines behind `#` are comments:
     join CRATE: PART PART ..        CRATE may be one of the parts, or a new name
       short PART NAME               what stands before a name of PART that clashes (the name of PART up to its first `_`)
       module PART NAME NEW          a module of its own name in place of that
+      apart NAME                    the module NAME of each part gets the name of its part before it, also of the first
       row TEXT                      the row of docs/ARCHITECTURE.md (else the rows of the parts, one behind the other)
       at PART                         the layer: its row stands where that of PART stood (else where the last of them did)
       about TEXT                    a line of the head of lib.rt, above the heads of the parts; each `about` is one line
@@ -103,7 +104,7 @@ class Join:
     def __init__(self, crate, parts):
         self.crate, self.parts = crate, parts
         self.short, self.module, self.row, self.at, self.about, self.edit = {}, {}, None, None, [], []
-        self.also, self.why, self.reason = {}, None, None
+        self.also, self.why, self.reason, self.apart = {}, None, None, []
 
 
 def alone_of(text):
@@ -134,6 +135,8 @@ def plan_of(text):
             one.at = words[1]
         elif words[0] == "also" and len(words) > 2:
             one.also[words[1]] = rest.split(None, 1)[1]
+        elif words[0] == "apart" and len(words) == 2:
+            one.apart.append(words[1])
         elif words[0] == "why":
             one.why = rest
         elif words[0] == "reason":
@@ -208,7 +211,7 @@ class Names:
             short = join.short.get(it, it.partition("_")[0])
             for name in crate.modules:
                 new = join.module.get((it, name), name)
-                if new.lower() in taken and (it, name) not in join.module:
+                if (new.lower() in taken or name in join.apart) and (it, name) not in join.module:
                     new = f"{short}_{name}"
                 need(new.lower() not in taken, f"the module {new} of {it} stands in {taken.get(new.lower())} too")
                 taken[new.lower()] = it
