@@ -1,14 +1,14 @@
 //! The explanation of a source.
 
-use crate::proposal::{Pair, place_for_path, proposal};
+use crate::proposal::{Pair, place_for_path, proposal, push_path};
 use crate::refusal::{Case, push_case};
 use decl_core::object::Object;
 use decl_read::fault::DeclFault;
 use decl_read::read::read_objects;
 use exclude_core::analyse::{Refusal, Refused, analyse};
 use explain_fault::fault::{is_want_of_memory, push_fault};
-use note_core::page::{Page, push_help, push_new_line, push_note};
-use note_core::said::Words;
+use note_core::page::{Page, push_found, push_help, push_new_line};
+use note_core::said::{Words, only, say};
 use note_core::span::Span;
 use note_core::tokens::section;
 use path_tree::lex::lex;
@@ -40,23 +40,21 @@ fn no_room_help(is_same: bool) -> &'static str {
     }
 }
 
-// Adds the path that would do, or what helps where none was found.
+// Adds a path over these operations, which would do at a byte.
 fn push_proposal(
+    alloc: Global,
     out: &mut Vec<u8>,
     page: Page<'_>,
-    line: Option<Vec<u8>>,
+    object: &Object,
+    chosen: u32,
     at: usize,
-    is_same: bool,
-    words: Words<'_>,
 ) -> Result<(), AllocError> {
-    match line {
-        Some(line) => {
-            let sentence = "with this path, put here, object `#` is accepted";
-            push_note(out, page, Span { start: at, end: at }, sentence, words)?;
-            push_new_line(out, &line)
-        }
-        None => push_help(out, no_room_help(is_same), words),
-    }
+    let said = say("with this path, put here, object `%` is accepted", "");
+    let words = only(object.name.as_bytes());
+    push_found(out, page, said.with(Span { start: at, end: at }, words))?;
+    let mut line = Vec::new(alloc);
+    push_path(&mut line, object, chosen)?;
+    push_new_line(out, &line)
 }
 
 // Adds what is said of two operations of the object of this number that are not kept apart.
@@ -74,6 +72,7 @@ fn push_unseparated(
         second: operation_name(object, second),
         third: part_name(object, part),
         fourth: object.name.as_bytes(),
+        number: 0,
     };
     let tokens = section(page.tokens, Symbol::Object, number);
     let case = Case {
@@ -85,8 +84,10 @@ fn push_unseparated(
     push_case(out, page, case)?;
     let at = place_for_path(tokens);
     let apart = Pair { first, second };
-    let line = proposal(alloc, page.source, object, number, at, apart)?;
-    push_proposal(out, page, line, at, first == second, names)
+    match proposal(alloc, page.source, object, number, at, apart)? {
+        Some(chosen) => push_proposal(alloc, out, page, object, chosen, at),
+        None => push_help(out, no_room_help(first == second), names),
+    }
 }
 
 // Adds what is said of an object that is refused.
@@ -168,6 +169,25 @@ fn push_source(
     }
 }
 
+// Adds what is said of a source.
+fn push_text(
+    alloc: Global,
+    out: &mut Vec<u8>,
+    page: Page<'_>,
+    only: Option<&[u8]>,
+) -> Result<(), AllocError> {
+    match lex(alloc, page.source) {
+        Ok(tokens) => {
+            let page = Page {
+                tokens: &tokens,
+                ..page
+            };
+            push_source(alloc, out, page, only)
+        }
+        Err(fault) => push_told(alloc, out, page, DeclFault::Lex(fault)),
+    }
+}
+
 /// What a person is told of a source in this file: of its first fault, or of each of its objects that is refused, in
 /// order, or of the one of a name. It is empty where there is nothing to tell.
 ///
@@ -181,23 +201,11 @@ pub fn explain(
     only: Option<&[u8]>,
 ) -> Result<Vec<u8>, AllocError> {
     let mut out = Vec::new(alloc);
-    match lex(alloc, source) {
-        Ok(tokens) => {
-            let page = Page {
-                file,
-                source,
-                tokens: &tokens,
-            };
-            push_source(alloc, &mut out, page, only)?;
-        }
-        Err(fault) => {
-            let page = Page {
-                file,
-                source,
-                tokens: &[],
-            };
-            push_told(alloc, &mut out, page, DeclFault::Lex(fault))?;
-        }
-    }
+    let page = Page {
+        file,
+        source,
+        tokens: &[],
+    };
+    push_text(alloc, &mut out, page, only)?;
     Ok(out)
 }

@@ -65,54 +65,64 @@ fn judge_in(alloc: Global, source: &[u8], number: usize) -> Result<Judged, Alloc
     }
 }
 
-// Adds the names of the chosen operations that change a part, or of those that change none, with commas.
-fn push_names(
-    out: &mut Vec<u8>,
-    object: &Object,
-    chosen: &[usize],
-    writes: bool,
-) -> Result<usize, AllocError> {
-    let mut count: usize = 0;
+// The bit of the operation of this number.
+fn bit(number: usize) -> u32 {
+    1u32.checked_shl(number as u32).unwrap_or(0)
+}
+
+// Of some operations, as bits, those that change a part.
+fn writers(object: &Object, chosen: u32) -> u32 {
+    let mut found = 0;
     for (number, operation) in object.operations.iter().enumerate() {
-        if chosen.contains(&number) && (footprint(operation).writes != 0) == writes {
-            if count > 0 {
+        if footprint(operation).writes != 0 {
+            found |= bit(number);
+        }
+    }
+    found & chosen
+}
+
+// Adds the names of some operations, with commas.
+fn push_names(out: &mut Vec<u8>, object: &Object, chosen: u32) -> Result<(), AllocError> {
+    let mut is_first = true;
+    for (number, operation) in object.operations.iter().enumerate() {
+        if chosen & bit(number) != 0 {
+            if !is_first {
                 out.extend_from_slice(b", ")?;
             }
             out.extend_from_slice(operation.name.as_bytes())?;
-            count = count.saturating_add(1);
+            is_first = false;
         }
     }
-    Ok(count)
+    Ok(())
 }
 
-// A path that lets one of the chosen operations run at a time, but those that change nothing together.
-fn path_over(alloc: Global, object: &Object, chosen: &[usize]) -> Result<Vec<u8>, AllocError> {
-    let mut out = Vec::new(alloc);
+/// Adds a path that lets one of these operations run at a time, but those that change nothing together.
+pub(crate) fn push_path(out: &mut Vec<u8>, object: &Object, chosen: u32) -> Result<(), AllocError> {
+    let writing = writers(object, chosen);
+    let reading = chosen & !writing;
     out.extend_from_slice(b"path 1:(")?;
-    let mut readers = Vec::new(alloc);
-    let writing = push_names(&mut out, object, chosen, true)?;
-    let reading = push_names(&mut readers, object, chosen, false)?;
-    if reading > 0 {
-        if writing > 0 {
-            out.extend_from_slice(b", ")?;
-        }
-        out.push(b'[')?;
-        out.extend_from_slice(&readers)?;
+    push_names(out, object, writing)?;
+    if reading != 0 {
+        out.extend_from_slice(if writing != 0 { b", [" } else { b"[" })?;
+        push_names(out, object, reading)?;
         out.push(b']')?;
     }
-    out.extend_from_slice(b") end;")?;
-    Ok(out)
+    out.extend_from_slice(b") end;")
 }
 
-// A source with a line put in at a byte.
-fn with_line(alloc: Global, source: &[u8], at: usize, line: &[u8]) -> Result<Vec<u8>, AllocError> {
-    let mut out = Vec::new(alloc);
+// Adds a source with a path over these operations put in at a byte.
+fn push_with_path(
+    out: &mut Vec<u8>,
+    source: &[u8],
+    at: usize,
+    object: &Object,
+    chosen: u32,
+) -> Result<(), AllocError> {
     out.extend_from_slice(front(source, at))?;
     out.extend_from_slice(b"\n  ")?;
-    out.extend_from_slice(line)?;
+    push_path(out, object, chosen)?;
     out.push(b'\n')?;
-    out.extend_from_slice(behind(source, at))?;
-    Ok(out)
+    out.extend_from_slice(behind(source, at))
 }
 
 /// The byte behind the last path of an object whose tokens these are, or behind its constants, or behind its name.
@@ -139,8 +149,22 @@ fn header_end(object: &[Token]) -> &[Token] {
     tokens_from(object, parts.min(operations).saturating_sub(1))
 }
 
-/// A path with which the object of this number, which is refused for this pair, is accepted, where it stands at this
-/// byte: it was put there, and the source was read and analysed again. `None` where none was found.
+// What the analyser says of the object of this number with a path over these operations at a byte of its source.
+fn judge_with(
+    alloc: Global,
+    source: &[u8],
+    object: &Object,
+    number: usize,
+    at: usize,
+    chosen: u32,
+) -> Result<Judged, AllocError> {
+    let mut longer = Vec::new(alloc);
+    push_with_path(&mut longer, source, at, object, chosen)?;
+    judge_in(alloc, &longer, number)
+}
+
+/// The operations, as bits, over which a path at this byte has the object of this number accepted, which is refused for this
+/// pair: it was put there, and the source was read and analysed again. `None` where none was found.
 pub(crate) fn proposal(
     alloc: Global,
     source: &[u8],
@@ -148,19 +172,12 @@ pub(crate) fn proposal(
     number: usize,
     at: usize,
     pair: Pair,
-) -> Result<Option<Vec<u8>>, AllocError> {
-    let mut chosen = Vec::new(alloc);
-    chosen.push(pair.first)?;
-    chosen.push(pair.second)?;
+) -> Result<Option<u32>, AllocError> {
+    let mut chosen = bit(pair.first) | bit(pair.second);
     for _ in 0..MOST_OPERATIONS {
-        let line = path_over(alloc, object, &chosen)?;
-        let longer = with_line(alloc, source, at, &line)?;
-        match judge_in(alloc, &longer, number)? {
-            Judged::Accepted => return Ok(Some(line)),
-            Judged::Refused(pair) => {
-                chosen.push(pair.first)?;
-                chosen.push(pair.second)?;
-            }
+        match judge_with(alloc, source, object, number, at, chosen)? {
+            Judged::Accepted => return Ok(Some(chosen)),
+            Judged::Refused(pair) => chosen = chosen | bit(pair.first) | bit(pair.second),
             Judged::Lacking => return Ok(None),
         }
     }

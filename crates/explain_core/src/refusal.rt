@@ -96,8 +96,7 @@ fn push_operations(out: &mut Vec<u8>, page: Page<'_>, case: Case<'_>) -> Result<
     let turned = Words {
         first: names.second,
         second: names.first,
-        third: names.third,
-        fourth: names.fourth,
+        ..names
     };
     push_operation(out, page, second, other, turned)
 }

@@ -123,24 +123,12 @@ pub(crate) fn and_or(here: &[Token]) -> Option<Said> {
     None
 }
 
-// What is said of a `not` that stands inside of a condition.
-fn misplaced_not(plain: &[Token]) -> Said {
+// What is said of a word that stands inside of a condition: this, unless parentheses around one are what is wrong.
+fn misplaced_word(plain: &[Token], said: Said) -> Said {
     if begins(plain, Symbol::OpenParen) && is_open(plain) {
         in_parentheses()
     } else {
-        say(
-            "`not` cannot stand here",
-            "it stands before a whole condition: `not x = y`, which is `x <> y`",
-        )
-    }
-}
-
-// What is said of a `has` that stands inside of a condition.
-fn misplaced_has(plain: &[Token]) -> Said {
-    if begins(plain, Symbol::OpenParen) && is_open(plain) {
-        in_parentheses()
-    } else {
-        has_no_value()
+        said
     }
 }
 
@@ -163,10 +151,14 @@ pub(crate) fn in_condition(before: &[Token], here: &[Token]) -> Option<Said> {
         return second_comparison(condition);
     }
     if begins(here, Symbol::Not) {
-        return Some(misplaced_not(plain));
+        let said = say(
+            "`not` cannot stand here",
+            "it stands before a whole condition: `not x = y`, which is `x <> y`",
+        );
+        return Some(misplaced_word(plain, said));
     }
     if begins(here, Symbol::Has) {
-        return Some(misplaced_has(plain));
+        return Some(misplaced_word(plain, has_no_value()));
     }
     if begins(here, Symbol::Then) && ends_value(before) && !is_open(plain) {
         return Some(say(

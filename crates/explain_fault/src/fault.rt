@@ -9,9 +9,9 @@ use decl_read::fault::DeclFault;
 use note_core::alike::alike;
 use note_core::name::declared;
 use note_core::nodes::large_path;
-use note_core::page::{Page, push_note, push_said};
-use note_core::said::{Said, Words, say};
-use note_core::span::{Span, behind, front, span_of, text_at};
+use note_core::page::{Page, push_found, push_note};
+use note_core::said::{Said, only, say, two};
+use note_core::span::{Span, behind, first_span, front, span_of};
 use note_core::tokens::{
     begins, count_before, ends, ends_before_last, find_name, first_tokens, from_last, is_at_name,
     is_symbol, last, name_of, section, tokens_from,
@@ -20,7 +20,7 @@ use path_tree::lex::fault::LexFault;
 use path_tree::lex::lex;
 use path_tree::name::is_word_byte;
 use path_tree::path_fault::PathFault;
-use path_tree::token::{Symbol, Token, TokenKind};
+use path_tree::token::{Symbol, Token};
 use std::alloc::{AllocError, Global};
 
 /// The most bytes of a source.
@@ -244,25 +244,6 @@ fn in_objects(fault: DeclFault, before: &[Token], here: &[Token]) -> Said {
     }
 }
 
-// The text of a token.
-fn text_of<'a>(page: Page<'a>, tokens: &[Token]) -> &'a [u8] {
-    match tokens {
-        [token, ..] => match &token.kind {
-            TokenKind::EndMark => b"the end of the file",
-            _ => text_at(page.source, span_of(token)),
-        },
-        [] => b"",
-    }
-}
-
-// Where the first of some tokens stands.
-fn first_span(tokens: &[Token], at: usize) -> Span {
-    match tokens {
-        [token, ..] => span_of(token),
-        [] => Span { start: at, end: at },
-    }
-}
-
 // Where the first name of some tokens that is this one stands.
 fn first_named<'t>(tokens: &'t [Token], name: &[u8]) -> &'t [Token] {
     match find_name(tokens, name) {
@@ -319,14 +300,11 @@ fn push_earlier(
     fault: DeclFault,
     found: &[Token],
 ) -> Result<(), AllocError> {
-    let words = Words {
-        first: text_of(page, found),
-        second: b"",
-        third: b"",
-        fourth: b"",
-    };
     match found {
-        [token, ..] => push_note(out, page, span_of(token), earlier_sentence(fault), words),
+        [token, ..] => {
+            let words = only(page.first_text(found));
+            push_note(out, page, span_of(token), earlier_sentence(fault), words)
+        }
         [] => Ok(()),
     }
 }
@@ -348,13 +326,8 @@ fn bare_operation<'t>(
 
 // Adds that `entry` is missing before an operation.
 fn push_bare(out: &mut Vec<u8>, page: Page<'_>, bare: &[Token]) -> Result<(), AllocError> {
-    let words = Words {
-        first: text_of(page, bare),
-        second: text_of(page, tokens_from(bare, 1)),
-        third: b"",
-        fourth: b"",
-    };
-    push_said(out, page, first_span(bare, 0), no_entry(), words)
+    let words = only(page.first_text(bare));
+    push_found(out, page, no_entry().with(first_span(bare, 0), words))
 }
 
 // Adds what is said of a fault at a token.
@@ -367,19 +340,14 @@ fn push_at_token(
     let count = count_before(page.tokens, at);
     let before = first_tokens(page.tokens, count);
     let here = tokens_from(page.tokens, count);
-    let words = Words {
-        first: text_of(page, here),
-        second: text_of(page, last(before)),
-        third: b"",
-        fourth: b"",
-    };
+    let words = two(page.first_text(here), page.first_text(last(before)));
     let said = in_objects(fault, before, here);
     let bare = bare_operation(page.tokens, fault, before, here);
     if !bare.is_empty() {
         push_note(out, page, first_span(here, at), said.sentence, words)?;
         return push_bare(out, page, bare);
     }
-    push_said(out, page, first_span(here, at), said, words)?;
+    push_found(out, page, said.with(first_span(here, at), words))?;
     let found = match fault {
         DeclFault::UnknownName(_) | DeclFault::Path(PathFault::UnknownName(_)) => {
             alike(object_at(page.tokens, before), name_of(here))
@@ -422,14 +390,9 @@ fn push_lexical(
     let at = fault.at().unwrap_or(MOST_BYTES);
     let here = behind(page.source, at);
     let before = tokens_in_front(alloc, page.source, at)?;
-    let words = Words {
-        first: front(here, 1),
-        second: b"",
-        third: b"",
-        fourth: b"",
-    };
     let span = Span { start: at, end: at };
-    push_said(out, page, span, lexical(fault, &before, here), words)
+    let found = lexical(fault, &before, here).with(span, only(front(here, 1)));
+    push_found(out, page, found)
 }
 
 /// Whether a source could not be read for want of memory.

@@ -86,24 +86,16 @@ fn in_head(head: &[Token], before: &[Token], here: &[Token]) -> Option<Said> {
     None
 }
 
-// What is said of the token after `entry`, where that is known.
-fn after_entry(before: &[Token]) -> Option<Said> {
-    if ends(before, Symbol::Entry) {
-        return Some(say(
-            "after `entry` comes `procedure` or `function`, not `%`",
-            "an operation is declared as in `entry procedure hit; begin .. end;`",
-        ));
-    }
-    None
-}
-
 /// What is said of a token in the head of an operation, where that is known.
 pub(crate) fn of_head(before: &[Token], here: &[Token]) -> Option<Said> {
     if within(before) != Standing::Head {
         return None;
     }
-    if let Some(said) = after_entry(before) {
-        return Some(said);
+    if ends(before, Symbol::Entry) {
+        return Some(say(
+            "after `entry` comes `procedure` or `function`, not `%`",
+            "an operation is declared as in `entry procedure hit; begin .. end;`",
+        ));
     }
     let head = from_last(before, Symbol::Entry);
     if count_of(head, Symbol::OpenParen) > count_of(head, Symbol::CloseParen) {
@@ -163,20 +155,6 @@ pub(crate) fn is_own_function(before: &[Token], name: &[u8]) -> bool {
     begins(tokens_from(head, 1), Symbol::Function) && name_of(tokens_from(head, 2)) == name
 }
 
-fn of_reply() -> Said {
-    say(
-        "after `$` a `:=` is missing",
-        "in the body of a function f the reply is set by `f := e`",
-    )
-}
-
-fn of_call() -> Said {
-    say(
-        "an operation cannot call `$`",
-        "operations do not call each other: write here what that one does",
-    )
-}
-
 /// What is said where the name of an operation stands as a statement.
 pub(crate) fn of_statement(before: &[Token]) -> Option<Said> {
     if within(before) != Standing::Body || !begins_statement(before) {
@@ -185,9 +163,15 @@ pub(crate) fn of_statement(before: &[Token]) -> Option<Said> {
     let name = name_of(last(before));
     match declared(before, name) {
         Some((_, What::Operation)) => if is_own_function(before, name) {
-            Some(of_reply())
+            Some(say(
+                "after `$` a `:=` is missing",
+                "in the body of a function f the reply is set by `f := e`",
+            ))
         } else {
-            Some(of_call())
+            Some(say(
+                "an operation cannot call `$`",
+                "operations do not call each other: write here what that one does",
+            ))
         },
         _ => None,
     }

@@ -158,21 +158,6 @@ fn is_added(before: &[Token], here: &[Token]) -> bool {
     ends(before, Symbol::Plus) || begins(behind_value(here), Symbol::Plus)
 }
 
-fn no_joining() -> Said {
-    say(
-        "a text stands here, and `+` adds integers alone",
-        "nothing joins two texts: keep each of them in a part, and let the caller join them",
-    )
-}
-
-fn no_integer() -> Said {
-    say(
-        "a text stands here where an integer is due",
-        "`+`, `-`, `<`, `<=`, `>`, `>=` and an index take integers; an element has the kind of its part, a reply that \
-            of its function",
-    )
-}
-
 // What is said of an expression of the wrong kind.
 fn wrong_sort(before: &[Token], here: &[Token]) -> Said {
     if let Some(said) = no_value(before, here) {
@@ -185,9 +170,16 @@ fn wrong_sort(before: &[Token], here: &[Token]) -> Said {
                 two of one kind",
         ),
         Some(Sort::Text) => if is_added(before, here) {
-            no_joining()
+            say(
+                "a text stands here, and `+` adds integers alone",
+                "nothing joins two texts: keep each of them in a part, and let the caller join them",
+            )
         } else {
-            no_integer()
+            say(
+                "a text stands here where an integer is due",
+                "`+`, `-`, `<`, `<=`, `>`, `>=` and an index take integers; an element has the kind of its part, a \
+                    reply that of its function",
+            )
         },
         None => say(
             "this expression is of the wrong kind",

@@ -1,11 +1,11 @@
 //! What is said of each `a; b` of a path that could be held: what happens where a client dies between.
 
-use note_core::page::{Page, push_said};
-use note_core::said::{Words, say};
+use note_core::page::{Page, push_found};
+use note_core::said::{Finding, say, two};
 use note_core::span::{Span, span_of, text_at};
 use note_core::tokens::{
-    count_to, first_tokens, from_symbol, is_any_name, is_name, is_same_word, is_symbol, name_of,
-    section, tokens_from,
+    begins, count_to, first_tokens, from_symbol, is_any_name, is_name, is_same_word, is_symbol,
+    name_of, section, tokens_from,
 };
 use path_tree::lex::lex;
 use path_tree::token::{Symbol, Token};
@@ -64,53 +64,56 @@ fn may_hold(object: &[Token], first: &[u8], second: &[u8]) -> bool {
     !has_hold(object, first) && !has_hold(object, second) && !has_every(object, second)
 }
 
-// Adds what is said of the pair that begins here, where one does, and a hold of it could stand there.
-fn push_pair(
-    out: &mut Vec<u8>,
-    page: Page<'_>,
-    object: &[Token],
-    here: &[Token],
-) -> Result<(), AllocError> {
-    let [a, sign, b, next, ..] = here else {
-        return Ok(());
+// Where the two names of a pair stand that begins here, where one does, and a hold of it could stand there.
+fn pair_at(object: &[Token], here: &[Token]) -> Option<(Span, Span)> {
+    let [a, sign, b, behind @ ..] = here else {
+        return None;
     };
-    if !is_any_name(a) || !is_symbol(sign, Symbol::Semicolon) || !is_any_name(b) {
-        return Ok(());
+    if is_any_name(a)
+        && is_symbol(sign, Symbol::Semicolon)
+        && is_any_name(b)
+        && !begins(behind, Symbol::Colon)
+        && may_hold(object, name_of(here), name_of(tokens_from(here, 2)))
+    {
+        Some((span_of(a), span_of(b)))
+    } else {
+        None
     }
-    if is_symbol(next, Symbol::Colon) {
-        return Ok(());
-    }
-    if !may_hold(object, name_of(here), name_of(tokens_from(here, 2))) {
-        return Ok(());
-    }
-    let first = span_of(a);
-    let second = span_of(b);
-    let words = Words {
-        first: text_at(page.source, first),
-        second: text_at(page.source, second),
-        third: b"",
-        fourth: b"",
+}
+
+// What is said of a pair; `is_other` where a hold of it could not stand beside the one that is proposed above.
+fn said_of(page: Page<'_>, first: Span, second: Span, is_other: bool) -> Finding<'_> {
+    let sentence = "who is gone between `%` and `$` never calls `$`, nor does anybody for it";
+    let help = if is_other {
+        "`hold % until $;` has it called then, in the place of the hold above: no operation stands in two"
+    } else {
+        "`hold % until $;` behind the operations has it called then"
     };
-    let said = say(
-        "who is gone between `%` and `$` never calls `$`, nor does anybody for it",
-        "`hold % until $;` behind the operations has it called then",
-    );
+    let words = two(text_at(page.source, first), text_at(page.source, second));
     let span = Span {
         start: first.start,
         end: second.end,
     };
-    push_said(out, page, span, said, words)
+    say(sentence, help).with(span, words)
 }
 
-// Adds what is said of the pairs of one path.
+// Adds what is said of the pairs of one path. Of neighbours, as in `a; b; c`, each second one is told as another choice.
 fn push_path(
     out: &mut Vec<u8>,
     page: Page<'_>,
     object: &[Token],
     path: &[Token],
 ) -> Result<(), AllocError> {
+    // Where the neighbour of the pair begins of which a hold was proposed last; no pair begins at 0.
+    let mut neighbour: usize = 0;
     for count in 0..path.len() {
-        push_pair(out, page, object, tokens_from(path, count))?;
+        if let Some((first, second)) = pair_at(object, tokens_from(path, count)) {
+            let is_other = count == neighbour;
+            push_found(out, page, said_of(page, first, second, is_other))?;
+            if !is_other {
+                neighbour = count.saturating_add(2);
+            }
+        }
     }
     Ok(())
 }
@@ -127,7 +130,8 @@ fn push_object(out: &mut Vec<u8>, page: Page<'_>, object: &[Token]) -> Result<()
 
 /// What a person is told of an accepted source in this file who asks for more: of each `a; b` of a path what happens where a
 /// client dies between the two, where neither is in a hold already, and `b` is not called again and again: `hold a until b;`
-/// would be refused then. It is empty where there is none, and where the source has no tokens.
+/// would be refused then. Of neighbours, as in `a; b; c`, each second one is told as another choice, since no operation
+/// stands in two holds. It is empty where there is none, and where the source has no tokens.
 ///
 /// The error is that memory was refused.
 pub fn explain_pairs(alloc: Global, file: &[u8], source: &[u8]) -> Result<Vec<u8>, AllocError> {

@@ -3,11 +3,11 @@
 use decl_read::fault::DeclFault;
 use explain_fault::fault::{is_want_of_memory, push_fault};
 use note_core::name::{What, declared};
-use note_core::page::{Page, push_said};
-use note_core::said::{Said, Words, say};
-use note_core::span::{Span, span_of, text_at};
+use note_core::page::{Page, push_found};
+use note_core::said::{Said, only, say};
+use note_core::span::first_span;
 use note_core::tokens::{
-    count_before, ends, first_tokens, from_last, is_end_mark, is_same_word, name_of, tokens_from,
+    count_before, ends, first_tokens, from_last, is_same_word, name_of, tokens_from,
 };
 use path_tree::lex::lex;
 use path_tree::token::{Symbol, Token};
@@ -125,18 +125,6 @@ fn of_rule(fault: DeclFault, before: &[Token], here: &[Token]) -> Option<Said> {
     }
 }
 
-// The text of the first of some tokens, and where it stands.
-fn first_of<'a>(page: Page<'a>, tokens: &[Token], at: usize) -> (&'a [u8], Span) {
-    match tokens {
-        [token, ..] => if is_end_mark(token) {
-            (b"the end of the file", span_of(token))
-        } else {
-            (text_at(page.source, span_of(token)), span_of(token))
-        },
-        [] => (b"", Span { start: at, end: at }),
-    }
-}
-
 // Adds what is said of a fault at a place.
 fn push_at(
     alloc: Global,
@@ -151,14 +139,8 @@ fn push_at(
     match of_rule(fault, before, here) {
         None => push_fault(alloc, out, page, fault),
         Some(said) => {
-            let (text, span) = first_of(page, here, at);
-            let words = Words {
-                first: text,
-                second: b"",
-                third: b"",
-                fourth: b"",
-            };
-            push_said(out, page, span, said, words)
+            let words = only(page.first_text(here));
+            push_found(out, page, said.with(first_span(here, at), words))
         }
     }
 }

@@ -55,30 +55,31 @@ fn word_there(word: &Word<'_>, span: Span) -> Placed {
     }
 }
 
-/// The words of the line that stands there in a text.
-pub fn words_at(alloc: Global, text: &[u8], line: Span) -> Result<LineWords<'_>, AllocError> {
-    let mut all = Vec::new(alloc);
-    let mut bad = None;
-    let bytes = text_at(text, line);
+// Adds the words of a line that ends there, up to the first thing in it that is no word, and returns where that stands.
+fn push_words(all: &mut Vec<Placed>, bytes: &[u8], end: usize) -> Result<Option<Span>, AllocError> {
     let mut rest = bytes;
     for _ in 0..bytes.len() {
-        let here = rest_of(line.end, rest);
+        let here = rest_of(end, rest);
         match next_word(rest) {
-            Next::Nothing => break,
-            Next::Bad => {
-                bad = Some(here);
-                break;
-            }
+            Next::Nothing => return Ok(None),
+            Next::Bad => return Ok(Some(here)),
             Next::Found(word, behind) => {
                 let span = Span {
                     start: here.start,
-                    end: line.end.saturating_sub(behind.len()),
+                    end: end.saturating_sub(behind.len()),
                 };
                 all.push(word_there(&word, span))?;
                 rest = behind;
             }
         }
     }
+    Ok(None)
+}
+
+/// The words of the line that stands there in a text.
+pub fn words_at(alloc: Global, text: &[u8], line: Span) -> Result<LineWords<'_>, AllocError> {
+    let mut all = Vec::new(alloc);
+    let bad = push_words(&mut all, text_at(text, line), line.end)?;
     Ok(LineWords {
         text,
         all,

@@ -1,24 +1,13 @@
 //! Calls that the object of a script does not take: of an operation that it has not, or with other arguments.
 
 use decl_core::object::{Object, Operation};
-use explain_line::finding::{shown, two};
 use explain_line::line_words::{LineWords, words_at};
 use note_core::alike::are_alike;
-use note_core::page::{Page, push_help, push_note};
-use note_core::span::{Span, text_at};
+use note_core::page::{Page, push_found, push_help};
+use note_core::said::{Finding, only, say};
+use note_core::span::Span;
 use std::alloc::{AllocError, Global};
 use value_core::kind::Elem;
-
-// What is wrong with the arguments of a call; arguments and parameters are counted from 0.
-#[derive(Clone, Copy)]
-enum Misfit {
-    // This parameter has no argument.
-    Missing(usize),
-    // This argument has no parameter.
-    Surplus(usize),
-    // This argument is no integer, or no text.
-    Other(usize, Elem),
-}
 
 // The operation of a name.
 fn operation_of<'o>(object: &'o Object, name: &[u8]) -> Option<&'o Operation> {
@@ -30,28 +19,41 @@ fn operation_of<'o>(object: &'o Object, name: &[u8]) -> Option<&'o Operation> {
     None
 }
 
+// What is said of the word of this number as an argument of this kind, unless it is one.
+fn misfit(words: &LineWords<'_>, number: usize, kind: Elem) -> Option<&'static str> {
+    match words.all.get(number) {
+        None => Some("the argument `%` is missing here"),
+        Some(placed) => match kind {
+            Elem::Integer => if placed.is_bare {
+                None
+            } else {
+                Some("the argument `%` is an integer, and a text stands here")
+            },
+            Elem::Text => if placed.is_bare {
+                Some("the argument `%` is a text, and an integer stands here")
+            } else {
+                None
+            },
+        },
+    }
+}
+
 // What is wrong with the words from this number on, as the arguments of an operation.
-fn misfit_of(operation: &Operation, words: &LineWords<'_>, number: usize) -> Option<Misfit> {
+fn wrong_arguments<'a>(
+    operation: &'a Operation,
+    words: &LineWords<'_>,
+    first: usize,
+) -> Option<Finding<'a>> {
     for (place, param) in operation.params.iter().enumerate() {
-        match words.all.get(number.saturating_add(place)) {
-            None => return Some(Misfit::Missing(place)),
-            Some(placed) => {
-                let elem = if placed.is_bare {
-                    Elem::Integer
-                } else {
-                    Elem::Text
-                };
-                if elem != param.kind {
-                    return Some(Misfit::Other(place, param.kind));
-                }
-            }
+        let number = first.saturating_add(place);
+        if let Some(sentence) = misfit(words, number, param.kind) {
+            let named = only(param.name.as_bytes());
+            return Some(say(sentence, "").with(words.span(number), named));
         }
     }
-    let count = operation.params.len();
-    match words.at(number.saturating_add(count)) {
-        Some(_) => Some(Misfit::Surplus(count)),
-        None => None,
-    }
+    let span = words.at(first.saturating_add(operation.params.len()))?;
+    let named = only(operation.name.as_bytes());
+    Some(say("`%` takes no further argument", "").with(span, named))
 }
 
 fn elem_word(elem: Elem) -> &'static [u8] {
@@ -61,9 +63,8 @@ fn elem_word(elem: Elem) -> &'static [u8] {
     }
 }
 
-// An operation as it is declared: its name, and its parameters.
-fn head_of(alloc: Global, operation: &Operation) -> Result<Vec<u8>, AllocError> {
-    let mut head = Vec::new(alloc);
+// Adds an operation as it is declared: its name, and its parameters.
+fn push_head(head: &mut Vec<u8>, operation: &Operation) -> Result<(), AllocError> {
     head.extend_from_slice(operation.name.as_bytes())?;
     for (place, param) in operation.params.iter().enumerate() {
         head.extend_from_slice(if place == 0 { b"(" } else { b"; " })?;
@@ -74,94 +75,83 @@ fn head_of(alloc: Global, operation: &Operation) -> Result<Vec<u8>, AllocError> 
     if !operation.params.is_empty() {
         head.push(b')')?;
     }
-    Ok(head)
+    Ok(())
 }
 
-// The names of the operations of an object, with commas between them.
-fn names_of(alloc: Global, object: &Object) -> Result<Vec<u8>, AllocError> {
-    let mut names = Vec::new(alloc);
-    for operation in &object.operations {
-        if !names.is_empty() {
+// Adds how an operation is declared.
+fn push_declared(
+    alloc: Global,
+    out: &mut Vec<u8>,
+    operation: &Operation,
+) -> Result<(), AllocError> {
+    let mut head = Vec::new(alloc);
+    push_head(&mut head, operation)?;
+    push_help(out, "the operation is declared as `%`", only(&head))
+}
+
+// Adds the names of the operations of an object, with commas between them.
+fn push_names(names: &mut Vec<u8>, object: &Object) -> Result<(), AllocError> {
+    for (place, operation) in object.operations.iter().enumerate() {
+        if place > 0 {
             names.extend_from_slice(b", ")?;
         }
         names.extend_from_slice(operation.name.as_bytes())?;
     }
-    Ok(names)
+    Ok(())
 }
 
-// Adds that an object has no operation of this name, and which it has.
+// Adds which operations an object has.
+fn push_operations(alloc: Global, out: &mut Vec<u8>, object: &Object) -> Result<(), AllocError> {
+    let mut names = Vec::new(alloc);
+    push_names(&mut names, object)?;
+    let help = if names.is_empty() {
+        "it has no operations"
+    } else {
+        "its operations are: %"
+    };
+    push_help(out, help, only(&names))
+}
+
+// Adds that an object has no operation of the name in this word, and which it has.
 fn push_unknown(
     alloc: Global,
     out: &mut Vec<u8>,
     page: Page<'_>,
     object: &Object,
-    span: Span,
+    words: &LineWords<'_>,
+    number: usize,
 ) -> Result<(), AllocError> {
-    let name = text_at(page.source, span);
-    let word = shown(alloc, name)?;
-    let said = two(&word, object.name.as_bytes());
-    push_note(
-        out,
-        page,
-        span,
-        "there is no operation `%` in object `$`",
-        said,
-    )?;
-    let names = names_of(alloc, object)?;
-    if names.is_empty() {
-        push_help(out, "it has no operations", said)
-    } else {
-        push_help(out, "its operations are: %", two(&names, b""))
-    }?;
+    let said = say("there is no operation `^` in object `%`", "");
+    let found = said.with(words.span(number), only(object.name.as_bytes()));
+    push_found(out, page, found)?;
+    push_operations(alloc, out, object)?;
     for operation in &object.operations {
-        if are_alike(operation.name.as_bytes(), name) {
-            return push_help(out, "is `%` meant?", two(operation.name.as_bytes(), b""));
+        if are_alike(operation.name.as_bytes(), words.bare(number)) {
+            return push_help(out, "is `%` meant?", only(operation.name.as_bytes()));
         }
     }
     Ok(())
 }
 
-// The name of a parameter, by its place.
-fn param_name(operation: &Operation, place: usize) -> &[u8] {
-    match operation.params.get(place) {
-        Some(param) => param.name.as_bytes(),
-        None => b"",
-    }
-}
-
-// Adds what is wrong with the arguments of a call, which begin with the word of this number, and how the operation is
-// declared.
-fn push_misfit(
+// Adds what is wrong with a call of these words that its object does not take; whether something is.
+fn push_words(
     alloc: Global,
     out: &mut Vec<u8>,
     page: Page<'_>,
-    operation: &Operation,
+    object: &Object,
     words: &LineWords<'_>,
     number: usize,
-    misfit: Misfit,
-) -> Result<(), AllocError> {
-    let (place, sentence) = match misfit {
-        Misfit::Missing(place) => (place, "the argument `%` is missing here"),
-        Misfit::Surplus(place) => (place, "`$` takes no further argument"),
-        Misfit::Other(place, Elem::Integer) => (
-            place,
-            "the argument `%` is an integer, and a text stands here",
-        ),
-        Misfit::Other(place, Elem::Text) => (
-            place,
-            "the argument `%` is a text, and an integer stands here",
-        ),
+) -> Result<bool, AllocError> {
+    let Some(operation) = operation_of(object, words.bare(number)) else {
+        push_unknown(alloc, out, page, object, words, number)?;
+        return Ok(true);
     };
-    let said = two(param_name(operation, place), operation.name.as_bytes());
-    push_note(
-        out,
-        page,
-        words.span(number.saturating_add(place)),
-        sentence,
-        said,
-    )?;
-    let head = head_of(alloc, operation)?;
-    push_help(out, "the operation is declared as `%`", two(&head, b""))
+    let Some(found) = wrong_arguments(operation, words, number.saturating_add(1)) else {
+        return Ok(false);
+    };
+    push_found(out, page, found)?;
+    push_declared(alloc, out, operation)?;
+    Ok(true)
 }
 
 /// Adds what is wrong with a call that its object does not take, of the line that stands there; the word of this number
@@ -175,20 +165,5 @@ pub(crate) fn push_called(
     number: usize,
 ) -> Result<bool, AllocError> {
     let words = words_at(alloc, page.source, line)?;
-    match operation_of(object, words.bare(number)) {
-        None => {
-            push_unknown(alloc, out, page, object, words.span(number))?;
-            Ok(true)
-        }
-        Some(operation) => {
-            let first = number.saturating_add(1);
-            match misfit_of(operation, &words, first) {
-                Some(found) => {
-                    push_misfit(alloc, out, page, operation, &words, first, found)?;
-                    Ok(true)
-                }
-                None => Ok(false),
-            }
-        }
-    }
+    push_words(alloc, out, page, object, &words, number)
 }

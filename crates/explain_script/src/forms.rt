@@ -3,16 +3,16 @@
 use crate::verb::{Verb, verb_like, verb_of};
 use decl_core::object::Object;
 use explain_line::finding::{
-    Finding, surplus, wrong_call, wrong_data, wrong_name, wrong_session, wrong_word,
+    surplus, wrong_call, wrong_data, wrong_name, wrong_session, wrong_word,
 };
 use explain_line::line_words::LineWords;
 use line_core::words::is_same_word;
-use note_core::said::{Said, say};
+use note_core::said::{Finding, Said, say};
 use path_tree::name::is_identifier;
 use word_core::number::{integer_of, session_of};
 
 // What is wrong with a line that begins with `call`.
-fn wrong_call_line(words: &LineWords<'_>) -> Option<Finding> {
+fn wrong_call_line<'a>(words: &LineWords<'_>) -> Option<Finding<'a>> {
     if let Some(found) = wrong_session(words, 1) {
         return Some(found);
     }
@@ -26,21 +26,21 @@ fn wrong_call_line(words: &LineWords<'_>) -> Option<Finding> {
 }
 
 // What is wrong with the key of a call, which begins with `#`.
-fn wrong_key(words: &LineWords<'_>, is_right: bool) -> Option<Finding> {
+fn wrong_key<'a>(words: &LineWords<'_>, is_right: bool) -> Option<Finding<'a>> {
     let wrong = say(
-        "`%` is not the key of a call",
+        "`^` is not the key of a call",
         "a key is `#` and a number: `#1` for the first call of the session, `#2` for its second one and so on",
     );
     wrong_word(words, 2, is_right, wrong, wrong)
 }
 
 // What is wrong with a line that begins with `do`.
-fn wrong_do_line(words: &LineWords<'_>) -> Option<Finding> {
+fn wrong_do_line<'a>(words: &LineWords<'_>) -> Option<Finding<'a>> {
     if let Some(found) = wrong_session(words, 1) {
         return Some(found);
     }
     let no_key = say(
-        "`do` takes no key, and `%` is one",
+        "`do` takes no key, and `^` is one",
         "a call under a key is `call sK #J OP ARG ..`; `steps N` and `finish N` bring it to its end",
     );
     if words.bare(2).starts_with(b"#") {
@@ -50,7 +50,7 @@ fn wrong_do_line(words: &LineWords<'_>) -> Option<Finding> {
 }
 
 // What is wrong with an operation, which is the word of this number, and its arguments.
-fn wrong_operation(words: &LineWords<'_>, number: usize) -> Option<Finding> {
+fn wrong_operation<'a>(words: &LineWords<'_>, number: usize) -> Option<Finding<'a>> {
     if let Some(found) = wrong_name(words, number, is_identifier(words.bare(number))) {
         return Some(found);
     }
@@ -58,20 +58,16 @@ fn wrong_operation(words: &LineWords<'_>, number: usize) -> Option<Finding> {
 }
 
 // What is wrong with a line that begins with `step`.
-fn wrong_step_line(words: &LineWords<'_>) -> Option<Finding> {
+fn wrong_step_line<'a>(words: &LineWords<'_>) -> Option<Finding<'a>> {
     if let Some(found) = wrong_call(words, 1) {
         return Some(found);
     }
     let went = words.bare(2);
     let is_right = is_same_word(went, b"ok") || is_same_word(went, b"fail");
-    let missing = say(
-        "`ok` or `fail` is missing here",
-        "`step N ok` makes one step of call N, in `step N fail` its device fails; `steps N` makes all that are left",
-    );
-    let wrong = say(
-        "`%` is neither `ok` nor `fail`",
-        "`step N ok` makes one step of call N, in `step N fail` its device fails; `steps N` makes all that are left",
-    );
+    let form =
+        "`step N ok` makes one step of call N, in `step N fail` its device fails; `steps N` makes all that are left";
+    let missing = say("`ok` or `fail` is missing here", form);
+    let wrong = say("`^` is neither `ok` nor `fail`", form);
     if let Some(found) = wrong_word(words, 2, is_right, missing, wrong) {
         return Some(found);
     }
@@ -79,7 +75,7 @@ fn wrong_step_line(words: &LineWords<'_>) -> Option<Finding> {
 }
 
 // What is wrong with a line that begins with this verb.
-fn wrong_line(verb: Verb, words: &LineWords<'_>) -> Option<Finding> {
+fn wrong_line<'a>(verb: Verb, words: &LineWords<'_>) -> Option<Finding<'a>> {
     match verb {
         Verb::Call => wrong_call_line(words),
         Verb::Do => wrong_do_line(words),
@@ -106,13 +102,13 @@ fn of_other_text(word: &[u8]) -> Option<Said> {
     }
     if is_same_word(word, b"start") || is_same_word(word, b"end") || is_same_word(word, b"part") {
         return Some(say(
-            "`%` begins a line of a trace, not of a script",
+            "`^` begins a line of a trace, not of a script",
             "`pathserve audit` reads traces; in a script a call is made by `call s1 put 7`, `steps 1` and `finish 1`",
         ));
     }
     if is_same_word(word, b"open") || is_same_word(word, b"quit") {
         return Some(say(
-            "`%` is a line for `pathserve serve`, not of a script",
+            "`^` is a line for `pathserve serve`, not of a script",
             "in a script line 1 names the object, `call s1 put 7` has session 1 call, and `drop s1` has it leave",
         ));
     }
@@ -130,7 +126,7 @@ fn of_answer(word: &[u8]) -> Option<Said> {
         || is_same_word(word, b"bad")
     {
         return Some(say(
-            "`%` begins an answer, not a line of a script",
+            "`^` begins an answer, not a line of a script",
             "a script has what is called; `pathserve run` writes the answers",
         ));
     }
@@ -153,12 +149,12 @@ fn of_first_word(words: &LineWords<'_>, object: &Object) -> Said {
     }
     if is_operation(object, word) || session_of(word).is_some() {
         return say(
-            "before `%` the word `call` is missing",
+            "before `^` the word `call` is missing",
             "a line that calls is `call sK OP ARG ..`, as in `call s1 put 7`",
         );
     }
     say(
-        "no line of a script begins with `%`",
+        "no line of a script begins with `^`",
         "the lines are `call sK OP ARG ..`, `call sK #J OP ARG ..`, `do sK OP ARG ..`, `step N ok`, `step N fail`, \
             `steps N`, `finish N`, `cancel N`, `drop sK`, `resume sK`, `show`, `trace`, `why N`, `who` and `list`",
     )
@@ -176,7 +172,7 @@ pub(crate) enum Closest {
 }
 
 // The form that is to be told of a line of this verb: a step has two, which what is said of it has.
-fn form_told(verb: Verb, finding: Finding) -> Closest {
+fn form_told(verb: Verb, finding: Finding<'_>) -> Closest {
     if verb == Verb::Step || finding.said.help == verb.form() {
         Closest::Told
     } else {
@@ -185,11 +181,8 @@ fn form_told(verb: Verb, finding: Finding) -> Closest {
 }
 
 /// What is wrong with a line that says nothing that a script may say, and the form that it comes closest to.
-pub(crate) fn wrong_in_line(words: &LineWords<'_>, object: &Object) -> (Finding, Closest) {
-    let first = Finding {
-        span: words.span(0),
-        said: of_first_word(words, object),
-    };
+pub(crate) fn wrong_in_line<'a>(words: &LineWords<'_>, object: &Object) -> (Finding<'a>, Closest) {
+    let first = of_first_word(words, object).here(words.span(0));
     match verb_of(words.bare(0)) {
         Some(verb) => match wrong_line(verb, words) {
             Some(found) => (found, form_told(verb, found)),

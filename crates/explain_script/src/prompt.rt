@@ -1,6 +1,7 @@
 //! What a person reads on standard error at a prompt: the prompt itself, and why a line is not taken.
 
 use crate::script::push_why;
+use decl_core::object::Object;
 use exclude_core::analyse::Accepted;
 use line_core::words::is_same_word;
 use line_core::{next_line, write_whole};
@@ -80,14 +81,14 @@ fn line_ends(text: &[u8]) -> usize {
     count
 }
 
-// What is told of lines, of which so many came before.
-fn told_of(
+// Adds what is told of lines, of which so many came before.
+fn push_told(
     alloc: Global,
-    accepted: &Accepted,
+    out: &mut Vec<u8>,
+    object: &Object,
     lines: &[u8],
     before: usize,
-) -> Result<Vec<u8>, AllocError> {
-    let mut out = Vec::new(alloc);
+) -> Result<(), AllocError> {
     let mut rest = lines;
     let mut number = before;
     for _ in 0..lines.len() {
@@ -95,11 +96,23 @@ fn told_of(
             break;
         };
         if !is_help(line) {
-            push_why(alloc, &mut out, accepted.object(), number, line)?;
+            push_why(alloc, out, object, number, line)?;
         }
         number = number.saturating_add(1);
         rest = behind;
     }
+    Ok(())
+}
+
+// What is told of lines, of which so many came before.
+fn told_of(
+    alloc: Global,
+    object: &Object,
+    lines: &[u8],
+    before: usize,
+) -> Result<Vec<u8>, AllocError> {
+    let mut out = Vec::new(alloc);
+    push_told(alloc, &mut out, object, lines, before)?;
     Ok(out)
 }
 
@@ -135,7 +148,7 @@ impl<R: Read, E: Write> Asking<R, E> {
     // Tells of these lines.
     fn tell(&mut self, lines: &[u8]) {
         if self.manner.explains {
-            if let Ok(text) = told_of(self.alloc, &self.accepted, lines, self.before) {
+            if let Ok(text) = told_of(self.alloc, self.accepted.object(), lines, self.before) {
                 let _ = write_whole(&mut self.error, &text);
             }
         }

@@ -4,13 +4,14 @@ use crate::called::push_called;
 use crate::forms::{Closest, wrong_in_line};
 use decl_core::object::Object;
 use explain_line::files::Files;
-use explain_line::finding::{only, push_finding};
 use explain_line::lacking::{push_lacking, push_unnamed};
 use explain_line::line_words::words_at;
 use inside_desk::question::question_of;
 use line_core::next_line;
-use note_core::page::{Page, push_help};
+use note_core::page::{Page, push_found, push_help};
+use note_core::said::{Finding, only};
 use note_core::span::Span;
+use path_tree::name::Name;
 use script_open::head::named_object;
 use script_open::open::{Opened, open_script};
 use script_text::said::{Said, is_skipped, read_line};
@@ -27,6 +28,11 @@ enum Does {
     // It calls the operation that is the word of this number, from 0.
     Calls(usize),
     Other,
+}
+
+// Whether a line that does this ends the script.
+fn is_end(does: Does) -> bool {
+    matches!(does, Does::Ends)
 }
 
 // What a line does that says nothing that is done: it asks something, or ends the script.
@@ -63,6 +69,17 @@ fn push_closest(out: &mut Vec<u8>, closest: Closest) -> Result<(), AllocError> {
     }
 }
 
+// What is wrong with the line that stands there, and the form that it comes closest to.
+fn wrong_at<'a>(
+    alloc: Global,
+    text: &[u8],
+    object: &Object,
+    line: Span,
+) -> Result<(Finding<'a>, Closest), AllocError> {
+    let words = words_at(alloc, text, line)?;
+    Ok(wrong_in_line(&words, object))
+}
+
 // Adds what is wrong with the line that stands there.
 fn push_line(
     alloc: Global,
@@ -71,10 +88,28 @@ fn push_line(
     object: &Object,
     line: Span,
 ) -> Result<(), AllocError> {
-    let words = words_at(alloc, page.source, line)?;
-    let (finding, closest) = wrong_in_line(&words, object);
-    push_finding(alloc, out, page, finding)?;
+    let (found, closest) = wrong_at(alloc, page.source, object, line)?;
+    push_found(out, page, found)?;
     push_closest(out, closest)
+}
+
+// Adds what is wrong with the line that stands there and does this; whether it is a call that is not taken.
+fn push_done(
+    alloc: Global,
+    out: &mut Vec<u8>,
+    page: Page<'_>,
+    object: &Object,
+    line: Span,
+    does: Does,
+) -> Result<bool, AllocError> {
+    match does {
+        Does::Ends => {
+            push_line(alloc, out, page, object, line)?;
+            Ok(false)
+        }
+        Does::Calls(number) => push_called(alloc, out, page, object, line, number),
+        Does::Other => Ok(false),
+    }
 }
 
 // Adds what is wrong with the first calls behind line 1 that the object does not take, and with the line that ends the
@@ -100,18 +135,26 @@ fn push_lines(
             start,
             end: start.saturating_add(line.len()),
         };
-        match done_by(alloc, line)? {
-            Does::Ends => return push_line(alloc, out, page, object, place),
-            Does::Calls(number) => if told < MOST_TOLD
-                && push_called(alloc, out, page, object, place, number)?
-            {
+        let does = done_by(alloc, line)?;
+        if told < MOST_TOLD || is_end(does) {
+            if push_done(alloc, out, page, object, place, does)? {
                 told = told.saturating_add(1);
-            },
-            Does::Other => {}
+            }
+        }
+        if is_end(does) {
+            return Ok(());
         }
         rest = behind;
     }
     Ok(())
+}
+
+// Adds a text in which a line, before which so many others came, has its number.
+fn push_text(text: &mut Vec<u8>, before: usize, line: &[u8]) -> Result<(), AllocError> {
+    for _ in 0..before {
+        text.push(b'\n')?;
+    }
+    text.extend_from_slice(line)
 }
 
 /// Adds what is wrong with a line, before which so many others came: why it says nothing, or why the object does not
@@ -123,12 +166,9 @@ pub(crate) fn push_why(
     before: usize,
     line: &[u8],
 ) -> Result<(), AllocError> {
-    // A text in which the line has its number.
+    let does = done_by(alloc, line)?;
     let mut text = Vec::new(alloc);
-    for _ in 0..before {
-        text.push(b'\n')?;
-    }
-    text.extend_from_slice(line)?;
+    push_text(&mut text, before, line)?;
     let page = Page {
         file: b"input",
         source: &text,
@@ -138,13 +178,22 @@ pub(crate) fn push_why(
         start: before,
         end: text.len(),
     };
-    match done_by(alloc, line)? {
-        Does::Ends => push_line(alloc, out, page, object, place),
-        Does::Calls(number) => {
-            push_called(alloc, out, page, object, place, number)?;
-            Ok(())
-        }
-        Does::Other => Ok(()),
+    let _told = push_done(alloc, out, page, object, place, does)?;
+    Ok(())
+}
+
+// Adds what is wrong with a script whose first line names this object.
+fn push_named(
+    alloc: Global,
+    out: &mut Vec<u8>,
+    page: Page<'_>,
+    files: Files<'_>,
+    source: &[u8],
+    name: &Name,
+) -> Result<(), AllocError> {
+    match open_script(alloc, source, page.source)? {
+        Opened::Ready(accepted) => push_lines(alloc, out, page, accepted.object()),
+        Opened::Told(_) => push_lacking(alloc, out, page, files, source, name),
     }
 }
 
@@ -165,11 +214,8 @@ pub fn explain_script(
         tokens: &[],
     };
     match named_object(alloc, text)? {
-        None => push_unnamed(alloc, &mut out, page)?,
-        Some(name) => match open_script(alloc, source, text)? {
-            Opened::Ready(accepted) => push_lines(alloc, &mut out, page, accepted.object())?,
-            Opened::Told(_) => push_lacking(alloc, &mut out, page, files, source, &name)?,
-        },
+        None => push_unnamed(&mut out, page)?,
+        Some(name) => push_named(alloc, &mut out, page, files, source, &name)?,
     }
     Ok(out)
 }

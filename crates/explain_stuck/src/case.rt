@@ -1,12 +1,62 @@
 //! An object of a source, and calls after which it loses operations.
 
 use decl_core::object::Object;
-use itoa::Buffer;
 use note_core::page::Page;
+use note_core::said::push_number;
 use note_core::tokens::{count_to, first_tokens, section};
 use path_tree::node::OpId;
 use path_tree::token::{Symbol, Token};
 use std::alloc::AllocError;
+
+// The most operations of an object.
+const MOST: usize = 32;
+
+/// Operations of an object, each once, in an order.
+#[derive(Clone, Copy)]
+pub(crate) struct Ops {
+    ops: [OpId; MOST],
+    count: usize,
+}
+
+/// No operations.
+pub(crate) fn no_ops() -> Ops {
+    Ops {
+        ops: [0; MOST],
+        count: 0,
+    }
+}
+
+impl Ops {
+    /// All of them.
+    pub(crate) fn all(&self) -> &[OpId] {
+        &self.ops[..self.count.min(MOST)]
+    }
+
+    /// Whether this is one of them.
+    pub(crate) fn has(&self, op: OpId) -> bool {
+        self.all().contains(&op)
+    }
+
+    /// Adds one, unless it is one of them.
+    pub(crate) fn add(&mut self, op: OpId) {
+        if self.has(op) {
+            return;
+        }
+        if let Some(slot) = self.ops.get_mut(self.count) {
+            *slot = op;
+            self.count = self.count.saturating_add(1);
+        }
+    }
+
+    /// These, and behind them those of others that are none of them.
+    pub(crate) fn with(self, more: &[OpId]) -> Ops {
+        let mut all = self;
+        for op in more {
+            all.add(*op);
+        }
+        all
+    }
+}
 
 /// An object of a page, calls of it, and the operations that are lost after them.
 #[derive(Clone, Copy)]
@@ -19,7 +69,7 @@ pub(crate) struct Case<'a> {
     pub tokens: &'a [Token],
     /// The calls, one after the other.
     pub calls: &'a [OpId],
-    pub lost: &'a [OpId],
+    pub lost: Ops,
 }
 
 /// How many operations an object has.
@@ -77,12 +127,6 @@ pub(crate) fn push_names(
     Ok(())
 }
 
-/// Adds a number.
-pub(crate) fn push_number(out: &mut Vec<u8>, number: usize) -> Result<(), AllocError> {
-    let mut buffer = Buffer::new();
-    out.extend_from_slice(buffer.format(number as u64).as_bytes())
-}
-
 // Adds so many calls of an operation, where there are some.
 fn push_run(out: &mut Vec<u8>, object: &Object, op: OpId, count: usize) -> Result<(), AllocError> {
     if count == 0 {
@@ -92,28 +136,26 @@ fn push_run(out: &mut Vec<u8>, object: &Object, op: OpId, count: usize) -> Resul
         out.extend_from_slice(b", ")?;
     }
     if count > 1 {
-        push_number(out, count)?;
+        push_number(out, count as u64)?;
         out.extend_from_slice(b" times ")?;
     }
     push_name(out, object, op)
 }
 
-/// Calls as they stand in a sentence, those of one operation that stand together in one.
-pub(crate) fn calls_text(
-    alloc: std::alloc::Global,
+/// Adds calls as they stand in a sentence, those of one operation that stand together in one.
+pub(crate) fn push_calls(
+    out: &mut Vec<u8>,
     object: &Object,
     calls: &[OpId],
-) -> Result<Vec<u8>, AllocError> {
-    let mut out = Vec::new(alloc);
+) -> Result<(), AllocError> {
     let mut run: (OpId, usize) = (0, 0);
     for op in calls {
         if run.0 == *op {
             run.1 = run.1.saturating_add(1);
         } else {
-            push_run(&mut out, object, run.0, run.1)?;
+            push_run(out, object, run.0, run.1)?;
             run = (*op, 1);
         }
     }
-    push_run(&mut out, object, run.0, run.1)?;
-    Ok(out)
+    push_run(out, object, run.0, run.1)
 }

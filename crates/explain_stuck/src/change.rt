@@ -14,19 +14,8 @@ use stuck_search::find::find;
 // The most states of an object that is tried.
 const MOST_STATES: usize = 4_096;
 
-// The most changes that are tried of an object.
-const MOST_TRIED: usize = 64;
-
-/// What was tried of an object so far.
-#[derive(Drop)]
-pub(crate) struct Tries {
-    left: usize,
-}
-
-/// Nothing so far.
-pub(crate) fn no_tries() -> Tries {
-    Tries { left: MOST_TRIED }
-}
+/// The most changes that are tried of an object.
+pub(crate) const MOST_TRIED: usize = 64;
 
 // A source with a text in the place of a stretch.
 fn with_text(alloc: Global, source: &[u8], span: Span, text: &[u8]) -> Result<Vec<u8>, AllocError> {
@@ -88,18 +77,18 @@ fn is_kept_in(alloc: Global, source: &[u8], number: usize) -> Result<bool, Alloc
 }
 
 /// Whether the object is accepted and keeps every operation with this text in the place of a stretch of its source; `false`
-/// also where enough was tried.
+/// also where enough was tried. `left` is how many changes may be tried.
 pub(crate) fn is_way(
     alloc: Global,
     case: Case<'_>,
     span: Span,
     text: &[u8],
-    tries: &mut Tries,
+    left: &mut usize,
 ) -> Result<bool, AllocError> {
-    if tries.left == 0 {
+    if *left == 0 {
         return Ok(false);
     }
-    tries.left -= 1;
+    *left -= 1;
     let changed = with_text(alloc, case.page.source, span, text)?;
     is_kept_in(alloc, &changed, case.number)
 }

@@ -1,6 +1,6 @@
 //! The explanation of the objects of a source.
 
-use crate::case::{Case, calls_text, count_of, push_names};
+use crate::case::{Case, Ops, count_of, no_ops, push_calls, push_names};
 use crate::shown::push_shown;
 use crate::waiting::push_waiting;
 use crate::ways::push_ways;
@@ -10,8 +10,8 @@ use decl_read::read::read_objects;
 use exclude_core::analyse::{Refusal, analyse};
 use explain_fault::fault::is_want_of_memory;
 use note_core::page::{Page, push_note};
-use note_core::said::Words;
-use note_core::span::span_of;
+use note_core::said::{Words, two};
+use note_core::span::{behind, front, span_of};
 use note_core::tokens::section;
 use path_tree::lex::fault::LexFault;
 use path_tree::lex::lex;
@@ -31,6 +31,28 @@ fn sentence_of(is_stuck: bool, at_once: bool) -> &'static str {
     }
 }
 
+// Adds after which calls operations are lost, and which.
+fn push_loss(
+    alloc: Global,
+    out: &mut Vec<u8>,
+    case: Case<'_>,
+    is_stuck: bool,
+) -> Result<(), AllocError> {
+    let [_, name, ..] = case.tokens else {
+        return Ok(());
+    };
+    let mut text = Vec::new(alloc);
+    push_calls(&mut text, case.object, case.calls)?;
+    let end = text.len();
+    push_names(&mut text, case.object, case.lost.all(), b" and ")?;
+    let words = Words {
+        fourth: case.object.name.as_bytes(),
+        ..two(front(&text, end), behind(&text, end))
+    };
+    let sentence = sentence_of(is_stuck, case.calls.is_empty());
+    push_note(out, case.page, span_of(name), sentence, words)
+}
+
 // Adds what is said of calls after which operations are lost.
 fn push_case(
     alloc: Global,
@@ -38,42 +60,30 @@ fn push_case(
     case: Case<'_>,
     is_stuck: bool,
 ) -> Result<(), AllocError> {
-    let calls = calls_text(alloc, case.object, case.calls)?;
-    let mut names = Vec::new(alloc);
-    push_names(&mut names, case.object, case.lost, b" and ")?;
-    let words = Words {
-        first: &calls,
-        second: &names,
-        third: b"",
-        fourth: case.object.name.as_bytes(),
-    };
-    if let [_, name, ..] = case.tokens {
-        let sentence = sentence_of(is_stuck, case.calls.is_empty());
-        push_note(out, case.page, span_of(name), sentence, words)?;
-    }
+    push_loss(alloc, out, case, is_stuck)?;
     push_waiting(alloc, out, case)?;
     push_shown(out, case)
 }
 
 // The calls after which an operation is lost, where it is.
-fn calls_of(found: &Findings, op: usize) -> Option<&[OpId]> {
-    match found.each.get(op) {
+fn calls_of(found: &Findings, op: OpId) -> Option<&[OpId]> {
+    match found.each.get(usize::from(op)) {
         Some(Finding::Lost(calls)) => Some(calls),
         _ => None,
     }
 }
 
 // The operations that are lost after just these calls.
-fn lost_after(alloc: Global, found: &Findings, calls: &[OpId]) -> Result<Vec<OpId>, AllocError> {
-    let mut lost = Vec::new(alloc);
+fn lost_after(found: &Findings, calls: &[OpId]) -> Ops {
+    let mut lost = no_ops();
     for op in 0..32 {
-        if let Some(others) = calls_of(found, usize::from(op)) {
+        if let Some(others) = calls_of(found, op) {
             if others == calls {
-                lost.push(op)?;
+                lost.add(op);
             }
         }
     }
-    Ok(lost)
+    lost
 }
 
 // Adds what is said of an object that gets stuck after these calls.
@@ -83,17 +93,32 @@ fn push_stuck(
     case: Case<'_>,
     calls: &[OpId],
 ) -> Result<(), AllocError> {
-    let mut all = Vec::new(alloc);
+    let mut lost = no_ops();
     for op in 0..count_of(case.object) {
-        all.push(op)?;
+        lost.add(op);
     }
     let stuck = Case {
         calls,
-        lost: &all,
+        lost,
         ..case
     };
     push_case(alloc, out, stuck, true)?;
     push_ways(alloc, out, stuck)
+}
+
+// Adds what is said of the operations that are lost after these calls, with what would mend it where `is_first`.
+fn push_lost_after(
+    alloc: Global,
+    out: &mut Vec<u8>,
+    case: Case<'_>,
+    is_first: bool,
+) -> Result<(), AllocError> {
+    push_case(alloc, out, case, false)?;
+    if is_first {
+        push_ways(alloc, out, case)
+    } else {
+        Ok(())
+    }
 }
 
 // Adds what is said of an object that loses operations and does not get stuck: for the first ones, with the calls after
@@ -104,22 +129,18 @@ fn push_lost(
     case: Case<'_>,
     found: &Findings,
 ) -> Result<(), AllocError> {
-    let mut told = Vec::new(alloc);
+    let mut told = no_ops();
     for op in 0..count_of(case.object) {
-        if let Some(calls) = calls_of(found, usize::from(op)) {
-            if !told.contains(&op) {
-                let lost = lost_after(alloc, found, calls)?;
+        if let Some(calls) = calls_of(found, op) {
+            if !told.has(op) {
+                let lost = lost_after(found, calls);
                 let here = Case {
                     calls,
-                    lost: &lost,
+                    lost,
                     ..case
                 };
-                let is_first = told.is_empty();
-                push_case(alloc, out, here, false)?;
-                if is_first {
-                    push_ways(alloc, out, here)?;
-                }
-                told.extend_from_slice(&lost)?;
+                push_lost_after(alloc, out, here, told.all().is_empty())?;
+                told = told.with(lost.all());
             }
         }
     }
@@ -141,7 +162,7 @@ fn push_accepted(
         number,
         tokens: section(page.tokens, Symbol::Object, number),
         calls: &[],
-        lost: &[],
+        lost: no_ops(),
     };
     match &found.ending {
         Ending::After(calls) => push_stuck(alloc, out, case, calls),
@@ -188,11 +209,13 @@ fn push_source(alloc: Global, out: &mut Vec<u8>, page: Page<'_>) -> Result<(), A
     }
 }
 
-/// What a person is told of each accepted object of a source in this file that loses an operation: after which calls,
-/// where the lost ones wait and for what, what lines show it, and what would mend it. It is empty where there is
-/// nothing to tell. It fails only with memory.
-pub fn explain_stuck(alloc: Global, file: &[u8], source: &[u8]) -> Result<Vec<u8>, AllocError> {
-    let mut out = Vec::new(alloc);
+// Adds what is said of a source.
+fn push_text(
+    alloc: Global,
+    out: &mut Vec<u8>,
+    file: &[u8],
+    source: &[u8],
+) -> Result<(), AllocError> {
     match lex(alloc, source) {
         Ok(tokens) => {
             let page = Page {
@@ -200,10 +223,18 @@ pub fn explain_stuck(alloc: Global, file: &[u8], source: &[u8]) -> Result<Vec<u8
                 source,
                 tokens: &tokens,
             };
-            push_source(alloc, &mut out, page)?;
-            Ok(out)
+            push_source(alloc, out, page)
         }
         Err(LexFault::Memory) => Err(AllocError),
-        Err(_) => Ok(out),
+        Err(_) => Ok(()),
     }
+}
+
+/// What a person is told of each accepted object of a source in this file that loses an operation: after which calls,
+/// where the lost ones wait and for what, what lines show it, and what would mend it. It is empty where there is
+/// nothing to tell. It fails only with memory.
+pub fn explain_stuck(alloc: Global, file: &[u8], source: &[u8]) -> Result<Vec<u8>, AllocError> {
+    let mut out = Vec::new(alloc);
+    push_text(alloc, &mut out, file, source)?;
+    Ok(out)
 }

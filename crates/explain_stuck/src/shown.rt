@@ -1,8 +1,8 @@
 //! The lines with which `pathserve paths` shows what is lost.
 
-use crate::case::{Case, name_of, path_tokens, push_number};
+use crate::case::{Case, name_of, path_tokens};
 use note_core::page::push_help;
-use note_core::said::Words;
+use note_core::said::{only, push_number};
 use note_core::span::{span_of, text_at};
 use note_core::tokens::{
     begins, find_name, is_any_name, is_symbol, name_of as word_of, tokens_from,
@@ -38,7 +38,7 @@ fn push_token(out: &mut Vec<u8>, case: Case<'_>, here: &[Token]) -> Result<(), A
     };
     if is_any_name(token) && begins(behind, Symbol::Colon) {
         if let Some(value) = value_of(case.tokens, word_of(here)) {
-            return push_number(out, number_of(value) as usize);
+            return push_number(out, u64::from(number_of(value)));
         }
     }
     if is_symbol(token, Symbol::End) {
@@ -92,23 +92,17 @@ fn push_event(out: &mut Vec<u8>, case: Case<'_>, word: &[u8], op: OpId) -> Resul
 
 /// Adds the lines, where the calls are few.
 pub(crate) fn push_shown(out: &mut Vec<u8>, case: Case<'_>) -> Result<(), AllocError> {
-    let none = Words {
-        first: b"",
-        second: b"",
-        third: b"",
-        fourth: b"",
-    };
     if case.calls.len() > MOST_SHOWN {
         return push_help(
             out,
             "`pathserve paths` shows it: give it the paths, a start and a finish of each call, and a start of what is lost",
-            none,
+            only(b""),
         );
     }
     push_help(
         out,
         "to see it, give `pathserve paths` these lines; each start at their end is blocked",
-        none,
+        only(b""),
     )?;
     push_operations(out, case)?;
     for number in 0..case.object.paths.len() {
@@ -118,7 +112,7 @@ pub(crate) fn push_shown(out: &mut Vec<u8>, case: Case<'_>) -> Result<(), AllocE
         push_event(out, case, b"start ", *op)?;
         push_event(out, case, b"finish ", *op)?;
     }
-    for op in case.lost {
+    for op in case.lost.all() {
         push_event(out, case, b"start ", *op)?;
     }
     Ok(())

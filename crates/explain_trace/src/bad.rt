@@ -1,23 +1,22 @@
 //! Lines that are none of a trace, or have no place where they stand.
 
-use crate::reply::{call_of, number_in, operation_name, push_numbered};
-use crate::story::{FaultyLine, MOST_CALLS, Story, bytes_of, operation_named, value_of};
+use crate::story::{
+    FaultyLine, MOST_CALLS, call_of, is_hex, number_in, operation_named, started_here, value_of,
+};
 use apply_core::fits::arguments_fit;
 use decl_core::object::{Object, Operation, Part};
 use explain_line::finding::{
-    Finding, only, push_finding, shown, surplus, two, wrong_call, wrong_data, wrong_name,
-    wrong_session, wrong_word,
+    surplus, wrong_call, wrong_data, wrong_name, wrong_session, wrong_word,
 };
 use explain_line::line_words::LineWords;
 use line_core::words::is_same_word;
 use note_core::alike::are_alike;
-use note_core::page::{Page, push_help, push_note};
-use note_core::said::{Said, say};
+use note_core::page::push_found;
+use note_core::said::{Finding, Said, only, say, two};
 use note_core::span::text_at;
 use std::alloc::{AllocError, Global};
-use value_core::datum::Datum;
 use value_core::kind::{Elem, Kind};
-use word_core::number::{integer_of, session_of};
+use word_core::number::session_of;
 use word_core::word::Word;
 use word_core::words::{data_of, words_of};
 
@@ -26,6 +25,9 @@ const PART_FORM: &str =
 
 const END_FORM: &str =
     "the line is `end N done`, `end N done VALUE`, `end N refused WORD` or `end N failed CAUSE`";
+
+// The most sessions of a trace.
+const MOST_SESSIONS: u32 = 1_024;
 
 // The word of a kind.
 fn kind_word(kind: Kind) -> &'static [u8] {
@@ -39,159 +41,127 @@ fn kind_word(kind: Kind) -> &'static [u8] {
     }
 }
 
-// Adds what is wrong with the bytes of a part.
-fn push_wrong_bytes(
+// What is wrong with the bytes that a line tells of a part.
+fn wrong_bytes<'a>(
     alloc: Global,
-    out: &mut Vec<u8>,
-    page: Page<'_>,
-    part: &Part,
+    part: &'a Part,
     words: &LineWords<'_>,
-) -> Result<(), AllocError> {
+) -> Result<Finding<'a>, AllocError> {
     let word = words.bare(2);
-    let named = two(part.name.as_bytes(), kind_word(part.kind));
-    if bytes_of(alloc, word)?.is_none() {
-        push_note(
-            out,
-            page,
-            words.span(2),
+    let said = if !is_hex(word) {
+        say(
             "these are not bytes in hexadecimal",
-            named,
-        )?;
-        return push_help(
-            out,
             "a byte is two digits of 0 to 9 and a to f, with nothing between bytes",
-            named,
-        );
-    }
-    if value_of(alloc, part, word)?.is_none() {
-        push_note(
-            out,
-            page,
-            words.span(2),
+        )
+    } else if value_of(alloc, part.kind, word)?.is_none() {
+        say(
             "these bytes are not a value of `%`, which is: $",
-            named,
-        )?;
-        return push_help(out, "docs/FORMATS.md has the bytes of values", named);
-    }
-    push_note(
-        out,
-        page,
-        words.span(2),
-        "the digits a to f have to be lower-case letters",
-        named,
-    )
+            "docs/FORMATS.md has the bytes of values",
+        )
+    } else {
+        say("the digits a to f have to be lower-case letters", "")
+    };
+    let named = two(part.name.as_bytes(), kind_word(part.kind));
+    Ok(said.with(words.span(2), named))
 }
 
-// Adds what is wrong with a line where the one of this part is due.
-fn push_wrong_part(
-    alloc: Global,
-    out: &mut Vec<u8>,
-    page: Page<'_>,
-    part: &Part,
-    words: &LineWords<'_>,
-) -> Result<(), AllocError> {
+// What is wrong with the words of a line where the one of this part is due, apart from its bytes.
+fn wrong_part<'a>(part: &'a Part, words: &LineWords<'_>) -> Option<Finding<'a>> {
     let named = only(part.name.as_bytes());
     if !is_same_word(words.bare(0), b"part") {
-        push_note(
-            out,
-            page,
-            words.line,
+        let said = say(
             "here the line of part `%` has to stand",
-            named,
-        )?;
-        return push_help(
-            out,
             "after line 1 each part has a line `part NAME HEX`, in the order of their declaration",
-            named,
         );
+        return Some(said.with(words.line, named));
     }
     if words.bare(1) != part.name.as_bytes() {
-        push_note(out, page, words.span(1), "here part `%` is due", named)?;
-        return push_help(
-            out,
+        let said = say(
+            "here part `%` is due",
             "each part has one line, in the order of their declaration, by its name in lower case",
-            named,
         );
+        return Some(said.with(words.span(1), named));
     }
     if words.at(2).is_none() {
-        push_note(
-            out,
-            page,
-            words.span(2),
-            "the bytes of part `%` are missing",
-            named,
-        )?;
-        return push_help(out, PART_FORM, named);
+        let said = say("the bytes of part `%` are missing", PART_FORM);
+        return Some(said.with(words.span(2), named));
     }
-    match surplus(words, 3, PART_FORM) {
-        Some(found) => push_finding(alloc, out, page, found),
-        None => push_wrong_bytes(alloc, out, page, part, words),
+    surplus(words, 3, PART_FORM)
+}
+
+// What is wrong with a line where the one of this part is due.
+fn no_part<'a>(
+    alloc: Global,
+    faulty: FaultyLine<'_>,
+    part: &'a Part,
+) -> Result<Finding<'a>, AllocError> {
+    let words = faulty.words;
+    if words.line.start == faulty.page.source.len() {
+        let said = say("the trace ends before the line of part `%`", PART_FORM);
+        return Ok(said.with(words.line, only(part.name.as_bytes())));
+    }
+    match wrong_part(part, words) {
+        Some(found) => Ok(found),
+        None => wrong_bytes(alloc, part, words),
     }
 }
 
-// What is said of a number that no call may have.
-fn no_number() -> Said {
-    say(
-        "`%` cannot be the number of a call",
-        "calls are numbered from 1 to 65536",
-    )
-}
-
-// What is wrong with the words of a start up to its arguments, where that is seen by them alone.
-fn wrong_start(words: &LineWords<'_>) -> Option<Finding> {
+// What is wrong with the number of the call of a start or an end.
+fn wrong_number<'a>(words: &LineWords<'_>) -> Option<Finding<'a>> {
     if let Some(found) = wrong_call(words, 1) {
         return Some(found);
     }
-    if number_in(words) == 0 || number_in(words) > MOST_CALLS {
-        return Some(Finding {
-            span: words.span(1),
-            said: no_number(),
-        });
+    let number = number_in(words);
+    if number == 0 || number > MOST_CALLS {
+        let said = say(
+            "`^` cannot be the number of a call",
+            "calls are numbered from 1 to 65536",
+        );
+        return Some(said.here(words.span(1)));
     }
+    None
+}
+
+// What is wrong with the session of a start.
+fn wrong_seat<'a>(words: &LineWords<'_>) -> Option<Finding<'a>> {
     if let Some(found) = wrong_session(words, 2) {
         return Some(found);
     }
     let session = session_of(words.bare(2)).unwrap_or(0);
     if session == 0 || session > MOST_SESSIONS {
-        return Some(Finding {
-            span: words.span(2),
-            said: say("there is no session `%`", "sessions are s1 to s1024"),
-        });
-    }
-    if let Some(found) = wrong_name(words, 3, !words.bare(3).is_empty()) {
-        return Some(found);
+        let said = say("there is no session `^`", "sessions are s1 to s1024");
+        return Some(said.here(words.span(2)));
     }
     None
 }
 
-// The most sessions of a trace.
-const MOST_SESSIONS: u32 = 1_024;
+// What is wrong with the words of a start, where that is seen by them alone.
+fn wrong_start<'a>(words: &LineWords<'_>) -> Option<Finding<'a>> {
+    if let Some(found) = wrong_number(words) {
+        return Some(found);
+    }
+    if let Some(found) = wrong_seat(words) {
+        return Some(found);
+    }
+    if let Some(found) = wrong_name(words, 3, !words.bare(3).is_empty()) {
+        return Some(found);
+    }
+    wrong_data(words, 4)
+}
 
-// Adds that an object has no operation of the name in a start.
-fn push_unknown(
-    alloc: Global,
-    out: &mut Vec<u8>,
-    page: Page<'_>,
-    object: &Object,
-    words: &LineWords<'_>,
-) -> Result<(), AllocError> {
-    let name = words.bare(3);
-    let written = shown(alloc, name)?;
-    let said = two(&written, object.name.as_bytes());
-    push_note(
-        out,
-        page,
-        words.span(3),
-        "there is no operation `%` in object `$`",
-        said,
-    )?;
-    match object
-        .operations
-        .iter()
-        .find(|operation| are_alike(operation.name.as_bytes(), name))
-    {
-        Some(operation) => push_help(out, "is `%` meant?", only(operation.name.as_bytes())),
-        None => Ok(()),
+// What is said of an operation in a start that an object has not.
+fn unknown<'a>(object: &'a Object, words: &LineWords<'_>) -> Finding<'a> {
+    let sentence = "there is no operation `^` in object `%`";
+    let of = object.name.as_bytes();
+    match object.operations.iter().find(|operation| are_alike(
+        operation.name.as_bytes(),
+        words.bare(3),
+    )) {
+        Some(meant) => say(sentence, "is `$` meant?").with(
+            words.span(3),
+            two(of, meant.name.as_bytes()),
+        ),
+        None => say(sentence, "").with(words.span(3), only(of)),
     }
 }
 
@@ -203,18 +173,17 @@ fn elem_word(elem: Elem) -> &'static [u8] {
     }
 }
 
-// What an operation takes, as it is declared.
-fn parameters_of(alloc: Global, operation: &Operation) -> Result<Vec<u8>, AllocError> {
-    let mut text = Vec::new(alloc);
-    for param in operation.params.iter() {
-        if !text.is_empty() {
-            text.extend_from_slice(b"; ")?;
+// Adds what an operation takes, as it is declared.
+fn push_parameters(out: &mut Vec<u8>, operation: &Operation) -> Result<(), AllocError> {
+    for (place, param) in operation.params.iter().enumerate() {
+        if place > 0 {
+            out.extend_from_slice(b"; ")?;
         }
-        text.extend_from_slice(param.name.as_bytes())?;
-        text.extend_from_slice(b" : ")?;
-        text.extend_from_slice(elem_word(param.kind))?;
+        out.extend_from_slice(param.name.as_bytes())?;
+        out.extend_from_slice(b" : ")?;
+        out.extend_from_slice(elem_word(param.kind))?;
     }
-    Ok(text)
+    Ok(())
 }
 
 // The words from the one of this number on.
@@ -226,42 +195,72 @@ fn words_from<'a, 'b>(words: &'b [Word<'a>], count: usize) -> &'b [Word<'a>] {
     }
 }
 
-// The arguments of a start.
-fn arguments_in(alloc: Global, words: &LineWords<'_>) -> Result<Vec<Datum>, AllocError> {
-    match words_of(alloc, text_at(words.text, words.line))? {
-        Some(all) => match data_of(alloc, words_from(&all, 4))? {
-            Some(data) => Ok(data),
-            None => Ok(Vec::new(alloc)),
-        },
-        None => Ok(Vec::new(alloc)),
+// Whether these words are the arguments of an operation; where they are no data, whether it takes none.
+fn are_arguments(
+    alloc: Global,
+    operation: &Operation,
+    words: &[Word<'_>],
+) -> Result<bool, AllocError> {
+    match data_of(alloc, words)? {
+        Some(data) => Ok(arguments_fit(operation, &data)),
+        None => Ok(operation.params.is_empty()),
     }
 }
 
-// Adds what is wrong with the arguments of a start, which are integers and texts.
-fn push_wrong_arguments(
+// Whether the arguments of a start are those of its operation.
+fn has_arguments(
     alloc: Global,
-    out: &mut Vec<u8>,
-    page: Page<'_>,
     operation: &Operation,
     words: &LineWords<'_>,
-) -> Result<(), AllocError> {
-    let arguments = arguments_in(alloc, words)?;
-    if arguments_fit(operation, &arguments) {
-        return Ok(());
+) -> Result<bool, AllocError> {
+    match words_of(alloc, text_at(words.text, words.line))? {
+        Some(all) => are_arguments(alloc, operation, words_from(&all, 4)),
+        None => Ok(operation.params.is_empty()),
     }
-    let text = parameters_of(alloc, operation)?;
-    let named = two(operation.name.as_bytes(), &text);
-    push_note(
-        out,
-        page,
-        words.span_from(3),
-        "`%` takes other arguments",
-        named,
-    )?;
-    if text.is_empty() {
-        push_help(out, "`%` has no parameters", named)
+}
+
+// Adds that the arguments of a start, which are integers and texts, are not those of its operation.
+fn push_arguments(
+    alloc: Global,
+    out: &mut Vec<u8>,
+    faulty: FaultyLine<'_>,
+    operation: &Operation,
+) -> Result<(), AllocError> {
+    let mut text = Vec::new(alloc);
+    push_parameters(&mut text, operation)?;
+    let help = if text.is_empty() {
+        "`%` has no parameters"
     } else {
-        push_help(out, "`%` is declared with ($)", named)
+        "`%` is declared with ($)"
+    };
+    let named = two(operation.name.as_bytes(), &text);
+    let said = say("`%` takes other arguments", help);
+    push_found(
+        out,
+        faulty.page,
+        said.with(faulty.words.span_from(3), named),
+    )
+}
+
+// Adds what is wrong with the operation or the arguments of a start.
+fn push_wrong_call(
+    alloc: Global,
+    out: &mut Vec<u8>,
+    faulty: FaultyLine<'_>,
+) -> Result<(), AllocError> {
+    let FaultyLine {
+        page,
+        object,
+        words,
+        ..
+    } = faulty;
+    match operation_named(object, words.bare(3)) {
+        None => push_found(out, page, unknown(object, words)),
+        Some(operation) => if has_arguments(alloc, operation, words)? {
+            Ok(())
+        } else {
+            push_arguments(alloc, out, faulty, operation)
+        },
     }
 }
 
@@ -269,43 +268,29 @@ fn push_wrong_arguments(
 fn push_wrong_start(
     alloc: Global,
     out: &mut Vec<u8>,
-    page: Page<'_>,
-    object: &Object,
-    story: &Story,
-    words: &LineWords<'_>,
+    faulty: FaultyLine<'_>,
 ) -> Result<(), AllocError> {
+    let FaultyLine {
+        page,
+        object,
+        story,
+        words,
+        ..
+    } = faulty;
     if let Some(found) = wrong_start(words) {
-        return push_finding(alloc, out, page, found);
+        return push_found(out, page, found);
     }
-    if let Some(found) = wrong_data(words, 4) {
-        return push_finding(alloc, out, page, found);
-    }
-    if let Some(call) = call_of(story, number_in(words)) {
-        let written = only(words.bare(1));
-        push_note(
-            out,
-            page,
-            words.span(1),
-            "there is a call % already",
-            written,
-        )?;
-        let name = operation_name(object, call.operation);
-        return push_numbered(
-            out,
-            page,
-            call.started,
-            "this `%` started here, in line $",
-            name,
-            call.started.number,
-        );
-    }
-    match operation_named(object, words.bare(3)) {
-        None => push_unknown(alloc, out, page, object, words),
-        Some(place) => match object.operations.get(place) {
-            Some(operation) => push_wrong_arguments(alloc, out, page, operation, words),
-            None => Ok(()),
-        },
-    }
+    let Some(call) = call_of(story, number_in(words)) else {
+        return push_wrong_call(alloc, out, faulty);
+    };
+    let said = say("there is a call % already", "");
+    push_found(out, page, said.with(words.span(1), only(words.bare(1))))?;
+    let sentence = "this `%` started here, in line ~";
+    push_found(
+        out,
+        page,
+        started_here(object, call, sentence, call.started.number),
+    )
 }
 
 // Whether a word can be one by which a call was refused.
@@ -318,68 +303,58 @@ fn is_cause(word: &[u8]) -> bool {
     is_same_word(word, b"device") || is_same_word(word, b"memory") || is_same_word(word, b"damaged")
 }
 
-// What is wrong with the words of a reply.
-fn wrong_ending(words: &LineWords<'_>) -> Option<Finding> {
-    let verb = words.bare(2);
-    let is_done = is_same_word(verb, b"done");
-    let is_refused = is_same_word(verb, b"refused");
-    let is_right = is_done || is_refused || is_same_word(verb, b"failed");
-    let missing = say("how the call ended is missing here", END_FORM);
-    let wrong = say("a call does not end by `%`", END_FORM);
-    if let Some(found) = wrong_word(words, 2, is_right, missing, wrong) {
-        return Some(found);
-    }
-    if is_done {
-        return match wrong_data(words, 3) {
-            Some(found) => Some(found),
-            None => surplus(words, 4, END_FORM),
-        };
-    }
-    let named = if is_refused {
-        wrong_word(
-            words,
-            3,
-            is_refusal(words.bare(3)),
-            say("the word of the refusal is missing here", END_FORM),
-            say(
-                "`%` is not a word to refuse by",
-                "it has 1 to 16 lower-case letters",
-            ),
-        )
-    } else {
-        wrong_word(
-            words,
-            3,
-            is_cause(words.bare(3)),
-            say(
-                "the cause of the failure is missing here",
-                "it is `device`, `memory` or `damaged`",
-            ),
-            say(
-                "`%` is not a cause of a failure",
-                "it is `device`, `memory` or `damaged`",
-            ),
-        )
-    };
-    match named {
-        Some(found) => Some(found),
-        None => surplus(words, 4, END_FORM),
-    }
+// What is wrong with the word by which a call was refused.
+fn wrong_refusal<'a>(words: &LineWords<'_>) -> Option<Finding<'a>> {
+    wrong_word(
+        words,
+        3,
+        is_refusal(words.bare(3)),
+        say("the word of the refusal is missing here", END_FORM),
+        say(
+            "`^` is not a word to refuse by",
+            "it has 1 to 16 lower-case letters",
+        ),
+    )
+}
+
+// What is wrong with the cause of a failure.
+fn wrong_cause<'a>(words: &LineWords<'_>) -> Option<Finding<'a>> {
+    let form = "it is `device`, `memory` or `damaged`";
+    wrong_word(
+        words,
+        3,
+        is_cause(words.bare(3)),
+        say("the cause of the failure is missing here", form),
+        say("`^` is not a cause of a failure", form),
+    )
 }
 
 // What is wrong with a line `end`.
-fn wrong_end(words: &LineWords<'_>) -> Option<Finding> {
-    if let Some(found) = wrong_call(words, 1) {
+fn wrong_end<'a>(words: &LineWords<'_>) -> Option<Finding<'a>> {
+    if let Some(found) = wrong_number(words) {
         return Some(found);
     }
-    let number = integer_of(words.bare(1)).unwrap_or(0);
-    if number == 0 || number > MOST_CALLS {
-        return Some(Finding {
-            span: words.span(1),
-            said: no_number(),
-        });
+    let verb = words.bare(2);
+    let behind = if is_same_word(verb, b"done") {
+        wrong_data(words, 3)
+    } else if is_same_word(verb, b"refused") {
+        wrong_refusal(words)
+    } else if is_same_word(verb, b"failed") {
+        wrong_cause(words)
+    } else {
+        let missing = say("how the call ended is missing here", END_FORM);
+        wrong_word(
+            words,
+            2,
+            false,
+            missing,
+            say("a call does not end by `^`", END_FORM),
+        )
+    };
+    match behind {
+        Some(found) => Some(found),
+        None => surplus(words, 4, END_FORM),
     }
-    wrong_ending(words)
 }
 
 // What is said of a line that begins with another word.
@@ -397,21 +372,21 @@ fn of_first_word(words: &LineWords<'_>) -> Said {
             "after the parts come the lines `start` and `end` alone",
         );
     }
+    let form = "after the parts come the lines `start N sK OP ARG ..` and `end N ..` alone";
     if words.line.start == words.line.end {
-        return say(
-            "a trace has no empty lines",
-            "after the parts come the lines `start N sK OP ARG ..` and `end N ..` alone",
-        );
+        return say("a trace has no empty lines", form);
     }
-    say(
-        "no line of a trace begins with `%`",
-        "after the parts come the lines `start N sK OP ARG ..` and `end N ..` alone",
-    )
+    say("no line of a trace begins with `^`", form)
 }
 
-// What is wrong with the first line, which names the object.
-fn of_line_one() -> Said {
-    say("line 1 is `object NAME` alone", "as in `object cell`")
+// What is wrong with a line behind the parts that begins with no `start`.
+fn no_start<'a>(words: &LineWords<'_>) -> Finding<'a> {
+    if is_same_word(words.bare(0), b"end") {
+        if let Some(found) = wrong_end(words) {
+            return found;
+        }
+    }
+    of_first_word(words).here(words.span(0))
 }
 
 /// Adds why a line has no place in a trace, behind lines that told this.
@@ -420,45 +395,17 @@ pub(crate) fn push_bad(
     out: &mut Vec<u8>,
     faulty: FaultyLine<'_>,
 ) -> Result<(), AllocError> {
-    let FaultyLine {
-        page,
-        object,
-        story,
-        words,
-        number,
-    } = faulty;
-    let whole = Finding {
-        span: words.line,
-        said: of_line_one(),
-    };
-    if number == 1 {
-        return push_finding(alloc, out, page, whole);
+    let words = faulty.words;
+    if faulty.number == 1 {
+        let said = say("line 1 is `object NAME` alone", "as in `object cell`");
+        return push_found(out, faulty.page, said.here(words.line));
     }
-    if let Some(part) = object.parts.get(story.values.len()) {
-        if words.line.start == page.source.len() {
-            let named = only(part.name.as_bytes());
-            push_note(
-                out,
-                page,
-                words.line,
-                "the trace ends before the line of part `%`",
-                named,
-            )?;
-            return push_help(out, PART_FORM, named);
-        }
-        return push_wrong_part(alloc, out, page, part, words);
+    if let Some(part) = faulty.object.parts.get(faulty.story.values.len()) {
+        let found = no_part(alloc, faulty, part)?;
+        return push_found(out, faulty.page, found);
     }
     if is_same_word(words.bare(0), b"start") {
-        return push_wrong_start(alloc, out, page, object, story, words);
+        return push_wrong_start(alloc, out, faulty);
     }
-    if is_same_word(words.bare(0), b"end") {
-        if let Some(found) = wrong_end(words) {
-            return push_finding(alloc, out, page, found);
-        }
-    }
-    let first = Finding {
-        span: words.span(0),
-        said: of_first_word(words),
-    };
-    push_finding(alloc, out, page, first)
+    push_found(out, faulty.page, no_start(words))
 }

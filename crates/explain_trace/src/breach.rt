@@ -1,12 +1,10 @@
 //! Starts that a path does not let.
 
-use crate::reply::{operation_name, push_counted, push_numbered};
-use crate::story::{FaultyLine, Seen, Story, operation_named};
+use crate::story::{FaultyLine, Seen, operation_named, started_here};
 use decl_core::object::Object;
-use explain_line::finding::{only, two};
 use itoa::Buffer;
-use note_core::page::{Page, push_help, push_note};
-use note_core::said::Words;
+use note_core::page::{Page, push_found, push_help};
+use note_core::said::{Finding, numbered, only, say};
 use note_core::span::Span;
 use note_core::tokens::{
     count_to, find_name, first_tokens, from_symbol, name_of, section, tokens_from,
@@ -61,83 +59,60 @@ fn names(object: &Object, path: &[Token], place: usize) -> bool {
     }
 }
 
-// Whether a call is active: it has started, and has not ended.
-fn is_active(call: &Option<Seen>) -> bool {
+// A call that is active, if this is one of an operation that the path names: it has started, and has not ended.
+fn active<'s>(object: &Object, path: &[Token], call: &'s Option<Seen>) -> Option<&'s Seen> {
     match call {
-        Some(call) => call.ended.is_none(),
-        None => false,
-    }
-}
-
-// Adds where an active call of the path started.
-fn push_active(
-    out: &mut Vec<u8>,
-    page: Page<'_>,
-    object: &Object,
-    call: &Option<Seen>,
-    number: usize,
-) -> Result<(), AllocError> {
-    match call {
-        Some(call) => {
-            let name = operation_name(object, call.operation);
-            let sentence = "`%` is active since here, as call $";
-            push_numbered(out, page, call.started, sentence, name, number as u64)
-        }
-        None => Ok(()),
+        Some(call) => if call.ended.is_none() && names(object, path, call.operation) {
+            Some(call)
+        } else {
+            None
+        },
+        None => None,
     }
 }
 
 // Adds which calls of the operations of a path are active.
 fn push_all_active(
     out: &mut Vec<u8>,
-    page: Page<'_>,
-    object: &Object,
-    story: &Story,
+    faulty: FaultyLine<'_>,
     path: &[Token],
 ) -> Result<(), AllocError> {
-    let mut told: usize = 0;
-    let mut more: u64 = 0;
-    for (number, call) in story.calls.iter().enumerate() {
-        if is_active(call) && is_of(object, path, call) {
-            if told < MOST_TOLD {
-                push_active(out, page, object, call, number)?;
-                told = told.saturating_add(1);
-            } else {
-                more = more.saturating_add(1);
+    let mut count: usize = 0;
+    for (number, call) in faulty.story.calls.iter().enumerate() {
+        if let Some(call) = active(faulty.object, path, call) {
+            if count < MOST_TOLD {
+                let sentence = "`%` is active since here, as call ~";
+                let found = started_here(faulty.object, call, sentence, number as u64);
+                push_found(out, faulty.page, found)?;
             }
+            count = count.saturating_add(1);
         }
     }
-    if told == 0 {
-        return push_help(
-            out,
-            "none of the operations of this path is active then",
-            only(b""),
-        );
+    push_more(out, count)
+}
+
+// Adds that no call is active, of so many, or how many more are than are told.
+fn push_more(out: &mut Vec<u8>, count: usize) -> Result<(), AllocError> {
+    if count == 0 {
+        let help = "none of the operations of this path is active then";
+        return push_help(out, help, only(b""));
     }
-    if more == 0 {
+    if count <= MOST_TOLD {
         return Ok(());
     }
-    push_counted(
+    let more = count.saturating_sub(MOST_TOLD);
+    push_help(
         out,
-        "and $ more calls of its operations are active",
-        b"",
-        more,
+        "and ~ more calls of its operations are active",
+        numbered(b"", b"", more as u64),
     )
 }
 
-// Whether a call is one of an operation that a path names.
-fn is_of(object: &Object, path: &[Token], call: &Option<Seen>) -> bool {
-    match call {
-        Some(call) => names(object, path, call.operation),
-        None => false,
-    }
-}
-
 // How often the operation at a place has started, and has ended.
-fn counts(story: &Story, place: usize) -> (u64, u64) {
+fn counts(calls: &[Option<Seen>], place: usize) -> (u64, u64) {
     let mut started: u64 = 0;
     let mut ended: u64 = 0;
-    for call in story.calls.iter() {
+    for call in calls {
         if let Some(call) = call {
             if call.operation == place {
                 started = started.saturating_add(1);
@@ -152,31 +127,54 @@ fn counts(story: &Story, place: usize) -> (u64, u64) {
 
 // Adds how often an operation has started and ended.
 fn push_count(out: &mut Vec<u8>, name: &[u8], started: u64, ended: u64) -> Result<(), AllocError> {
-    let mut first = Buffer::new();
-    let mut second = Buffer::new();
-    let words = Words {
-        first: name,
-        second: first.format(started).as_bytes(),
-        third: second.format(ended).as_bytes(),
-        fourth: b"",
-    };
-    push_help(out, "starts of `%` before it: $, ends: @", words)
+    let mut buffer = Buffer::new();
+    let digits = buffer.format(started).as_bytes();
+    push_help(
+        out,
+        "starts of `%` before it: $, ends: ~",
+        numbered(name, digits, ended),
+    )
 }
 
 // Adds how often each operation of a path has started and ended.
 fn push_counts(
     out: &mut Vec<u8>,
-    object: &Object,
-    story: &Story,
+    faulty: FaultyLine<'_>,
     path: &[Token],
 ) -> Result<(), AllocError> {
-    for (place, operation) in object.operations.iter().enumerate() {
-        if names(object, path, place) {
-            let (started, ended) = counts(story, place);
+    for (place, operation) in faulty.object.operations.iter().enumerate() {
+        if names(faulty.object, path, place) {
+            let (started, ended) = counts(&faulty.story.calls, place);
             push_count(out, operation.name.as_bytes(), started, ended)?;
         }
     }
     Ok(())
+}
+
+// What is said of a start that is not let.
+fn not_let(faulty: FaultyLine<'_>) -> Finding<'_> {
+    let words = faulty.words;
+    let name = match operation_named(faulty.object, words.bare(3)) {
+        Some(operation) => operation.name.as_bytes(),
+        None => words.bare(3),
+    };
+    say("`%` cannot start here", "").with(words.span_from(3), only(name))
+}
+
+// Adds which path a start breaks, and what had happened to the operations that it names.
+fn push_broken(
+    out: &mut Vec<u8>,
+    faulty: FaultyLine<'_>,
+    declared: Page<'_>,
+    number: usize,
+) -> Result<(), AllocError> {
+    let name = faulty.object.name.as_bytes();
+    let path = path_tokens(object_tokens(declared.tokens, name), number);
+    let words = numbered(name, b"", number as u64);
+    let said = say("path ~ of object `%` does not let it", "");
+    push_found(out, declared, said.with(span_over(path), words))?;
+    push_all_active(out, faulty, path)?;
+    push_counts(out, faulty, path)
 }
 
 /// Adds which path a start breaks, by its number from 1, and what had happened to the operations that it names.
@@ -188,56 +186,15 @@ pub(crate) fn push_breach(
     declared: Page<'_>,
     number: usize,
 ) -> Result<(), AllocError> {
-    let FaultyLine {
-        page,
-        object,
-        story,
-        words,
-        number: _,
-    } = faulty;
-    let name = match operation_named(object, words.bare(3)) {
-        Some(place) => operation_name(object, place),
-        None => words.bare(3),
-    };
-    push_note(
-        out,
-        page,
-        words.span_from(3),
-        "`%` cannot start here",
-        only(name),
-    )?;
-    let Ok(tokens) = lex(alloc, declared.source) else {
-        return Err(AllocError);
-    };
-    let path = path_tokens(object_tokens(&tokens, object.name.as_bytes()), number);
-    let place = Page {
-        file: declared.file,
-        source: declared.source,
-        tokens: &tokens,
-    };
-    let sentence = "path $ of object `%` does not let it";
-    push_path(
-        out,
-        place,
-        span_over(path),
-        sentence,
-        object.name.as_bytes(),
-        number,
-    )?;
-    push_all_active(out, page, object, story, path)?;
-    push_counts(out, object, story, path)
-}
-
-// Adds a note at a path with its number.
-fn push_path(
-    out: &mut Vec<u8>,
-    page: Page<'_>,
-    span: Span,
-    sentence: &str,
-    name: &[u8],
-    number: usize,
-) -> Result<(), AllocError> {
-    let mut buffer = Buffer::new();
-    let digits = buffer.format(number as u64).as_bytes();
-    push_note(out, page, span, sentence, two(name, digits))
+    push_found(out, faulty.page, not_let(faulty))?;
+    match lex(alloc, declared.source) {
+        Ok(tokens) => {
+            let place = Page {
+                tokens: &tokens,
+                ..declared
+            };
+            push_broken(out, faulty, place, number)
+        }
+        Err(_) => Err(AllocError),
+    }
 }

@@ -1,65 +1,33 @@
 //! Ends that tell another reply than the object gives, and ends of calls that do not run.
 
-use crate::story::{LineAt, MOST_CALLS, Seen, Story, reply_to};
+use crate::story::{FaultyLine, Seen, call_of, number_in, operation_name, reply_to, started_here};
 use decl_core::footprint::{is_in, reads};
 use decl_core::id::MOST_PARTS;
-use decl_core::object::Object;
-use explain_line::finding::{only, two};
-use explain_line::line_words::LineWords;
-use itoa::Buffer;
-use note_core::page::{Page, push_help, push_note};
+use decl_core::object::{Object, Operation};
+use note_core::page::{push_found, push_help};
+use note_core::said::{Finding, numbered, only, say, two};
 use std::alloc::{AllocError, Global};
 use trace_core::reply::push_reply;
 use value_core::value::Value;
-use word_core::number::integer_of;
 use word_core::show::push_value;
 
 // The most bytes of a value that are shown.
 const MOST_SHOWN: usize = 200;
 
-/// The name of an operation, by its place.
-pub(crate) fn operation_name(object: &Object, place: usize) -> &[u8] {
-    match object.operations.get(place) {
-        Some(operation) => operation.name.as_bytes(),
-        None => b"",
-    }
-}
-
-/// Adds a note with a number in place of its `$`.
-pub(crate) fn push_numbered(
+// Adds what a part holds, or the front of that.
+fn push_held(
+    alloc: Global,
     out: &mut Vec<u8>,
-    page: Page<'_>,
-    line: LineAt,
-    sentence: &str,
-    first: &[u8],
-    number: u64,
+    name: &[u8],
+    value: &Value,
 ) -> Result<(), AllocError> {
-    let mut buffer = Buffer::new();
-    let digits = buffer.format(number).as_bytes();
-    push_note(out, page, line.span, sentence, two(first, digits))
-}
-
-/// Adds a help with a number in place of its `$`.
-pub(crate) fn push_counted(
-    out: &mut Vec<u8>,
-    help: &str,
-    first: &[u8],
-    number: u64,
-) -> Result<(), AllocError> {
-    let mut buffer = Buffer::new();
-    let digits = buffer.format(number).as_bytes();
-    push_help(out, help, two(first, digits))
-}
-
-// A value as it is shown, or its front.
-fn shown(alloc: Global, value: &Value) -> Result<Vec<u8>, AllocError> {
     let mut text = Vec::new(alloc);
     push_value(alloc, &mut text, value)?;
     if text.len() > MOST_SHOWN {
         text.truncate(MOST_SHOWN);
         text.extend_from_slice(b" ..")?;
     }
-    Ok(text)
+    push_help(out, "before it `%` is $", two(name, &text))
 }
 
 // Adds what the parts that an operation names hold.
@@ -67,128 +35,114 @@ fn push_values(
     alloc: Global,
     out: &mut Vec<u8>,
     object: &Object,
-    place: usize,
+    operation: &Operation,
     values: &[Value],
 ) -> Result<(), AllocError> {
-    let Some(operation) = object.operations.get(place) else {
-        return Ok(());
-    };
     let named = reads(operation);
     for (number, part) in object.parts.iter().enumerate() {
         if number < MOST_PARTS && is_in(number, named) {
             if let Some(value) = values.get(number) {
-                let text = shown(alloc, value)?;
-                let words = two(part.name.as_bytes(), &text);
-                push_help(out, "before it `%` is $", words)?;
+                push_held(alloc, out, part.name.as_bytes(), value)?;
             }
         }
     }
     Ok(())
 }
 
-// The call of the number that stands in the word behind `end`.
-pub(crate) fn number_in(words: &LineWords<'_>) -> u32 {
-    integer_of(words.bare(1)).unwrap_or(0)
-}
-
-/// The call of this number.
-pub(crate) fn call_of(story: &Story, number: u32) -> Option<&Seen> {
-    if number > MOST_CALLS {
-        return None;
-    }
-    match story.calls.get(number as usize) {
-        Some(Some(call)) => Some(call),
-        _ => None,
-    }
-}
-
-// Copies of values.
-fn copies(alloc: Global, values: &[Value]) -> Result<Vec<Value>, AllocError> {
-    let mut all = Vec::new(alloc);
+// Adds copies of values.
+fn push_copies(alloc: Global, all: &mut Vec<Value>, values: &[Value]) -> Result<(), AllocError> {
     for value in values {
         let value = value.copy(alloc)?;
         all.push(value)?;
     }
-    Ok(all)
+    Ok(())
+}
+
+// Adds the reply of the object to a call on these values.
+fn push_given(
+    alloc: Global,
+    text: &mut Vec<u8>,
+    object: &Object,
+    call: &Seen,
+    values: &[Value],
+) -> Result<(), AllocError> {
+    let mut copies = Vec::new(alloc);
+    push_copies(alloc, &mut copies, values)?;
+    match reply_to(alloc, object, call, &mut copies)? {
+        Some(reply) => push_reply(text, &reply),
+        None => Ok(()),
+    }
+}
+
+// Adds that the object gives another reply to a call than the line that ends it tells.
+fn push_other(
+    alloc: Global,
+    out: &mut Vec<u8>,
+    faulty: FaultyLine<'_>,
+    call: &Seen,
+) -> Result<(), AllocError> {
+    let mut text = Vec::new(alloc);
+    push_given(alloc, &mut text, faulty.object, call, &faulty.story.values)?;
+    let words = two(operation_name(faulty.object, call.operation), &text);
+    let said = say("the object gives another reply to this `%`:$", "");
+    push_found(
+        out,
+        faulty.page,
+        said.with(faulty.words.span_from(2), words),
+    )
 }
 
 /// Adds which reply the object gives to the call that a line ends.
 pub(crate) fn push_wrong_reply(
     alloc: Global,
     out: &mut Vec<u8>,
-    page: Page<'_>,
-    object: &Object,
-    story: &Story,
-    words: &LineWords<'_>,
+    faulty: FaultyLine<'_>,
 ) -> Result<(), AllocError> {
-    let Some(call) = call_of(story, number_in(words)) else {
+    let object = faulty.object;
+    let number = number_in(faulty.words);
+    let Some(call) = call_of(faulty.story, number) else {
         return Ok(());
     };
-    let mut values = copies(alloc, &story.values)?;
-    let mut text = Vec::new(alloc);
-    if let Some(reply) = reply_to(alloc, object, call, &mut values)? {
-        push_reply(&mut text, &reply)?;
+    push_other(alloc, out, faulty, call)?;
+    if let Some(operation) = object.operations.get(call.operation) {
+        push_values(alloc, out, object, operation, &faulty.story.values)?;
     }
-    let sentence = "the object gives another reply to this `%`:$";
-    let name = operation_name(object, call.operation);
-    push_note(out, page, words.span_from(2), sentence, two(name, &text))?;
-    push_values(alloc, out, object, call.operation, &story.values)?;
     let help =
         "calls are done one after the other, in the order of their ends, from the values that the part lines tell";
     push_help(out, help, only(b""))?;
-    push_numbered(
+    let sentence = "`%` started here, as call ~";
+    push_found(
         out,
-        page,
-        call.started,
-        "`%` started here, as call $",
-        name,
-        u64::from(number_in(words)),
+        faulty.page,
+        started_here(object, call, sentence, u64::from(number)),
     )
+}
+
+// Where a call ended, if it did.
+fn ended_here<'a>(object: &'a Object, call: &Seen) -> Option<Finding<'a>> {
+    let line = call.ended?;
+    let words = numbered(operation_name(object, call.operation), b"", line.number);
+    Some(say("this `%` ended here, in line ~", "").with(line.span, words))
 }
 
 /// Adds why the call that a line ends does not run.
 pub(crate) fn push_not_running(
     out: &mut Vec<u8>,
-    page: Page<'_>,
-    object: &Object,
-    story: &Story,
-    words: &LineWords<'_>,
+    faulty: FaultyLine<'_>,
 ) -> Result<(), AllocError> {
-    let written = words.bare(1);
-    match call_of(story, number_in(words)) {
-        Some(call) => {
-            push_note(
-                out,
-                page,
-                words.span(1),
-                "call % has ended already",
-                only(written),
-            )?;
-            match call.ended {
-                Some(line) => {
-                    let name = operation_name(object, call.operation);
-                    push_numbered(
-                        out,
-                        page,
-                        line,
-                        "this `%` ended here, in line $",
-                        name,
-                        line.number,
-                    )
-                }
-                None => Ok(()),
-            }
-        }
-        None => {
-            push_note(
-                out,
-                page,
-                words.span(1),
-                "call % has not started",
-                only(written),
-            )?;
-            let help = "before a call ends a line `start % sK OP ARG ..` tells that it started";
-            push_help(out, help, only(written))
-        }
+    let words = faulty.words;
+    let written = only(words.bare(1));
+    let Some(call) = call_of(faulty.story, number_in(words)) else {
+        let said = say(
+            "call % has not started",
+            "before a call ends a line `start % sK OP ARG ..` tells that it started",
+        );
+        return push_found(out, faulty.page, said.with(words.span(1), written));
+    };
+    let said = say("call % has ended already", "");
+    push_found(out, faulty.page, said.with(words.span(1), written))?;
+    match ended_here(faulty.object, call) {
+        Some(found) => push_found(out, faulty.page, found),
+        None => Ok(()),
     }
 }

@@ -2,17 +2,18 @@
 
 use apply_core::fits::{arguments_fit, parts_fit};
 use apply_core::reply::Reply;
-use decl_core::object::{Object, Operation, Part};
+use decl_core::object::{Object, Operation};
 use explain_line::line_words::LineWords;
-use hex::FromHexError;
 use known_core::apply::apply_all;
 use line_core::next_line;
 use line_core::words::is_same_word;
 use note_core::page::Page;
+use note_core::said::{Finding, numbered, say};
 use note_core::span::Span;
 use std::alloc::{AllocError, Global};
 use value_core::datum::Datum;
 use value_core::decode::{DecodeFault, decode_kept};
+use value_core::kind::Kind;
 use value_core::value::Value;
 use word_core::number::{integer_of, session_of};
 use word_core::word::Word;
@@ -56,37 +57,104 @@ pub(crate) struct FaultyLine<'a> {
     pub number: u64,
 }
 
-/// The bytes that a word spells in hexadecimal.
-pub(crate) fn bytes_of(alloc: Global, word: &[u8]) -> Result<Option<Vec<u8>>, AllocError> {
-    match hex::decode(alloc, word) {
-        Ok(bytes) => Ok(Some(bytes)),
-        Err(FromHexError::OutOfMemory) => Err(AllocError),
-        Err(_) => Ok(None),
+/// The number of the call in a line `start` or `end`, or 0.
+pub(crate) fn number_in(words: &LineWords<'_>) -> u32 {
+    integer_of(words.bare(1)).unwrap_or(0)
+}
+
+/// The call of this number.
+pub(crate) fn call_of(story: &Story, number: u32) -> Option<&Seen> {
+    if number > MOST_CALLS {
+        return None;
+    }
+    match story.calls.get(number as usize) {
+        Some(Some(call)) => Some(call),
+        _ => None,
     }
 }
 
-/// The value of a part that a word spells in hexadecimal, in either format.
-pub(crate) fn value_of(
-    alloc: Global,
-    part: &Part,
-    word: &[u8],
-) -> Result<Option<Value>, AllocError> {
-    let Some(bytes) = bytes_of(alloc, word)? else {
-        return Ok(None);
-    };
-    match decode_kept(alloc, part.kind, &bytes) {
+/// The name of an operation, by its place.
+pub(crate) fn operation_name(object: &Object, place: usize) -> &[u8] {
+    match object.operations.get(place) {
+        Some(operation) => operation.name.as_bytes(),
+        None => b"",
+    }
+}
+
+/// What is said, with a number, of the line in which a call started.
+pub(crate) fn started_here<'a>(
+    object: &'a Object,
+    call: &Seen,
+    sentence: &'static str,
+    number: u64,
+) -> Finding<'a> {
+    let name = operation_name(object, call.operation);
+    say(sentence, "").with(call.started.span, numbered(name, b"", number))
+}
+
+/// Whether a word spells bytes in hexadecimal.
+pub(crate) fn is_hex(word: &[u8]) -> bool {
+    word.len() % 2 == 0 && word.iter().all(|byte| byte.is_ascii_hexdigit())
+}
+
+// What a digit of hexadecimal stands for.
+fn digit(byte: u8) -> u8 {
+    match byte {
+        b'0'..=b'9' => byte - b'0',
+        b'a'..=b'f' => byte - b'a' + 10,
+        b'A'..=b'F' => byte - b'A' + 10,
+        _ => 0,
+    }
+}
+
+// Adds the bytes that a word spells in hexadecimal.
+fn push_bytes(bytes: &mut Vec<u8>, word: &[u8]) -> Result<(), AllocError> {
+    let mut rest = word;
+    while let [high, low, tail @ ..] = rest {
+        bytes.push(digit(*high).wrapping_mul(16) | digit(*low))?;
+        rest = tail;
+    }
+    Ok(())
+}
+
+// The value that bytes are, in either format.
+fn decoded(alloc: Global, kind: Kind, bytes: &[u8]) -> Result<Option<Value>, AllocError> {
+    match decode_kept(alloc, kind, bytes) {
         Ok(value) => Ok(Some(value)),
         Err(DecodeFault::Damaged) => Ok(None),
         Err(DecodeFault::Memory) => Err(AllocError),
     }
 }
 
-/// The place of the operation of this name, in any case.
-pub(crate) fn operation_named(object: &Object, name: &[u8]) -> Option<usize> {
+/// The value of this kind that a word spells in hexadecimal, in either format.
+pub(crate) fn value_of(
+    alloc: Global,
+    kind: Kind,
+    word: &[u8],
+) -> Result<Option<Value>, AllocError> {
+    if !is_hex(word) {
+        return Ok(None);
+    }
+    let mut bytes = Vec::new(alloc);
+    push_bytes(&mut bytes, word)?;
+    decoded(alloc, kind, &bytes)
+}
+
+// The place of the operation of this name, in any case.
+fn place_of(object: &Object, name: &[u8]) -> Option<usize> {
     object
         .operations
         .iter()
         .position(|operation| operation.name.is_spelled_by(name))
+}
+
+/// The operation of this name, in any case.
+pub(crate) fn operation_named<'o>(object: &'o Object, name: &[u8]) -> Option<&'o Operation> {
+    let place = place_of(object, name)?;
+    match object.operations.get(place) {
+        Some(operation) => Some(operation),
+        None => None,
+    }
 }
 
 /// What the object replies to a call on these values, which are those after it then.
@@ -119,45 +187,48 @@ fn given(
     Ok(Some(reply))
 }
 
+// The second of some words, where they begin with two bare ones.
+fn second_of<'a>(words: &[Word<'a>]) -> Option<&'a [u8]> {
+    let (_, words) = bare_of(words)?;
+    let (word, _) = bare_of(words)?;
+    Some(word)
+}
+
 // Hears the opening value of the next part.
 fn hear_part(
     alloc: Global,
     object: &Object,
     values: &mut Vec<Value>,
-    words: &[Word<'_>],
+    word: &[u8],
 ) -> Result<(), AllocError> {
-    let Some((_, words)) = bare_of(words) else {
-        return Ok(());
-    };
-    let Some((word, _)) = bare_of(words) else {
-        return Ok(());
-    };
     let Some(part) = object.parts.get(values.len()) else {
         return Ok(());
     };
-    if let Some(value) = value_of(alloc, part, word)? {
+    if let Some(value) = value_of(alloc, part.kind, word)? {
         values.push(value)?;
     }
     Ok(())
 }
 
-// Puts a call in the place of its number.
-fn put(calls: &mut Vec<Option<Seen>>, number: u32, call: Seen) -> Result<(), AllocError> {
-    if number > MOST_CALLS {
-        return Ok(());
-    }
-    let place = number as usize;
-    for _ in calls.len()..=place {
-        calls.push(None)?;
-    }
-    if let Some(slot) = calls.get_mut(place) {
-        *slot = Some(call);
+// Makes room for the call of this number.
+fn make_room(calls: &mut Vec<Option<Seen>>, number: u32) -> Result<(), AllocError> {
+    if number <= MOST_CALLS {
+        for _ in calls.len()..=number as usize {
+            calls.push(None)?;
+        }
     }
     Ok(())
 }
 
+// Puts a call in the place of its number, where there is room.
+fn put(calls: &mut Vec<Option<Seen>>, number: u32, call: Seen) {
+    if let Some(slot) = calls.get_mut(number as usize) {
+        *slot = Some(call);
+    }
+}
+
 // The number of a call that these words begin with, and the words behind it.
-fn numbered<'a, 'b>(words: &'b [Word<'a>]) -> Option<(u32, &'b [Word<'a>])> {
+fn numbered_by<'a, 'b>(words: &'b [Word<'a>]) -> Option<(u32, &'b [Word<'a>])> {
     let (word, rest) = bare_of(words)?;
     let number = integer_of(word)?;
     Some((number, rest))
@@ -168,7 +239,7 @@ fn started<'a, 'b>(object: &Object, words: &'b [Word<'a>]) -> Option<(usize, &'b
     let (session, rest) = bare_of(words)?;
     let _session = session_of(session)?;
     let (name, rest) = bare_of(rest)?;
-    let operation = operation_named(object, name)?;
+    let operation = place_of(object, name)?;
     Some((operation, rest))
 }
 
@@ -180,25 +251,23 @@ fn hear_start(
     words: &[Word<'_>],
     line: LineAt,
 ) -> Result<(), AllocError> {
-    let Some((number, rest)) = numbered(words) else {
+    let Some((number, rest)) = numbered_by(words) else {
         return Ok(());
     };
     let Some((operation, rest)) = started(object, rest) else {
         return Ok(());
     };
-    match data_of(alloc, rest)? {
-        Some(arguments) => put(
-            calls,
-            number,
-            Seen {
-                operation,
-                arguments,
-                started: line,
-                ended: None,
-            },
-        ),
-        None => Ok(()),
+    make_room(calls, number)?;
+    if let Some(arguments) = data_of(alloc, rest)? {
+        let call = Seen {
+            operation,
+            arguments,
+            started: line,
+            ended: None,
+        };
+        put(calls, number, call);
     }
+    Ok(())
 }
 
 // Whether words tell that a call failed.
@@ -217,7 +286,7 @@ fn hear_end(
     words: &[Word<'_>],
     line: LineAt,
 ) -> Result<(), AllocError> {
-    let Some((number, rest)) = numbered(words) else {
+    let Some((number, rest)) = numbered_by(words) else {
         return Ok(());
     };
     if let Some(Some(call)) = story.calls.get_mut(number as usize) {
@@ -229,6 +298,31 @@ fn hear_end(
     Ok(())
 }
 
+// Hears the words of a line.
+fn hear_words(
+    alloc: Global,
+    object: &Object,
+    story: &mut Story,
+    words: &[Word<'_>],
+    at: LineAt,
+) -> Result<(), AllocError> {
+    let Some((verb, rest)) = bare_of(words) else {
+        return Ok(());
+    };
+    if is_same_word(verb, b"start") {
+        return hear_start(alloc, object, &mut story.calls, rest, at);
+    }
+    if is_same_word(verb, b"end") {
+        return hear_end(alloc, object, story, rest, at);
+    }
+    match second_of(rest) {
+        Some(word) if is_same_word(verb, b"part") => {
+            hear_part(alloc, object, &mut story.values, word)
+        }
+        _ => Ok(()),
+    }
+}
+
 // Hears a line.
 fn hear(
     alloc: Global,
@@ -237,66 +331,46 @@ fn hear(
     line: &[u8],
     at: LineAt,
 ) -> Result<(), AllocError> {
-    let Some(words) = words_of(alloc, line)? else {
-        return Ok(());
-    };
-    let Some((verb, rest)) = bare_of(&words) else {
-        return Ok(());
-    };
-    if is_same_word(verb, b"part") {
-        return hear_part(alloc, object, &mut story.values, rest);
+    match words_of(alloc, line)? {
+        Some(words) => hear_words(alloc, object, story, &words, at),
+        None => Ok(()),
     }
-    if is_same_word(verb, b"start") {
-        return hear_start(alloc, object, &mut story.calls, rest, at);
-    }
-    if is_same_word(verb, b"end") {
-        return hear_end(alloc, object, story, rest, at);
-    }
-    Ok(())
 }
 
-/// What the lines of a text before the one of this number tell, and where that one stands: at the end
-/// where the text has none.
-pub(crate) fn story_before(
+// The line of this number that begins where this rest of a text does, and has so many bytes.
+fn line_at(number: u64, text: &[u8], rest: &[u8], length: usize) -> LineAt {
+    let start = text.len().saturating_sub(rest.len());
+    LineAt {
+        number,
+        span: Span {
+            start,
+            end: start.saturating_add(length),
+        },
+    }
+}
+
+/// Hears the lines of a text before the one of this number, and returns where that one stands: at the end where the
+/// text has none.
+pub(crate) fn hear_before(
     alloc: Global,
     object: &Object,
+    story: &mut Story,
     text: &[u8],
     number: u64,
-) -> Result<(Story, LineAt), AllocError> {
-    let mut story = Story {
-        values: Vec::new(alloc),
-        calls: Vec::new(alloc),
-    };
+) -> Result<LineAt, AllocError> {
     let mut rest = text;
     let mut count: u64 = 1;
     for _ in 0..text.len() {
         let Some((line, behind)) = next_line(rest) else {
             break;
         };
-        let start = text.len().saturating_sub(rest.len());
-        let at = LineAt {
-            number: count,
-            span: Span {
-                start,
-                end: start.saturating_add(line.len()),
-            },
-        };
+        let at = line_at(count, text, rest, line.len());
         if count >= number {
-            return Ok((story, at));
+            return Ok(at);
         }
-        hear(alloc, object, &mut story, line, at)?;
+        hear(alloc, object, story, line, at)?;
         count = count.saturating_add(1);
         rest = behind;
     }
-    let end = Span {
-        start: text.len(),
-        end: text.len(),
-    };
-    Ok((
-        story,
-        LineAt {
-            number: count,
-            span: end,
-        },
-    ))
+    Ok(line_at(number, text, b"", 0))
 }

@@ -1,8 +1,9 @@
 //! Notes on places of a source.
 
 use crate::place::{Place, place_of};
-use crate::said::{Said, Words, push_sentence};
-use crate::span::{Span, behind, front};
+use crate::said::{Finding, Words, push_number, push_sentence};
+use crate::span::{Span, behind, front, span_of, text_at};
+use crate::tokens::is_end_mark;
 use itoa::Buffer;
 use line_core::next_line;
 use path_tree::token::Token;
@@ -14,6 +15,20 @@ pub struct Page<'a> {
     pub file: &'a [u8],
     pub source: &'a [u8],
     pub tokens: &'a [Token],
+}
+
+impl<'a> Page<'a> {
+    /// The text of the first of some tokens, or nothing.
+    pub fn first_text(self, tokens: &[Token]) -> &'a [u8] {
+        match tokens {
+            [token, ..] => if is_end_mark(token) {
+                b"the end of the file"
+            } else {
+                text_at(self.source, span_of(token))
+            },
+            [] => b"",
+        }
+    }
 }
 
 // A line of a source as it is shown: of a long one a piece.
@@ -31,12 +46,6 @@ const MOST_SHOWN: usize = 120;
 
 // The width of the numbers of lines.
 const NUMBER_WIDTH: usize = 5;
-
-// Adds a number.
-fn push_number(out: &mut Vec<u8>, number: usize) -> Result<(), AllocError> {
-    let mut buffer = Buffer::new();
-    out.extend_from_slice(buffer.format(number as u64).as_bytes())
-}
 
 // Adds a byte so many times.
 fn push_times(out: &mut Vec<u8>, byte: u8, times: usize) -> Result<(), AllocError> {
@@ -141,9 +150,9 @@ fn push_caret(
 fn push_place(out: &mut Vec<u8>, file: &[u8], place: Place) -> Result<(), AllocError> {
     out.extend_from_slice(file)?;
     out.push(b':')?;
-    push_number(out, place.line)?;
+    push_number(out, place.line as u64)?;
     out.push(b':')?;
-    push_number(out, place.column)?;
+    push_number(out, place.column as u64)?;
     out.extend_from_slice(b": ")
 }
 
@@ -157,7 +166,7 @@ pub fn push_note(
 ) -> Result<(), AllocError> {
     let place = place_of(page.source, span.start);
     push_place(out, page.file, place)?;
-    push_sentence(out, sentence, words)?;
+    push_sentence(out, sentence, words, text_at(page.source, span))?;
     out.push(b'\n')?;
     let line = line_with(page.source, span.start, place.column);
     let shown = show(line, place.column);
@@ -175,21 +184,19 @@ pub fn push_note(
 /// Adds a line that says what helps.
 pub fn push_help(out: &mut Vec<u8>, help: &str, words: Words<'_>) -> Result<(), AllocError> {
     push_margin(out, b" = ")?;
-    push_sentence(out, help, words)?;
+    push_sentence(out, help, words, b"")?;
     out.push(b'\n')?;
     Ok(())
 }
 
-/// Adds a note, and what helps.
-pub fn push_said(
-    out: &mut Vec<u8>,
-    page: Page<'_>,
-    span: Span,
-    said: Said,
-    words: Words<'_>,
-) -> Result<(), AllocError> {
-    push_note(out, page, span, said.sentence, words)?;
-    push_help(out, said.help, words)
+/// Adds a finding: a note, and what helps, if something does.
+pub fn push_found(out: &mut Vec<u8>, page: Page<'_>, found: Finding<'_>) -> Result<(), AllocError> {
+    push_note(out, page, found.span, found.said.sentence, found.words)?;
+    if found.said.help.is_empty() {
+        Ok(())
+    } else {
+        push_help(out, found.said.help, found.words)
+    }
 }
 
 /// Adds a line that is to be written into the source.

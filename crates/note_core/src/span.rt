@@ -17,6 +17,14 @@ pub fn span_of(token: &Token) -> Span {
     }
 }
 
+/// Where the first of some tokens stands; where there is none, an empty stretch at this byte.
+pub fn first_span(tokens: &[Token], at: usize) -> Span {
+    match tokens {
+        [token, ..] => span_of(token),
+        [] => Span { start: at, end: at },
+    }
+}
+
 /// What is left of some bytes behind the first ones, so many.
 pub fn behind(bytes: &[u8], count: usize) -> &[u8] {
     if count < bytes.len() {
