@@ -1,7 +1,8 @@
 //! Lines that are none of a trace, or have no place where they stand.
 
 use crate::story::{
-    FaultyLine, MOST_CALLS, call_of, is_hex, number_in, operation_named, started_here, value_of,
+    FaultyLine, MOST_CALLS, arguments_in, call_of, is_hex, number_in, operation_named,
+    started_here, value_of,
 };
 use apply_core::fits::arguments_fit;
 use decl_core::object::{Object, Operation, Part};
@@ -13,12 +14,9 @@ use line_core::words::is_same_word;
 use note_core::alike::are_alike;
 use note_core::page::push_found;
 use note_core::said::{Finding, Said, only, say, two};
-use note_core::span::text_at;
 use std::alloc::{AllocError, Global};
 use value_core::kind::{Elem, Kind};
 use word_core::number::session_of;
-use word_core::word::Word;
-use word_core::words::{data_of, words_of};
 
 const PART_FORM: &str =
     "the line is `part NAME HEX`, as `pathserve run` writes it for the line `trace`";
@@ -186,35 +184,14 @@ fn push_parameters(out: &mut Vec<u8>, operation: &Operation) -> Result<(), Alloc
     Ok(())
 }
 
-// The words from the one of this number on.
-fn words_from<'a, 'b>(words: &'b [Word<'a>], count: usize) -> &'b [Word<'a>] {
-    if count < words.len() {
-        &words[count..]
-    } else {
-        &[]
-    }
-}
-
-// Whether these words are the arguments of an operation; where they are no data, whether it takes none.
-fn are_arguments(
-    alloc: Global,
-    operation: &Operation,
-    words: &[Word<'_>],
-) -> Result<bool, AllocError> {
-    match data_of(alloc, words)? {
-        Some(data) => Ok(arguments_fit(operation, &data)),
-        None => Ok(operation.params.is_empty()),
-    }
-}
-
-// Whether the arguments of a start are those of its operation.
+// Whether the arguments of a start are those of its operation; where they are no data, whether it takes none.
 fn has_arguments(
     alloc: Global,
     operation: &Operation,
     words: &LineWords<'_>,
 ) -> Result<bool, AllocError> {
-    match words_of(alloc, text_at(words.text, words.line))? {
-        Some(all) => are_arguments(alloc, operation, words_from(&all, 4)),
+    match arguments_in(alloc, words)? {
+        Some(data) => Ok(arguments_fit(operation, &data)),
         None => Ok(operation.params.is_empty()),
     }
 }

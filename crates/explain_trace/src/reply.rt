@@ -68,10 +68,10 @@ fn push_given(
 ) -> Result<(), AllocError> {
     let mut copies = Vec::new(alloc);
     push_copies(alloc, &mut copies, values)?;
-    match reply_to(alloc, object, call, &mut copies)? {
-        Some(reply) => push_reply(text, &reply),
-        None => Ok(()),
+    if let Some(reply) = reply_to(alloc, object, call, &mut copies)? {
+        push_reply(text, &reply)?;
     }
+    Ok(())
 }
 
 // Adds that the object gives another reply to a call than the line that ends it tells.

@@ -3,21 +3,21 @@
 use apply_core::fits::{arguments_fit, parts_fit};
 use apply_core::reply::Reply;
 use decl_core::object::{Object, Operation};
-use explain_line::line_words::LineWords;
+use explain_line::line_words::{LineWords, words_at};
 use known_core::apply::apply_all;
 use line_core::next_line;
 use line_core::words::is_same_word;
 use note_core::page::Page;
 use note_core::said::{Finding, numbered, say};
-use note_core::span::Span;
+use note_core::span::{Span, text_at};
 use std::alloc::{AllocError, Global};
 use value_core::datum::Datum;
 use value_core::decode::{DecodeFault, decode_kept};
 use value_core::kind::Kind;
 use value_core::value::Value;
-use word_core::number::{integer_of, session_of};
+use word_core::number::integer_of;
 use word_core::word::Word;
-use word_core::words::{bare_of, data_of, words_of};
+use word_core::words::{data_of, words_of};
 
 /// The most that a call may be numbered.
 pub(crate) const MOST_CALLS: u32 = 65_536;
@@ -109,10 +109,13 @@ fn digit(byte: u8) -> u8 {
 
 // Adds the bytes that a word spells in hexadecimal.
 fn push_bytes(bytes: &mut Vec<u8>, word: &[u8]) -> Result<(), AllocError> {
-    let mut rest = word;
-    while let [high, low, tail @ ..] = rest {
-        bytes.push(digit(*high).wrapping_mul(16) | digit(*low))?;
-        rest = tail;
+    let mut high = 0;
+    for (place, byte) in word.iter().enumerate() {
+        if place % 2 == 0 {
+            high = digit(*byte).wrapping_mul(16);
+        } else {
+            bytes.push(high | digit(*byte))?;
+        }
     }
     Ok(())
 }
@@ -187,11 +190,24 @@ fn given(
     Ok(Some(reply))
 }
 
-// The second of some words, where they begin with two bare ones.
-fn second_of<'a>(words: &[Word<'a>]) -> Option<&'a [u8]> {
-    let (_, words) = bare_of(words)?;
-    let (word, _) = bare_of(words)?;
-    Some(word)
+// The words from the one of this number on.
+fn words_from<'a, 'b>(words: &'b [Word<'a>], count: usize) -> &'b [Word<'a>] {
+    if count < words.len() {
+        &words[count..]
+    } else {
+        &[]
+    }
+}
+
+/// The arguments of a start, where they are integers and texts.
+pub(crate) fn arguments_in(
+    alloc: Global,
+    words: &LineWords<'_>,
+) -> Result<Option<Vec<Datum>>, AllocError> {
+    match words_of(alloc, text_at(words.text, words.line))? {
+        Some(all) => data_of(alloc, words_from(&all, 4)),
+        None => Ok(None),
+    }
 }
 
 // Hears the opening value of the next part.
@@ -227,38 +243,20 @@ fn put(calls: &mut Vec<Option<Seen>>, number: u32, call: Seen) {
     }
 }
 
-// The number of a call that these words begin with, and the words behind it.
-fn numbered_by<'a, 'b>(words: &'b [Word<'a>]) -> Option<(u32, &'b [Word<'a>])> {
-    let (word, rest) = bare_of(words)?;
-    let number = integer_of(word)?;
-    Some((number, rest))
-}
-
-// The operation of a start that these words say, and the words of its arguments.
-fn started<'a, 'b>(object: &Object, words: &'b [Word<'a>]) -> Option<(usize, &'b [Word<'a>])> {
-    let (session, rest) = bare_of(words)?;
-    let _session = session_of(session)?;
-    let (name, rest) = bare_of(rest)?;
-    let operation = place_of(object, name)?;
-    Some((operation, rest))
-}
-
 // Hears a start.
 fn hear_start(
     alloc: Global,
     object: &Object,
     calls: &mut Vec<Option<Seen>>,
-    words: &[Word<'_>],
+    words: &LineWords<'_>,
     line: LineAt,
 ) -> Result<(), AllocError> {
-    let Some((number, rest)) = numbered_by(words) else {
+    let Some(operation) = place_of(object, words.bare(3)) else {
         return Ok(());
     };
-    let Some((operation, rest)) = started(object, rest) else {
-        return Ok(());
-    };
+    let number = number_in(words);
     make_room(calls, number)?;
-    if let Some(arguments) = data_of(alloc, rest)? {
+    if let Some(arguments) = arguments_in(alloc, words)? {
         let call = Seen {
             operation,
             arguments,
@@ -270,28 +268,17 @@ fn hear_start(
     Ok(())
 }
 
-// Whether words tell that a call failed.
-fn tells_failure(words: &[Word<'_>]) -> bool {
-    match bare_of(words) {
-        Some((verb, _)) => is_same_word(verb, b"failed"),
-        None => false,
-    }
-}
-
 // Hears an end.
 fn hear_end(
     alloc: Global,
     object: &Object,
     story: &mut Story,
-    words: &[Word<'_>],
+    words: &LineWords<'_>,
     line: LineAt,
 ) -> Result<(), AllocError> {
-    let Some((number, rest)) = numbered_by(words) else {
-        return Ok(());
-    };
-    if let Some(Some(call)) = story.calls.get_mut(number as usize) {
+    if let Some(Some(call)) = story.calls.get_mut(number_in(words) as usize) {
         call.ended = Some(line);
-        if !tells_failure(rest) {
+        if !is_same_word(words.bare(2), b"failed") {
             let _reply = reply_to(alloc, object, call, &mut story.values)?;
         }
     }
@@ -303,38 +290,31 @@ fn hear_words(
     alloc: Global,
     object: &Object,
     story: &mut Story,
-    words: &[Word<'_>],
+    words: &LineWords<'_>,
     at: LineAt,
 ) -> Result<(), AllocError> {
-    let Some((verb, rest)) = bare_of(words) else {
-        return Ok(());
-    };
-    if is_same_word(verb, b"start") {
-        return hear_start(alloc, object, &mut story.calls, rest, at);
-    }
-    if is_same_word(verb, b"end") {
-        return hear_end(alloc, object, story, rest, at);
-    }
-    match second_of(rest) {
-        Some(word) if is_same_word(verb, b"part") => {
-            hear_part(alloc, object, &mut story.values, word)
-        }
-        _ => Ok(()),
+    let verb = words.bare(0);
+    if is_same_word(verb, b"part") {
+        hear_part(alloc, object, &mut story.values, words.bare(2))
+    } else if is_same_word(verb, b"start") {
+        hear_start(alloc, object, &mut story.calls, words, at)
+    } else if is_same_word(verb, b"end") {
+        hear_end(alloc, object, story, words, at)
+    } else {
+        Ok(())
     }
 }
 
-// Hears a line.
+// Hears the line of a text that stands there.
 fn hear(
     alloc: Global,
     object: &Object,
     story: &mut Story,
-    line: &[u8],
+    text: &[u8],
     at: LineAt,
 ) -> Result<(), AllocError> {
-    match words_of(alloc, line)? {
-        Some(words) => hear_words(alloc, object, story, &words, at),
-        None => Ok(()),
-    }
+    let words = words_at(alloc, text, at.span)?;
+    hear_words(alloc, object, story, &words, at)
 }
 
 // The line of this number that begins where this rest of a text does, and has so many bytes.
@@ -368,7 +348,7 @@ pub(crate) fn hear_before(
         if count >= number {
             return Ok(at);
         }
-        hear(alloc, object, story, line, at)?;
+        hear(alloc, object, story, text, at)?;
         count = count.saturating_add(1);
         rest = behind;
     }
