@@ -1,7 +1,6 @@
-#!/usr/bin/env python3
 """Measures what a call takes of a server of one program beside one of another.
 
-usage: bench/beside.py BEFORE AFTER [--calls N] [--runs N]
+usage: bench/beside BEFORE AFTER [--calls N] [--runs N]
 
 BEFORE and AFTER are files of programs that were built the same way. Of `get` and `put`, over one connection and over
 16, each serves so many calls (20,000) in turn, in so many runs (5), so that both meet what else the machine does. It
@@ -14,11 +13,9 @@ import argparse
 import pathlib
 import statistics
 import subprocess
-import sys
 import tempfile
 
-sys.dont_write_bytecode = True
-import keys
+from bench import keys
 
 
 def said(found, more, best):
@@ -63,7 +60,3 @@ def main():
         load = pathlib.Path(folder) / "load"
         subprocess.run(["cc", "-O2", "-pthread", "-o", load, pathlib.Path(__file__).parent / "load.c"], check=True)
         compare(options, load)
-
-
-if __name__ == "__main__":
-    main()

@@ -1,7 +1,6 @@
-#!/usr/bin/env python3
 """Measures what keys and names cost a server: calls under keys beside plain ones, calls that are asked for again, and memory.
 
-usage: bench/keys.py [--program FILE] [--before FILE] [--runs N] [--calls N]
+usage: bench/keys [--program FILE] [--before FILE] [--runs N] [--calls N]
 
 Per load: calls a second in N runs (7 where it is not given) of up to N calls (16,000), plain and under keys in turn, so that both meet
 what else the machine does; the medians, and how much longer a call takes under a key: the ratio of the medians, and the median of
@@ -19,13 +18,10 @@ import re
 import socket
 import statistics
 import subprocess
-import sys
 import tempfile
 import time
 
-sys.dont_write_bytecode = True
-sys.path.insert(0, str(pathlib.Path(__file__).resolve().parent.parent / "tools"))
-from ready import given_words, program  # noqa: E402
+from tools.ready import given_words, program
 
 CELL = """object cell;
   path 1:([get], put) end;
@@ -179,7 +175,3 @@ def main():
         compare(options, load)
         memory(options, load)
         opening(options)
-
-
-if __name__ == "__main__":
-    main()

@@ -1,7 +1,6 @@
-#!/usr/bin/env python3
 """Measures `pathserve run` on a script of 65,536 calls of `cell` (call, steps, finish), sent over a pipe.
 
-usage: bench/script.py [--program FILE] [RUNS]
+usage: bench/script [--program FILE] [RUNS]
 
 Per run: microseconds a call after 1, 30,000 and 60,000 calls of history, in bulk (1,000 calls are sent, and all their answers
 read) and in turn (each line is sent once the answer to the one before it was read); seconds for all 65,536 calls in one
@@ -9,15 +8,11 @@ piece of input; and the most memory that was resident. Then a call more, which h
 is the one that ./pathserve runs, or FILE. It is no part of the gate.
 """
 import os
-import pathlib
 import subprocess
-import sys
 import threading
 import time
 
-sys.dont_write_bytecode = True
-sys.path.insert(0, str(pathlib.Path(__file__).resolve().parent.parent / "tools"))
-from ready import TOP, given_words, program  # noqa: E402
+from tools.ready import TOP, given_words, program
 
 OBJECTS = TOP / "examples" / "objects" / "cell.pp"
 CALLS = 65_536
@@ -110,14 +105,11 @@ def measure():
     return [*figures, seconds, resident]
 
 
-def main(words):
+def main():
+    words = given_words()
     runs = int(words[0]) if words else 3
     heads = [f"{way} at {history}" for history in HISTORIES for way in ("bulk", "turn")]
     print("microseconds a call:", ", ".join(heads), "| seconds for all | MB")
     for _ in range(runs):
         *times, seconds, resident = measure()
         print(" ".join(f"{it:.1f}" for it in times), "|", f"{seconds:.2f}", "|", f"{resident:.1f}", flush=True)
-
-
-if __name__ == "__main__":
-    main(given_words())

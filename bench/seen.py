@@ -1,7 +1,6 @@
-#!/usr/bin/env python3
 """Measures what it costs a kept server to be looked at: `why N`, `who` and `list` beside calls that wait, and a status each second.
 
-usage: bench/seen.py [--program FILE] [--runs N] [--asked N] [--waiting N] [--seconds N]
+usage: bench/seen [--program FILE] [--runs N] [--asked N] [--waiting N] [--seconds N]
 
 So many clients (256) wait for a call of a buffer that is empty. One more asks `why` of each in turn, then `who`, then `list`, so
 many times (2,000) in each of so many runs (5): microseconds of a processor of the server for one question and its answer, with
@@ -14,15 +13,11 @@ import argparse
 import contextlib
 import pathlib
 import statistics
-import sys
 import tempfile
 import time
 
-sys.dont_write_bytecode = True
-TOP = pathlib.Path(__file__).resolve().parent.parent
-sys.path.insert(0, str(TOP / "gate"))
-from kept import Server, Talk, check, holds  # noqa: E402
-from tried import given_words  # noqa: E402
+from gate.kept import Server, Talk
+from gate.tried import check, given_words, holds
 
 SOURCE = """object buffer;
   path 4:(put; get) end;
@@ -134,7 +129,3 @@ def main():
     questions(options)
     idle(options)
     calls(options)
-
-
-if __name__ == "__main__":
-    main()

@@ -1,7 +1,6 @@
-#!/usr/bin/env python3
 """Measures `pathserve serve` on loads of several kinds, beside what a small model makes of the paths.
 
-usage: bench/serve_model.py [--program FILE] [--calls N] [--runs N] [--rows]
+usage: bench/serve_model [--program FILE] [--calls N] [--runs N] [--rows]
 
 Calls that the paths let overlap share the processors: 1 / machine a second, where `machine` is what a call takes of all processors,
 server and load together; but a connection makes one call at a time, so no more than connections / latency. Calls that exclude each other
@@ -23,12 +22,9 @@ import pathlib
 import socket
 import statistics
 import subprocess
-import sys
 import tempfile
 
-sys.dont_write_bytecode = True
-sys.path.insert(0, str(pathlib.Path(__file__).resolve().parent.parent / "tools"))
-from ready import TOP, given_words, program  # noqa: E402
+from tools.ready import TOP, given_words, program
 
 CELL = """object {name};
   path {path} end;
@@ -204,7 +200,3 @@ def main():
     alone = ", ".join(f"{name} {it * 1e6:.1f}" for name, it in numbers.latency.items())
     print(f"us: latency {alone}; machine of a get {numbers.overlap * 1e6:.1f}, held by a put {numbers.turn * 1e6:.1f}; "
           f"processors {PROCESSORS}, load of the machine {os.getloadavg()[0]:.1f}")
-
-
-if __name__ == "__main__":
-    main()

@@ -1,7 +1,6 @@
-#!/usr/bin/env python3
 """Measures what a call takes by how many entries its part has, and how long they are.
 
-usage: bench/size.py [--program FILE] [--only WORD] [--ways WORD,..] [--bytes N,..] [--sizes N,..] [--calls N] [--instructions]
+usage: bench/size [--program FILE] [--only WORD] [--ways WORD,..] [--bytes N,..] [--sizes N,..] [--calls N] [--instructions]
 
 Of a queue of texts, a table of integers, a table of texts and an array of texts, with 1, 10, 100 and 1,000 entries of 10 and of
 200 bytes (the keys of a table of integers are as long; other keys have 8): microseconds of a processor a call for each form of
@@ -24,14 +23,10 @@ import re
 import shutil
 import socket
 import subprocess
-import sys
 import tempfile
-import time
 
-sys.dont_write_bytecode = True
-sys.path.insert(0, str(pathlib.Path(__file__).resolve().parent))
-import keys  # noqa: E402  (and the path of tools/)
-from ready import given_words, program  # noqa: E402
+from bench import keys
+from tools.ready import given_words, program
 
 OBJECTS = """object line;
   path 1:(put, drop, pass, lose, oldest, size) end;
@@ -351,7 +346,8 @@ def shown(figure):
     return "" if figure is None else f"{figure:,.1f}" if figure < 1_000 else f"{figure:,.0f}"
 
 
-def main(words):
+def main():
+    words = given_words()
     numbers = lambda text: tuple(int(it) for it in text.split(","))
     parser = argparse.ArgumentParser(usage=__doc__.split("\n\n")[1].removeprefix("usage: "))
     parser.add_argument("--only", default="")
@@ -374,7 +370,3 @@ def main(words):
                 steps = [sum(it[title][1]) for it in found] if way == "run" else []
                 ratio = (f"{row[-1] / row[0]:.2f}" if row[0] > 0 else "") + (f" (steps {steps[-1] / steps[0]:.2f})" if steps else "")
                 print(f"| {title} | " + " | ".join(shown(it) for it in row) + f" | {ratio} |", flush=True)
-
-
-if __name__ == "__main__":
-    main(given_words())

@@ -3,7 +3,8 @@ import dataclasses
 import pathlib
 import re
 
-TOP = pathlib.Path(__file__).resolve().parent.parent
+from gate.tried import TOP
+
 # Cases of a server, which `gate/run_sessions` runs.
 SERVED = TOP / "cases" / "serve"
 ESCAPES = {"n": b"\n", "r": b"\r", "t": b"\t", "\\": b"\\", "^": b"^", "|": b"|", "#": b"#", "*": b"*"}

@@ -7,8 +7,9 @@ import struct
 import subprocess
 import time
 
-from cases import TOP, read_text
-from served import Told
+from gate.cases import TOP, read_text
+from gate.served import Told
+from gate.tried import Wrong
 
 # How long a client that must hear nothing listens, and how long one that sends what is taken waits for the server to take
 # more, in seconds.
@@ -16,10 +17,6 @@ QUIET, PRESSES = 0.3, 1
 RESET = struct.pack("ii", 1, 0)
 # The most bytes that are read at a time for a line, or that are kept of what a server writes.
 MOST_BYTES = 1 << 20
-
-
-class Wrong(Exception):
-    """Something else came than the case says."""
 
 
 class Client:

@@ -15,10 +15,8 @@ import sys
 import threading
 import time
 
-TOP = pathlib.Path(__file__).resolve().parent.parent
-sys.path.append(str(TOP / "clients" / "python"))
-import pathclient  # noqa: E402
-from pathclient import Cancelled, Lost, Object  # noqa: E402
+from clients.python import pathclient
+from clients.python.pathclient import Cancelled, Lost, Object
 
 # How long anything may take, in seconds, and how long a closing that does not end is waited for while a call is held.
 SECONDS, HELD = 30, 0.2

@@ -7,7 +7,7 @@ import selectors
 import socket
 import time
 
-from kept import Wrong, check, holds
+from gate.tried import check, holds
 
 ACCOUNTS, FUNDS = 8, 100
 NAMES = ("counter", "ledger", "buffer", "echo")

@@ -3,24 +3,9 @@ bodies as functions."""
 import pathlib
 import random
 
-from slow_holds import Hold
-from slow_world import (
-    MOST,
-    Any,
-    Array,
-    Bound,
-    Burst,
-    Object,
-    Queue,
-    Refusal,
-    Sequence,
-    Table,
-    append,
-    element,
-    first,
-    lookup,
-    set_element,
-    whole,
+from gate.slow_holds import Hold
+from gate.slow_world import (
+    MOST, Any, Array, Bound, Burst, Object, Queue, Refusal, Sequence, Table, append, element, first, lookup, set_element, whole,
 )
 
 EXAMPLES = pathlib.Path(__file__).resolve().parent.parent / "examples" / "objects"

@@ -1,8 +1,8 @@
 """The scripts that are drawn from seeds, each with what it has to answer. A script follows from its seed, so each run draws
 the same ones."""
-from drawn_objects import HOLDING, OBJECTS
-from slow_holds import HeldWorld
-from slow_world import MOST, World, finish_line, shown_lines, written
+from gate.drawn_objects import HOLDING, OBJECTS
+from gate.slow_holds import HeldWorld
+from gate.slow_world import MOST, World, finish_line, shown_lines, written
 
 # Lines that say nothing.
 BAD_LINES = ("begin", "show 1", "step 1", "call s1", "call 1 x", "steps x", "finish", "cancel s1", "drop 1", "Show", "object two")

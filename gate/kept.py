@@ -5,31 +5,14 @@ import os
 import pathlib
 import socket
 import subprocess
-import sys
-import tempfile
-import time
 
-from served import free_port
-from tried import given_words, program
+from gate import tried
+from gate.served import free_port
+from gate.tried import SECONDS, Trial, Wrong, check, in_folder, program, title_of
 
-SECONDS = 120
 # Folders are made in memory, where there is such a place: what a disk does is worked out (gate/losing.py), or tried by
 # itself.
 ROOMS = "/dev/shm" if os.access("/dev/shm", os.W_OK) else None
-
-
-class Wrong(Exception):
-    pass
-
-
-def check(found, wanted, what="it"):
-    if found != wanted:
-        raise Wrong(f"{what} is {found!r}, not {wanted!r}")
-
-
-def holds(it, what):
-    if not it:
-        raise Wrong(what)
 
 
 class Server:
@@ -195,15 +178,6 @@ class Talk:
         self.socket.close()
 
 
-def until(found, what, seconds=SECONDS):
-    """Waits until something is so."""
-    end = time.monotonic() + seconds
-    while not found():
-        if time.monotonic() > end:
-            raise Wrong(what)
-        time.sleep(0.005)
-
-
 def options(words, **given):
     """Takes `--NAME NUMBER` from the front of words: the numbers by their names, and the words that are left."""
     while words[:1] and words[0].startswith("--") and words[0][2:] in given and words[1:2]:
@@ -212,24 +186,11 @@ def options(words, **given):
     return given, words
 
 
-def run(tool, trials, words, **more):
-    """Runs the trials whose titles have these words, each in a folder of its own, and says what came of them."""
-    passed = failed = 0
-    for trial in trials:
-        title = trial.__name__.replace("_", " ")
-        if not all(it in title for it in words):
-            continue
-        begun = time.monotonic()
-        with tempfile.TemporaryDirectory(prefix=f"{tool}-", dir=ROOMS) as folder:
-            try:
-                trial(pathlib.Path(folder), **more)
-                passed += 1
-                how = ""
-            except (Wrong, OSError, ValueError, IndexError, EOFError, subprocess.TimeoutExpired) as wrong:
-                failed += 1
-                how = f": FAILED: {type(wrong).__name__} {wrong}"
-        print(f"{title}: {time.monotonic() - begun:.1f} s{how}", flush=True)
-    print(f"{tool}: {passed} passed, {failed} failed")
-    return 0 if passed and not failed else 1
+def trials_of(tool, works, **more):
+    """Trials of these functions, each in a folder of its own."""
+    return [Trial(title_of(it), in_folder(tool, it, room=ROOMS, **more)) for it in works]
 
 
+def run(tool, works, words, **more):
+    """Runs the trials of these functions whose titles have these words, and says what came of them."""
+    return tried.run(tool, trials_of(tool, works, **more), words, has_times=True)

@@ -8,7 +8,8 @@ import pathlib
 import struct
 import subprocess
 
-TOP = pathlib.Path(__file__).resolve().parent.parent
+from gate.tried import TOP
+
 HEAD = struct.Struct("=5Q")
 SECTOR = 512
 

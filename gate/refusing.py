@@ -2,7 +2,7 @@
 import pathlib
 import subprocess
 
-TOP = pathlib.Path(__file__).resolve().parent.parent
+from gate.tried import TOP
 
 
 def build(folder):

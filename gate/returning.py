@@ -10,10 +10,10 @@ import tempfile
 import threading
 import time
 
-from drawn_objects import OBJECTS
-from served import TOP, Told, free_port, traced_wrongly
-from slow_world import written
-from tried import program
+from gate.drawn_objects import OBJECTS
+from gate.served import Told, free_port, traced_wrongly
+from gate.slow_world import written
+from gate.tried import TOP, Wrong, program
 
 # How long an answer, and the end of a server, may take, in seconds.
 SECONDS = 20
@@ -28,10 +28,6 @@ METER = """object meter;
 end;
 """
 BUFFER = (TOP / "examples" / "objects" / "bounded_buffer.pp").read_text(encoding="ascii")
-
-
-class Wrong(Exception):
-    """Something else came than has to."""
 
 
 def check(found, *wanted):

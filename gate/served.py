@@ -6,7 +6,7 @@ import signal
 import subprocess
 import threading
 
-from tried import TOP, program
+from gate.tried import program
 
 SECONDS = 60
 LAST_LINE = re.compile(r"(done|refused|failed|cancelled) (\d+)(?: (.*))?")

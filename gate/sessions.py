@@ -2,7 +2,7 @@
 import dataclasses
 import re
 
-from cases import BadCase, Case, Reader, cases_of, lines_of, read_text
+from gate.cases import BadCase, Case, Reader, cases_of, lines_of, read_text
 
 # What a step says, by its form: who, and what.
 FORMS = {

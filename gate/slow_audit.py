@@ -3,7 +3,7 @@ line by line, each path is asked over the whole of it, and the ends are folded o
 import bisect
 import re
 
-from slow_world import FORMATS, LONGEST, MOST, WRITTEN, Array, Disagreement, Queue
+from gate.slow_world import FORMATS, LONGEST, MOST, WRITTEN, Array, Disagreement, Queue
 
 FIRST_LINE = 65536
 NUMBERS, SESSIONS = range(1, 65537), range(1, 1025)

@@ -1,6 +1,6 @@
 """A slow world of one object with holds: what each line of a script has to answer. What is held is worked out anew for each
 question, from how calls ended, over the whole trace."""
-from slow_world import World
+from gate.slow_world import World
 
 
 class Hold:

@@ -3,7 +3,7 @@ Paths are counted over the whole history (gate/slow_world.py), values are whole,
 import collections
 import re
 
-from slow_world import MOST, written
+from gate.slow_world import MOST, written
 
 KEPT = 16
 LONGEST = 4096

@@ -2,12 +2,9 @@
 of `take_slot; give_slot` a slot is held."""
 import collections
 import dataclasses
-import pathlib
 import re
-import sys
 
-sys.path.insert(0, str(pathlib.Path(__file__).resolve().parent.parent / "gate"))
-from slow_world import Any, Bound, Burst, Name, Sequence  # noqa: E402
+from gate.slow_world import Any, Bound, Burst, Name, Sequence
 
 TOKEN = re.compile(r"(\{[^}]*\}|\(\*.*?\*\)|\s+)|('(?:[^'\n]|'')*'|[a-z][a-z0-9_]*|[0-9]+|.)", re.DOTALL)
 

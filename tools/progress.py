@@ -2,8 +2,7 @@
 import contextlib
 import re
 
-import ready
-import repository
+from tools import ready, repository
 
 # The seconds that each crate took when it was last proved, from when all below it were: a line each.
 TIMES = ready.OUT / "prove.times"

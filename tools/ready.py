@@ -19,9 +19,9 @@ import subprocess
 import sys
 import tempfile
 
-import repository
+from tools import repository
+from tools.repository import TOP
 
-TOP = repository.TOP
 OUT = TOP / "out"
 # Where folders of builds are made.
 ROOMS = pathlib.Path(os.environ.get("TMPDIR") or "/tmp")

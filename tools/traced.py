@@ -2,16 +2,12 @@
 import bisect
 import collections
 import dataclasses
-import pathlib
 import re
-import sys
 
-sys.path.insert(0, str(pathlib.Path(__file__).resolve().parent.parent / "gate"))
-from slow_audit import (  # noqa: E402
-    IDENTIFIER, NUMBERS, SESSIONS, Bad, NotRunning, bare, datum, ending_of, integer, lines_of, lowered, named_object,
-    words_of,
+from gate.slow_audit import (
+    IDENTIFIER, NUMBERS, SESSIONS, Bad, NotRunning, bare, datum, ending_of, integer, lines_of, lowered, named_object, words_of,
 )
-from slow_world import written  # noqa: E402
+from gate.slow_world import written
 
 PART = re.compile(r"[A-Za-z][A-Za-z0-9_]{0,63}", re.ASCII)
 BYTES = re.compile(r"(?:[0-9a-f]{2})+", re.ASCII)

@@ -1,13 +1,11 @@
 #!/usr/bin/env python3
-"""Drives the client for Python, by threads or, with the word `aio`, by asyncio: gate/try_client says how."""
+"""Drives the client for Python, by threads or, with the word `aio`, by asyncio: gate/try_client says how. PYTHONPATH has to
+name the folder of that client."""
 import asyncio
-import pathlib
 import re
 import sys
 
-sys.path.insert(0, str(pathlib.Path(__file__).resolve().parents[2] / "clients" / "python"))
-from pathclient import Cancelled, Expired, Failed, Lost, NoServer, Object, Refused, Rejected, read, written  # noqa: E402
-from pathclient import aio  # noqa: E402
+from pathclient import Cancelled, Expired, Failed, Lost, NoServer, Object, Refused, Rejected, aio, read, written
 
 WORDS = {Refused: "refused", Failed: "failed", Cancelled: "cancelled", Rejected: "no", NoServer: "no server", Expired: "expired",
          Lost: "lost"}

@@ -24,7 +24,7 @@ from collections.abc import AsyncIterator, Awaitable, Callable, Coroutine
 from types import TracebackType
 from typing import TypeVar
 
-from pathclient import (
+from . import (
     ANSWERS, CLOSED, LONGEST, NAME, PATIENCE, PAUSE, TRIES, Asked, Call, CallError, Cancelled, Ending, Expired, Failed, Lost, NoServer,
     Refused, Rejected, Reply, Session, Value, as_integer, as_text, end_of, words_of,
 )

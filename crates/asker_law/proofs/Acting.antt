@@ -56,10 +56,10 @@ pub record IsWished (heard : Lines) (place : ℕ) (s : State) (ask : Ask) : Type
   pub idle : waits_at s place ≡ false
 
 -- one that has opened what it had opened, and waits no more than it did
-abbrev IsIdle : Opened → Type 0
+abbrev pub IsIdle : Opened → Type 0
 IsIdle o = o.waits ≡ false
 
-who_is_here : (x : Option Peer) (p : Peer) (who : ℕ) → x ≡ Some p → who_in x ≡ Some who → p.who ≡ Some who
+pub who_is_here : (x : Option Peer) (p : Peer) (who : ℕ) → x ≡ Some p → who_in x ≡ Some who → p.who ≡ Some who
 who_is_here x p who is here = sym (ap who_in is) ∙ here
 
 none_some : (o : Opened) → None ≡ Some o → ⊥
@@ -127,14 +127,14 @@ module _ (heard : Lines) where
       (opens_one past made old.peers place now refl (opened_by place name (Some client) old made is.at after now refl (set_at old.objects is.at after is.object is.there) is.named w)
       (guests_change heard past old.objects old.peers is.at is.object is.guests is.there a)))))
 
-  did_opens : (place : ℕ) (name : List ℕ) (client : Option (List ℕ)) (past : Texts) (old new : State) (said added : Texts) → Awaits heard past old.objects old.peers → IsWished heard place old (asks.Open name client) →
+  pub did_opens : (place : ℕ) (name : List ℕ) (client : Option (List ℕ)) (past : Texts) (old new : State) (said added : Texts) → Awaits heard past old.objects old.peers → IsWished heard place old (asks.Open name client) →
       Opens place name client old said added new → Did heard past old said added new
   did_opens place name None past old new said added a w (inl is) = did_opens_bare place name past old new said added a w is
   did_opens place name None past old new said added a w (inr is) = did_refused heard place past old new said added a is
   did_opens place name (Some client) past old new said added a w (inl is) = did_opens_as place name client past old new said added a w is
   did_opens place name (Some client) past old new said added a w (inr is) = did_refused heard place past old new said added a is
 
-  did_gets : (place : ℕ) (past : Texts) (old : State) (opened seat : Opened) (new : State) → Awaits heard past old.objects old.peers → opened_at old place ≡ Some opened → IsIdle opened →
+  pub did_gets : (place : ℕ) (past : Texts) (old : State) (opened seat : Opened) (new : State) → Awaits heard past old.objects old.peers → opened_at old place ≡ Some opened → IsIdle opened →
       GetsNumber place old opened seat new → Did heard past old [] [] new
   did_gets place past old opened seat new a by idle is =
       let guests = with_seat is.object.guests is.session Nameless in
@@ -157,15 +157,15 @@ module _ (heard : Lines) where
       }) changed_guests))))
 
   -- one that has opened something has a session there
-  record HasSat (place : ℕ) (past : Texts) (old : State) (opened seat : Opened) (mid : State) (who : ℕ) (object : Scene) : Type 0 where
-    did : Did heard past old [] [] mid
-    peer : Peer
-    there : slice_get mid.peers place ≡ Some peer
-    here : peer.who ≡ Some who
-    by : peer.opened ≡ Some seat
-    same : (before : Scene) → slice_get mid.objects seat.object ≡ Some before → before.hall.object ≡ object.hall.object
+  pub record HasSat (place : ℕ) (past : Texts) (old : State) (opened seat : Opened) (mid : State) (who : ℕ) (object : Scene) : Type 0 where
+    pub did : Did heard past old [] [] mid
+    pub peer : Peer
+    pub there : slice_get mid.peers place ≡ Some peer
+    pub here : peer.who ≡ Some who
+    pub by : peer.opened ≡ Some seat
+    pub same : (before : Scene) → slice_get mid.objects seat.object ≡ Some before → before.hall.object ≡ object.hall.object
 
-  has_sat : (place : ℕ) (past : Texts) (old : State) (opened seat : Opened) (mid : State) (who : ℕ) (object : Scene) → Awaits heard past old.objects old.peers → opened_at old place ≡ Some opened → IsIdle opened →
+  pub has_sat : (place : ℕ) (past : Texts) (old : State) (opened seat : Opened) (mid : State) (who : ℕ) (object : Scene) → Awaits heard past old.objects old.peers → opened_at old place ≡ Some opened → IsIdle opened →
       who_at old place ≡ Some who → slice_get old.objects opened.object ≡ Some object → Sits place old opened seat mid → HasSat place past old opened seat mid who object
   has_sat place past old opened seat mid who object a by idle here there (inl is) =
       let peer = has_peer (slice_get old.peers place) opened by in
@@ -193,7 +193,7 @@ module _ (heard : Lines) where
             ap (λ (s : Scene). s.hall.object) before_is ∙ ap (λ (s : Scene). s.hall.object) (same_Some is.object object (sym is.there ∙ there));
       }
 
-  idle_of : (x : Option Opened) (o : Opened) → x ≡ Some o → waits_of x ≡ false → o.waits ≡ false
+  pub idle_of : (x : Option Opened) (o : Opened) → x ≡ Some o → waits_of x ≡ false → o.waits ≡ false
   idle_of x o is idle = sym (ap waits_of is) ∙ idle
 
   did_makes : (place : ℕ) (key : Option ℕ) (name : List ℕ) (arguments : Vec Datum) (past : Texts) (old new : State) (said added : Texts) → Awaits heard past old.objects old.peers →
@@ -260,7 +260,7 @@ module _ (heard : Lines) where
   along_to T past None text is = tt
   along_to T past (Some who) text is = (is who, tt)
 
-  did_repeats : (place : ℕ) (key : Option ℕ) (name : List ℕ) (arguments : List Datum) → DidBy heard (RepeatsUnder place key name arguments)
+  pub did_repeats : (place : ℕ) (key : Option ℕ) (name : List ℕ) (arguments : List Datum) → DidBy heard (RepeatsUnder place key name arguments)
   did_repeats place None name arguments past old new said added a is = absurd is
   did_repeats place (Some key) name arguments past old new said added a is =
       did_along heard place (keyed_text is.keyed) past old new said added a
@@ -277,7 +277,7 @@ module _ (heard : Lines) where
       did_from heard past old is.mid new said added gone (did_refused heard place (past ++ []) is.mid new said added gone.awaits is.refused)
   did_call place key name arguments past old new said added a w (inr (inr (inr (inr is)))) = did_only heard place not_held_text not_held_plain past old new said added a is.only
 
-  did_leaves_object : (place : ℕ) (past : Texts) (old new : State) → Awaits heard past old.objects old.peers → LeavesObject place old new → Did heard past old [] [] new
+  pub did_leaves_object : (place : ℕ) (past : Texts) (old new : State) → Awaits heard past old.objects old.peers → LeavesObject place old new → Did heard past old [] [] new
   did_leaves_object place past old new a is =
       did_quiet heard past old new is.opened.object is.object _ is.there (does (leaves is.opened.session is.now is.was_here is.guests is.leaves)) (ap (λ (s : State). s.objects) is.left)
       (same_awaits heard (past ++ []) (record old { objects = slice_set old.objects is.opened.object (with_guests is.object is.guests) }) new (ap (λ (s : State). s.objects) is.left) (ap (λ (s : State). s.peers) is.left)
@@ -311,7 +311,7 @@ module _ (heard : Lines) where
       did_as heard past old new said [] added [] told lines
       (left_one place past old mid new (did_nothing heard past old mid [] [] a (record { told = refl; lines = refl; left = is.1 })) left)
 
-  did_quits : (place : ℕ) → DidBy heard (Quits place)
+  pub did_quits : (place : ℕ) → DidBy heard (Quits place)
   did_quits place past old new said added a is =
       let shown = told_to old.peers place bye_text in
       did_as heard past old new said (shown ++ []) added added (is.told ∙ sym (append-nil shown)) refl

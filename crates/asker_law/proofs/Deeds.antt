@@ -37,7 +37,7 @@ all_object old new lines (hosted.does step) = one_object old new lines step
 all_object old new lines (hosted.goes_on {mid = mid} {lines = before} {added = added} first more) = all_object mid new added more ∙ all_object old mid before first
 
 -- the object that stood at a place before
-was_at : (a b : List Scene) (added : Texts) (first : Account) (j : ℕ) (m : Scene) → AllWent a added first b → slice_get b j ≡ Some m →
+pub was_at : (a b : List Scene) (added : Texts) (first : Account) (j : ℕ) (m : Scene) → AllWent a added first b → slice_get b j ≡ Some m →
     (h : Scene) × (slice_get a j ≡ Some h) × Went h (to j added) (first j) m
 was_at a b added first j m went there =
     let within : j < length a = omega (arith, slice_get_within b j m there, went.count) in
@@ -45,7 +45,7 @@ was_at a b added first j m went there =
     (h.0, h.1, went.each j h.0 m h.1 there)
 
 -- what is told of a part of what happened is so of all of it
-told_before : (heard : Lines) (objects : List Scene) (first more : Account) (past : Texts) (who : ℕ) (text : List ℕ) → IsTold heard past objects first who text → IsTold heard past objects (both first more) who text
+pub told_before : (heard : Lines) (objects : List Scene) (first more : Account) (past : Texts) (who : ℕ) (text : List ℕ) → IsTold heard past objects first who text → IsTold heard past objects (both first more) who text
 told_before heard objects first more past who text (inl (n, reply, is, a)) =
     let run = a.run in
     inl (
@@ -89,7 +89,7 @@ told_before heard objects first more past who text (inr (inl (n, reply, is, kept
     ))
 told_before heard objects first more past who text (inr (inr none)) = inr (inr none)
 
-told_behind : (heard : Lines) (a b : List Scene) (added : Texts) (first more : Account) → AllWent a added first b → (past : Texts) (who : ℕ) (text : List ℕ) →
+pub told_behind : (heard : Lines) (a b : List Scene) (added : Texts) (first more : Account) → AllWent a added first b → (past : Texts) (who : ℕ) (text : List ℕ) →
     IsTold heard past b more who text → IsTold heard past a (both first more) who text
 told_behind heard a b added first more went past who text (inl (n, reply, is, answer)) =
     let run = answer.run in
@@ -199,7 +199,7 @@ module _ (heard : Lines) where
   did_refused place past old new said added a (line, is, only) = did_only place (line_text line) (refusal_plain line is) past old new said added a only
 
   -- one thing, and another behind it
-  pub did_two : (past : Texts) (old mid new : State) (one two added further : Texts) → Did heard past old one added mid → Did heard (past ++ one) mid two further new → Did heard past old (one ++ two) (added ++ further) new
+  abbrev pub did_two : (past : Texts) (old mid new : State) (one two added further : Texts) → Did heard past old one added mid → Did heard (past ++ one) mid two further new → Did heard past old (one ++ two) (added ++ further) new
   did_two past old mid new one two added further a b = record {
     account = both a.account b.account;
     went = went_then old.objects mid.objects new.objects added further a.account b.account a.went b.went;
@@ -213,7 +213,7 @@ module _ (heard : Lines) where
     awaits = subst (λ (p : Texts). Awaits heard p new.objects new.peers) (append_assoc past one two) b.awaits;
   }
 
-  pub did_as : (past : Texts) (old new : State) (said shown added lines : Texts) → said ≡ shown → added ≡ lines → Did heard past old shown lines new → Did heard past old said added new
+  abbrev pub did_as : (past : Texts) (old new : State) (said shown added lines : Texts) → said ≡ shown → added ≡ lines → Did heard past old shown lines new → Did heard past old said added new
   did_as past old new said shown added lines told is d =
       subst (λ (s : Texts). Did heard past old s added new) (sym told) (subst (λ (x : Texts). Did heard past old shown x new) (sym is) d)
 
@@ -229,7 +229,7 @@ module _ (heard : Lines) where
   did_from past old mid new said added a b = did_two past old mid new [] said [] added a b
 
   -- something that says no reply is told first
-  pub did_before : (past first : Texts) (old new : State) (said added : Texts) → IsPlain first → Did heard (past ++ first) old said added new → Did heard past old (first ++ said) added new
+  abbrev pub did_before : (past first : Texts) (old new : State) (said added : Texts) → IsPlain first → Did heard (past ++ first) old said added new → Did heard past old (first ++ said) added new
   did_before past first old new said added plain d = record {
     account = d.account;
     went = d.went;

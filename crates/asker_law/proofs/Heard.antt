@@ -113,7 +113,7 @@ no_feed_input x y is = wrong (ap (λ (z : List ℕ × LineEnd). z.1) is)
     wrong e = cc
 
 -- behind a line without an LF there is none
-cut_last : (ended : ℕ) (came : List ℕ) (xs ys : List (List ℕ × LineEnd)) (line : List ℕ) (end : LineEnd) (earlier : List ℕ) → IsCut ended came (xs ++ (line, end) ∷ ys) → IsIn (earlier, ends.Input) xs → ⊥
+pub cut_last : (ended : ℕ) (came : List ℕ) (xs ys : List (List ℕ × LineEnd)) (line : List ℕ) (end : LineEnd) (earlier : List ℕ) → IsCut ended came (xs ++ (line, end) ∷ ys) → IsIn (earlier, ends.Input) xs → ⊥
 cut_last ended came [] ys line end earlier cuts is = is
 cut_last ended came ((x, ends.Feed) ∷ xs) ys line end earlier (free, (few, rest, cut, goes)) (inl is) = no_feed_input x earlier is
 cut_last ended came ((x, ends.Feed) ∷ xs) ys line end earlier (free, (few, rest, cut, goes)) (inr is) = cut_last ended rest xs ys line end earlier goes is

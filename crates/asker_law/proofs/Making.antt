@@ -49,7 +49,7 @@ pub record HasDone (before after : Scene) (c : Called) (all : List Ran) : Type 0
   pub held : (t : Told) × IsHeld after.hall t
   pub free : IsFree before.hall c.session
 
-has_done : (before after : Scene) (session operation : ℕ) (arguments : List Datum) (taken : Taken) → Does before session operation arguments taken after → ((t : Told) × IsHeld before.hall t) →
+pub has_done : (before after : Scene) (session operation : ℕ) (arguments : List Datum) (taken : Taken) → Does before session operation arguments taken after → ((t : Told) × IsHeld before.hall t) →
     HasDone before after (asked before.hall session operation arguments) taken.ran.items
 has_done before after session operation arguments taken done (t, held) =
     let hall : after.hall ≡ done.mid.hall = ap (λ (s : Scene). s.hall) done.left in
@@ -72,16 +72,16 @@ has_done before after session operation arguments taken done (t, held) =
     }
 
 -- each of these calls stands among the steps of all of them
-abbrev Among : List Step → Ran → Type 0
+abbrev pub Among : List Step → Ran → Type 0
 Among steps r = (later : List Step) × (before : List Step) × (steps ≡ later ++ ran r.call r.reply ∷ before)
 
-each_among : (all : List Ran) (steps : List Step) → Every (Among (behind_ran all steps)) all
+pub each_among : (all : List Ran) (steps : List Step) → Every (Among (behind_ran all steps)) all
 each_among [] steps = tt
 each_among (r ∷ all) steps = ((behind_ran all [], steps, ran_more all (ran r.call r.reply ∷ steps)), each_among all (ran r.call r.reply ∷ steps))
 
 module _ (heard : Lines) where
   -- who waited waits in what is left, or its call ran
-  stay_done : (past : Texts) (objects : List Scene) (peers : List Peer) (at : ℕ) (before after : Scene) (c : Called) (all : List Ran) → slice_get objects at ≡ Some before → HasDone before after c all →
+  pub stay_done : (past : Texts) (objects : List Scene) (peers : List Peer) (at : ℕ) (before after : Scene) (c : Called) (all : List Ran) → slice_get objects at ≡ Some before → HasDone before after c all →
       AllSeated heard past objects (waits_in objects) peers → AllSeated heard past (slice_set objects at after) (with_ran at all (waits_in (slice_set objects at after))) peers
   stay_done past objects peers at before after c all there done seated =
       let new = slice_set objects at after in
@@ -97,7 +97,7 @@ module _ (heard : Lines) where
       all_stay heard past objects new (waits_in objects) pool peers stay seated
 
   -- a call of an object was made, by which all these ran: each that waits for one of them is told its end
-  runs_did : (past first : Texts) (old start mid new : State) (at session operation : ℕ) (arguments : List Datum) (before after : Scene) (taken : Taken) → slice_get old.objects at ≡ Some before →
+  abbrev pub runs_did : (past first : Texts) (old start mid new : State) (at session operation : ℕ) (arguments : List Datum) (before after : Scene) (taken : Taken) → slice_get old.objects at ≡ Some before →
       Does before session operation arguments taken after → HasDone before after (asked before.hall session operation arguments) taken.ran.items → start.objects ≡ slice_set old.objects at after →
       AllHeld old.objects → AllSeated heard (past ++ first) (slice_set old.objects at after) (with_ran at taken.ran.items (waits_in (slice_set old.objects at after))) start.peers → AreAlone start.peers →
       (ended : Texts) → AllEnd at after taken.ran.items start ended [] mid → new.objects ≡ mid.objects → new.peers ≡ mid.peers → (said added : Texts) → IsPlain first → said ≡ first ++ ended →
@@ -151,7 +151,7 @@ module _ (heard : Lines) where
       }))
 
   -- what is called for one that is gone
-  pub did_calls_for : (at session operation : ℕ) (arguments : List Datum) → DidBy heard (CallsFor at session operation arguments)
+  abbrev pub did_calls_for : (at session operation : ℕ) (arguments : List Datum) → DidBy heard (CallsFor at session operation arguments)
   did_calls_for at session operation arguments past old new said added a is =
       let made = slice_set old.objects at is.after in
       let facts = has_done is.before is.after session operation arguments is.taken is.does (a.held at is.before is.there) in
@@ -174,7 +174,7 @@ module _ (heard : Lines) where
     pub asks_so : Asks true true line (asks.Call key (operation_name (object_of object) operation) values)
     pub values_are : arguments ≡ values.items
 
-  pub did_submits : (place : ℕ) (seat : Opened) (operation : ℕ) (arguments : List Datum) (past : Texts) (old new : State) (said added : Texts) → Awaits heard past old.objects old.peers →
+  abbrev pub did_submits : (place : ℕ) (seat : Opened) (operation : ℕ) (arguments : List Datum) (past : Texts) (old new : State) (said added : Texts) → Awaits heard past old.objects old.peers →
       (is : Submits place seat operation arguments old said added new) → IsMade place seat is.before.hall.object operation arguments old → Did heard past old said added new
   did_submits place seat operation arguments past old new said added a is m =
       let at = seat.object in

@@ -1,6 +1,6 @@
 -- What turns tell, one after the other.
 use Rattle.std.proofs.Common.{◌≡◌, ◌⊎◌, inl, inr, ◌∙◌, ap, sym, subst, refl, ℕ, List, [], ◌∷◌, ◌++◌, append_assoc}
-use Rattle.std.specs.Prelude.{true, false, Some, None, slice_get}
+use Rattle.std.specs.Prelude.{true, false, Some, None, Result, Ok, Err, IfOk, slice_get}
 use Rattle.std.proofs.lemmas.List.{append-nil}
 use Rattle.session_text.specs.Lines.{accepted_text, ended_text}
 use Rattle.live_core.specs.Hall.{Every}
@@ -14,7 +14,7 @@ use Rattle.told_core.specs.State.{State}
 use Rattle.said_law.specs.Said.{Account, IsTrue, SaysIn, Says, SaysNoReply}
 use Rattle.said_law.proofs.Going.{no_account}
 use Rattle.table_core.specs.Moves.{Gives}
-use Rattle.table_core.specs.Seen.{seen}
+use Rattle.table_core.specs.Seen.{IsQuiet, seen}
 use Rattle.table_core.specs.declared.table.Table.{Table}
 use Rattle.kept_law.specs.Kept.{LeavesAnswered}
 use Rattle.kept_law.specs.Replied.{AreTold, HaveOneHistory, IsRepeated}
@@ -22,7 +22,7 @@ use Rattle.kept_law.proofs.Going.{crash_leaves_answered}
 use Rattle.kept_law.proofs.Living.{lives_on}
 use Rattle.kept_law.proofs.Replying.{stands_in}
 use Rattle.asker_law.specs.Answers.{AllAlong, IsTold}
-use Rattle.asker_law.specs.Asker.{AreCut, CrashLeavesAsked, HasSaid, IsAnswered, IsQuiet, RepliesAreAsked, WaitsAreAsked, said_by}
+use Rattle.asker_law.specs.Asker.{AreAskedFrom, AreCut, CrashLeavesAsked, CrashLeavesAskedFrom, HasSaid, IsAnswered, RepliesAreAsked, WaitsAreAsked, said_by}
 use Rattle.asker_law.specs.Awaits.{AllHeld, AreHeard, Awaits, IsIn, Lines, SaidBy}
 use Rattle.asker_law.specs.Awaits.AreHeard.{none}
 use Rattle.asker_law.proofs.Beginning.{begins_awaits}
@@ -59,7 +59,7 @@ record Turned (heard : Lines) (past : Texts) (old : State) (asked : Asked) (said
   along : ToldAlong heard old.objects account past said
   awaits : Awaits heard (past ++ said) new.objects new.peers
 
-did_says : (heard : Lines) (past : Texts) (old new : State) (said added : Texts) (d : Did heard past old said added new) → Says old said added d.account new
+pub did_says : (heard : Lines) (past : Texts) (old new : State) (said added : Texts) (d : Did heard past old said added new) → Says old said added d.account new
 did_says heard past old new said added d = record { went = d.went; true_all = along_true heard old.objects d.account past said d.told }
 
 turned : (before after : List Turn) (t : Turn) (past : Texts) (old new : State) (asked : Asked) (said added : Texts) → t.asked ≡ asked → AreCut (before ++ t ∷ after) → Awaits (HasSaid before) past old.objects old.peers →
@@ -108,15 +108,15 @@ asked_told before old new [] (a ∷ accounts) all = all
 asked_told before old new (t ∷ turns) [] all = all
 asked_told before old new (t ∷ turns) (a ∷ accounts) (mid, gives, says, along, all) = (mid, gives, says, asked_told (before ++ t ∷ []) mid new turns accounts all)
 
-said_next : (before : List Turn) (t : Turn) → said_by (before ++ t ∷ []) ≡ said_by before ++ t.said
+pub said_next : (before : List Turn) (t : Turn) → said_by (before ++ t ∷ []) ≡ said_by before ++ t.said
 said_next [] t = append-nil t.said
 said_next (b ∷ before) t = ap (λ (l : Texts). b.said ++ l) (said_next before t) ∙ sym (append_assoc b.said (said_by before) t.said)
 
-turns_nil : (xs : List Turn) → xs ++ [] ≡ xs
+pub turns_nil : (xs : List Turn) → xs ++ [] ≡ xs
 turns_nil [] = refl
 turns_nil (x ∷ xs) = ap (λ (l : List Turn). x ∷ l) (turns_nil xs)
 
-turns_on : (before : List Turn) (t : Turn) (turns : List Turn) → (before ++ t ∷ []) ++ turns ≡ before ++ t ∷ turns
+pub turns_on : (before : List Turn) (t : Turn) (turns : List Turn) → (before ++ t ∷ []) ++ turns ≡ before ++ t ∷ turns
 turns_on before t turns = append_assoc before (t ∷ []) turns
 
 all_asked : (before turns : List Turn) (first last : Table) → AreCut (before ++ turns) → Awaits (HasSaid before) (said_by before) first.objects.items (seen first).peers → Runs Gives first turns last →
@@ -163,7 +163,7 @@ turn_at earlier first last (b ∷ before) after t (a ∷ accounts) (mid, gives, 
     }
 
 -- where nobody has opened an object nobody waits
-quiet_awaits : (s : State) → AllHeld s.objects → IsQuiet s → Awaits (HasSaid []) [] s.objects s.peers
+pub quiet_awaits : (s : State) → AllHeld s.objects → IsQuiet s → Awaits (HasSaid []) [] s.objects s.peers
 quiet_awaits s held quiet = record {
   held = held;
   alone = λ place other o u by also waits waits_too object session.
@@ -255,3 +255,19 @@ crash_leaves_asked first limits seen_so found waits honest between held quiet =
     let left : LeavesAnswered first limits seen_so found = crash_leaves_answered first limits seen_so found waits honest between in
     let s = left.left.survives in
     record { answered = left; askers = replies_are_asked first s.last (s.answered ++ s.later) s.runs (λ who. (_, _, s.heard who)) held quiet }
+
+-- of a table that is quiet all this is so
+quiet_asked : (t : Table) → IsQuiet (seen t) → AreAskedFrom t
+quiet_asked t quiet last turns runs cut held = (replies_are_asked t last turns runs cut held quiet, waits_are_asked t last turns runs cut held quiet)
+
+quiet_leaves : (t : Table) → IsQuiet (seen t) → CrashLeavesAskedFrom t
+quiet_leaves t quiet limits seen_so found waits honest between held = crash_leaves_asked t limits seen_so found waits honest between held quiet
+
+-- so of one that is made
+pub made_asked : {E : Type 0} (made : Result Table E) → IfOk made (λ t. IsQuiet (seen t)) → IfOk made AreAskedFrom
+made_asked (Ok t) quiet = quiet_asked t quiet
+made_asked (Err e) quiet = tt
+
+pub made_leaves : {E : Type 0} (made : Result Table E) → IfOk made (λ t. IsQuiet (seen t)) → IfOk made CrashLeavesAskedFrom
+made_leaves (Ok t) quiet = quiet_leaves t quiet
+made_leaves (Err e) quiet = tt

@@ -51,7 +51,7 @@ SameBut f = (p : Peer) → ((f p).who ≡ p.who) × ((f p).opened ≡ p.opened)
 
 module _ (heard : Lines) where
   -- who said a line is known
-  said_who : (who : Option ℕ) (line : List ℕ) (b : Bool) → SaidBy heard who line b → (w : ℕ) × (who ≡ Some w) × heard w line b
+  pub said_who : (who : Option ℕ) (line : List ℕ) (b : Bool) → SaidBy heard who line b → (w : ℕ) × (who ≡ Some w) × heard w line b
   said_who None line b is = absurd is
   said_who (Some w) line b is = (w, refl, is)
 
@@ -86,10 +86,10 @@ module _ (heard : Lines) where
         });
   }
 
-  did_refusal : (place : ℕ) (refusal : _) → DidBy heard (OnlyTold place (line_text (lines.Refused refusal)))
+  pub did_refusal : (place : ℕ) (refusal : _) → DidBy heard (OnlyTold place (line_text (lines.Refused refusal)))
   did_refusal place refusal = did_only heard place (line_text (lines.Refused refusal)) (refusal_plain (lines.Refused refusal) tt)
 
-  did_unsubmitted : (place : ℕ) (fault : _) → DidBy heard (OnlyTold place (line_text (lines.Unsubmitted fault)))
+  pub did_unsubmitted : (place : ℕ) (fault : _) → DidBy heard (OnlyTold place (line_text (lines.Unsubmitted fault)))
   did_unsubmitted place fault = did_only heard place (line_text (lines.Unsubmitted fault)) (refusal_plain (lines.Unsubmitted fault) tt)
 
   -- a line of the one at a place was heard, behind others that had their LF
@@ -99,7 +99,7 @@ module _ (heard : Lines) where
     pub no_feed : NoLineFeed line
     pub before : (p : Peer) → slice_get s.peers place ≡ Some p → AreHeard (SaidBy heard p.who) false p.held
 
-  holds_line : (place who : ℕ) (line : List ℕ) (is_whole : Bool) (past : Texts) (old : State) → Awaits heard past old.objects old.peers → IsHere place who line is_whole old →
+  pub holds_line : (place who : ℕ) (line : List ℕ) (is_whole : Bool) (past : Texts) (old : State) → Awaits heard past old.objects old.peers → IsHere place who line is_whole old →
       Did heard past old [] [] (changed old place (holding line is_whole))
   holds_line place who line is_whole past old a h =
       did_still heard past old (changed old place (holding line is_whole)) [] [] [] refl refl refl tt
@@ -110,7 +110,7 @@ module _ (heard : Lines) where
       heard_more (SaidBy heard p.who) p.held line is_whole (h.before p there) h.no_feed (subst (λ (w : Option ℕ). SaidBy heard w line is_whole) (sym who_is) h.is_heard))
       a))
 
-  wish_of : (place who : ℕ) (line : List ℕ) (is_whole : Bool) (s : State) (asked : Result Ask AllocError) → who_at s place ≡ Some who → heard who line is_whole → waits_at s place ≡ false →
+  pub wish_of : (place who : ℕ) (line : List ℕ) (is_whole : Bool) (s : State) (asked : Result Ask AllocError) → who_at s place ≡ Some who → heard who line is_whole → waits_at s place ≡ false →
       IfOk asked (Asks (is_some (opened_at s place)) is_whole line) → IsWish heard place s asked
   wish_of place who line is_whole s (Ok ask) here is_heard idle asks = record {
     who = who;
@@ -139,7 +139,7 @@ module _ (heard : Lines) where
   IsHereAt place who line ends.Input s = IsHere place who (strip_carriage_return line) false s
   IsHereAt place who line ends.TooLong s = Unit {0}
 
-  did_last : (place who : ℕ) (line : List ℕ) (past : Texts) (old new : State) (said added : Texts) → Awaits heard past old.objects old.peers → IsHere place who line false old →
+  pub did_last : (place who : ℕ) (line : List ℕ) (past : Texts) (old new : State) (said added : Texts) → Awaits heard past old.objects old.peers → IsHere place who line false old →
       HearsLast place line old said added new → Did heard past old said added new
   did_last place who [] past old new said added a h is = did_nothing heard past old new said added a is
   did_last place who (b ∷ line) past old new said added a h is = did_line place who (b ∷ line) false past old new said added a h is
@@ -160,11 +160,11 @@ module _ (heard : Lines) where
       subst (λ (x : Peer). AreHeard (SaidBy heard (left_with t.behind x).who) (left_with t.behind x).is_cut (left_with t.behind x).held) (sym is)
       (heard_first (SaidBy heard t.peer.who) t.peer.is_cut t.peer.held t.line t.behind (a.seated place t.peer t.there).held t.first.0 t.first.1).1) a)
 
-  did_takes : (place : ℕ) (asked : Result Ask AllocError) (past : Texts) (old mid : State) → Awaits heard past old.objects old.peers → TakesLine place asked old mid → Did heard past old [] [] mid
+  pub did_takes : (place : ℕ) (asked : Result Ask AllocError) (past : Texts) (old mid : State) → Awaits heard past old.objects old.peers → TakesLine place asked old mid → Did heard past old [] [] mid
   did_takes place asked past old mid a t =
       did_still heard past old mid [] [] [] refl refl (ap (λ (s : State). s.objects) t.left) tt (awaits_past heard past [] mid.objects mid.peers (takes_line place asked past old mid a t))
 
-  takes_wish : (place : ℕ) (asked : Result Ask AllocError) (past : Texts) (old mid : State) → Awaits heard past old.objects old.peers → waits_at old place ≡ false → TakesLine place asked old mid → IsWish heard place mid asked
+  pub takes_wish : (place : ℕ) (asked : Result Ask AllocError) (past : Texts) (old mid : State) → Awaits heard past old.objects old.peers → waits_at old place ≡ false → TakesLine place asked old mid → IsWish heard place mid asked
   takes_wish place asked past old mid a idle t =
       let is = heard_first (SaidBy heard t.peer.who) t.peer.is_cut t.peer.held t.line t.behind (a.seated place t.peer t.there).held t.first.0 t.first.1 in
       let w = said_who t.peer.who t.line (is_whole_before t.peer.is_cut t.behind) is.0 in
@@ -196,7 +196,7 @@ module _ (heard : Lines) where
       let made = did_frees heard object session past old mid one first a is in
       did_two heard past old mid new one two first further made (did_settles (past ++ one) mid new two further made.awaits later)
 
-  did_ends_ask : (place : ℕ) (asked : Result Ask AllocError) → DidBy heard (EndsAsk place asked)
+  pub did_ends_ask : (place : ℕ) (asked : Result Ask AllocError) → DidBy heard (EndsAsk place asked)
   did_ends_ask place (Ok (asks.Open name client)) = did_refusal place refusals.Opened
   did_ends_ask place (Ok (asks.Call key name arguments)) = did_unsubmitted place faults.Gone
   did_ends_ask place (Ok (asks.Cancel told)) = did_cancel heard place told
@@ -219,7 +219,7 @@ module _ (heard : Lines) where
   did_withdraws object session past old new said added a (inl (number, is)) = did_lets_go heard object session number past old new said added a is
   did_withdraws object session past old new said added a (inr (none, is)) = did_nothing heard past old new said added a is
 
-  did_withdraws_at : (place : ℕ) → DidBy heard (WithdrawsAt place)
+  pub did_withdraws_at : (place : ℕ) → DidBy heard (WithdrawsAt place)
   did_withdraws_at place past old new said added a (inl (opened, by, waits, is)) = did_withdraws opened.object opened.session past old new said added a is
   did_withdraws_at place past old new said added a (inr (none, is)) = did_nothing heard past old new said added a is
 
@@ -231,7 +231,7 @@ module _ (heard : Lines) where
   did_leave_if place past old new said added a (inl (who, here, is)) = did_leave place past old new said added a is
   did_leave_if place past old new said added a (inr (none, is)) = did_nothing heard past old new said added a is
 
-  did_comes : (who : ℕ) → DidBy heard (Comes who)
+  pub did_comes : (who : ℕ) → DidBy heard (Comes who)
   did_comes who past old new said added a (none, added_none, left) =
       did_still heard past old new said [] added none added_none (ap (λ (s : State). s.objects) left) tt
       (same_awaits heard (past ++ []) (changed old (place_of old who) (λ p. comer who)) new (ap (λ (s : State). s.objects) left) (ap (λ (s : State). s.peers) left)

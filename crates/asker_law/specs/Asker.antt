@@ -1,5 +1,5 @@
 -- Each reply that a connection is told is that of the call for which a line of it asked.
-use Rattle.std.specs.Prelude.{◌≡◌, ◌⊎◌, ◌<◌, ℕ, Bool, true, false, List, [], ◌∷◌, ◌++◌, Some, None, slice_get}
+use Rattle.std.specs.Prelude.{◌≡◌, ◌⊎◌, ◌<◌, ℕ, Bool, true, false, List, [], ◌∷◌, ◌++◌}
 use Rattle.std.specs.Str.Lines.{strip_carriage_return}
 use Rattle.session_text.specs.Lines.{accepted_text}
 use Rattle.hosted_core.specs.Scene.{told_of}
@@ -12,10 +12,9 @@ use Rattle.keep_loop.specs.Epochs.{rules_of, since_in, stored_since}
 use Rattle.keep_loop.specs.Seen.{Happened}
 use Rattle.keep_loop.specs.Stands.{IsHonest, IsBetween}
 use Rattle.told_core.specs.Deeds.{Texts}
-use Rattle.told_core.specs.State.{Peer, State}
 use Rattle.said_law.specs.Said.{SaysNoReply}
 use Rattle.table_core.specs.Moves.{Gives, Fronts}
-use Rattle.table_core.specs.Seen.{seen}
+use Rattle.table_core.specs.Seen.{IsQuiet, seen}
 use Rattle.table_core.specs.declared.table.Table.{Table}
 use Rattle.kept_law.specs.Kept.{LeavesAnswered}
 use Rattle.kept_law.specs.Replied.{HaveOneHistory, IsReplied, IsRepeated}
@@ -35,10 +34,6 @@ pub record HasSaid (turns : List Turn) (who : ℕ) (line : List ℕ) (is_whole :
 -- what each connection says is cut into the lines that are heard: none has an LF in it, and one without an LF is the last
 abbrev pub AreCut : List Turn → Type 0
 AreCut turns = (who : ℕ) → (ended : ℕ) × (came : List ℕ) × IsCut ended came (heard_of who turns)
-
--- nobody has opened an object, and no line is held
-abbrev pub IsQuiet : State → Type 0
-IsQuiet s = (place : ℕ) (p : Peer) → slice_get s.peers place ≡ Some p → (p.opened ≡ None) × (p.held ≡ [])
 
 -- what is told in turns, one after the other
 abbrev pub said_by : List Turn → Texts
@@ -73,6 +68,12 @@ WaitsAreAsked =
     (first last : Table) (turns : List Turn) → Runs Gives first turns last → AreCut turns → AllHeld first.objects.items → IsQuiet (seen first) →
     Awaits (HasSaid turns) (said_by turns) last.objects.items (seen last).peers
 
+-- So both are from a table on.
+abbrev pub AreAskedFrom : Table → Type 0
+AreAskedFrom first =
+    (last : Table) (turns : List Turn) → Runs Gives first turns last → AreCut turns → AllHeld first.objects.items →
+    HaveAskers first last turns × Awaits (HasSaid turns) (said_by turns) last.objects.items (seen last).peers
+
 -- A crash leaves one history of turns, as before, and what is told in them is so.
 pub record LeavesAsked (first : Table) (limits : Limits) (seen_so : List Happened) (found : ℕ → List ℕ) : Type 0 where
   pub answered : LeavesAnswered first limits seen_so found
@@ -85,3 +86,11 @@ CrashLeavesAsked =
     IsHonest (rules_of Gives Fronts) first limits seen_so →
     ((j : ℕ) → j < limits.journals → IsBetween (stored_since j seen_so) (since_in j seen_so) (found j)) →
     AllHeld first.objects.items → IsQuiet (seen first) → LeavesAsked first limits seen_so found
+
+-- So it does where a loop began with this table.
+abbrev pub CrashLeavesAskedFrom : Table → Type 0
+CrashLeavesAskedFrom first =
+    (limits : Limits) (seen_so : List Happened) (found : ℕ → List ℕ) → limits.waits ≡ true →
+    IsHonest (rules_of Gives Fronts) first limits seen_so →
+    ((j : ℕ) → j < limits.journals → IsBetween (stored_since j seen_so) (since_in j seen_so) (found j)) →
+    AllHeld first.objects.items → LeavesAsked first limits seen_so found

@@ -1,6 +1,13 @@
 //! The laws, each a function without a body whose contract it is.
 
+ghost use Rattle.std.specs.Prelude.{IfOk};
 ghost use Rattle.asker_law.specs.Asker.{RepliesAreAsked, WaitsAreAsked, CrashLeavesAsked};
+ghost use Rattle.asker_law.specs.Asker.{AreAskedFrom, CrashLeavesAskedFrom};
+
+use custody_core::all::AllHeld;
+use hosted_core::hosted::Hosted;
+use std::alloc::{AllocError, Global};
+use table_core::table::Table;
 
 /// A text that tells a connection how a call ended tells it of a call for which a line of this connection asked: of the
 /// operation of this name, with these arguments, of the object that a line of it asked to open. Its number was told to this
@@ -19,3 +26,17 @@ pub fn waits_are_asked()
 pub fn crash_leaves_asked()
     ensures { CrashLeavesAsked }
 {}
+
+/// Of a table that is made nobody has opened an object: so all of that is so from it on. Each table of a server is made so.
+pub fn made_are_asked(
+    alloc: Global,
+    objects: Vec<Hosted>,
+    custody: AllHeld,
+    places: usize,
+    now: u64,
+) -> Result<Table, AllocError>
+    ensures asked { IfOk result AreAskedFrom }
+    ensures crash { IfOk result CrashLeavesAskedFrom }
+{
+    Table::with_held(alloc, objects, custody, places, now)
+}

@@ -32,6 +32,8 @@ pub struct Clients {
 fn no_rows(alloc: Global, count: usize) -> Result<Vec<Client>, AllocError>
     ensures count { IfOk result (λ rows. length rows.items ≡ count) }
     ensures nobody { IfOk result (λ rows. (k : ℕ) → is_here_in (slice_get rows.items k) ≡ false) }
+    ensures opened { IfOk result (λ rows. (k : ℕ) → opened_in (slice_get rows.items k) ≡ None) }
+    ensures held { IfOk result (λ rows. (k : ℕ) → held_in (slice_get rows.items k) ≡ []) }
 {
     let mut rows = Vec::with_capacity(alloc, count)?;
     for _row in 0..count {
@@ -168,10 +170,12 @@ fn set_called(rows: &mut Vec<Client>, at: usize, second: u64)
 }
 
 impl Clients {
-    /// So many places, which nobody has. The error is that memory was refused.
+    /// So many places, which nobody has: nobody has opened an object, and no line is held. The error is that memory was refused.
     pub fn new(alloc: Global, count: usize) -> Result<Clients, AllocError>
         ensures count { IfOk result (λ clients. length clients.rows.items ≡ count) }
         ensures nobody { IfOk result (λ clients. (k : ℕ) → is_here_in (place_at clients k) ≡ false) }
+        ensures opened { IfOk result (λ clients. (k : ℕ) → opened_in (place_at clients k) ≡ None) }
+        ensures held { IfOk result (λ clients. (k : ℕ) → held_in (place_at clients k) ≡ []) }
     {
         let rows = no_rows(alloc, count)?;
         Ok(Clients {

@@ -1,5 +1,5 @@
 -- What is held of objects, without who is gone.
-use Rattle.std.specs.Prelude.{map}
+use Rattle.std.specs.Prelude.{List, map}
 use Rattle.gone_core.specs.Holding.{Holding}
 use Rattle.told_core.specs.Custody.{Custody, Custodies}
 use Rattle.custody_core.specs.declared.all.AllHeld.TheInside.{Inside}
@@ -7,5 +7,9 @@ use Rattle.custody_core.specs.declared.all.AllHeld.TheInside.{Inside}
 abbrev pub custody_of : Holding → Custody
 custody_of h = record { rules = h.rules; held = h.held }
 
-abbrev pub all_of : Inside → Custodies
-all_of h = map custody_of h.rows.items
+abbrev pub custodies_of : List Holding → Custodies
+custodies_of all = map custody_of all
+
+-- each object's, by its place
+abbrev pub all_of : Inside → List Holding
+all_of h = h.rows.items

@@ -1,12 +1,14 @@
 //! What is held of all objects of a table.
 
-ghost use Rattle.std.specs.Prelude.{◌≡◌, ◌++◌, ◌∷◌, [], true, false, Option, Some, None, OnOk, IfOk, IfSome, MatchOption, map, slice_get};
+ghost use Rattle.std.specs.Prelude.{◌≡◌, ◌++◌, ◌∷◌, [], All, true, false, Some, OnOk, IfOk, IfSome, MatchOption, slice_get};
 ghost use Rattle.decl_core.specs.ObjectMap.{object_of};
 ghost use Rattle.hosted_core.specs.Scene.{Scene};
 ghost use Rattle.hold_form.specs.HoldForm.{EveryForm};
 ghost use Rattle.hold_form.specs.HoldMap.{holds_of};
 ghost use Rattle.told_core.specs.Custody.{Custody, IsOwed, MayMake, FollowsIn, IsFreeOf, HasNone, HasSome, holds_by, held_by, held_lines_in};
-ghost use Rattle.custody_core.specs.Views.{custody_of};
+ghost use Rattle.gone_core.specs.Holding.{Holding as AHolding, Goes, HoldsSome};
+ghost use Rattle.custody_core.specs.Due.{Becomes, EndsAll, IsDueThere, IsFirst, IsUndone, IsUnwelcome, Looks, LooksAll, NothingIsDue, Notes, object_due, tick_of};
+ghost use Rattle.custody_core.specs.Views.{custodies_of};
 
 use crate::one::{HoldNote, all_ended, leaves_one, look_one, note_one, unwelcome};
 use decl_core::object::Object;
@@ -32,13 +34,15 @@ pub struct AllHeld {
 }
 
 impl Model for AllHeld {
-    ghost use Rattle.told_core.specs.Custody.{Custodies};
+    ghost use Rattle.std.specs.Prelude.{List};
+    ghost use Rattle.gone_core.specs.Holding.{Holding as AHolding};
+    ghost use Rattle.gone_core.specs.contracts.holding.Holding as holding;
     ghost use Rattle.custody_core.specs.Views.{all_of};
     ghost use Rattle.std.specs.Coded.{codes};
 
-    ghost Value = { Custodies };
+    ghost Value = { List AHolding };
 
-    ghost coded = { Prim.hlevel (codes) };
+    ghost coded = { Prim.hlevel (codes, holding.the_row.coded) };
 
     ghost view = { all_of };
 }
@@ -51,7 +55,9 @@ pub enum DueCall {
 }
 
 // What is due of the object at a place in this second.
-fn due_of(holding: &Holding, at: usize, second: u64) -> Option<DueCall> {
+fn due_of(holding: &Holding, at: usize, second: u64) -> Option<DueCall>
+    ensures { MatchOption result (NothingIsDue second holding.now) (λ due. (object_due due ≡ at) × IsDueThere second holding.now due) }
+{
     if let Some(one) = holding.next() {
         return Some(DueCall::Gone(at, one));
     }
@@ -68,8 +74,9 @@ fn ended_in(
     object: &Hosted,
     all: &[Ran],
 ) -> Result<(), AllocError>
-    ensures { OnOk result (FollowsIn (slice_get (map custody_of rows.old.items) at) at object.now all.now
-        (map custody_of rows.old.items) (map custody_of rows.new.items)) }
+    ensures ends { OnOk result (Becomes (EndsAll object.now all.now) at rows.old.items rows.new.items) }
+    ensures held { OnOk result (FollowsIn (slice_get (custodies_of rows.old.items) at) at object.now all.now
+        (custodies_of rows.old.items) (custodies_of rows.new.items)) }
 {
     match rows.get_mut(at) {
         None => Ok(()),
@@ -88,11 +95,12 @@ fn leaves_in(
     is_named: bool,
     second: u64,
 ) -> Result<bool, AllocError>
-    ensures same { OnOk result (map custody_of rows.new.items ≡ map custody_of rows.old.items) }
+    ensures goes { OnOk result (Becomes (Goes session is_named second) at rows.old.items rows.new.items) }
+    ensures same { OnOk result (custodies_of rows.new.items ≡ custodies_of rows.old.items) }
     ensures stays { IfOk result (λ stays. stays ≡ true → (is_named ≡ false) × ((c : Custody)
-        × (slice_get (map custody_of rows.old.items) at ≡ Some c) × HasSome session c.held)) }
+        × (slice_get (custodies_of rows.old.items) at ≡ Some c) × HasSome session c.held)) }
     ensures free { IfOk result (λ stays. stays ≡ false
-        → IsFreeOf (slice_get (map custody_of rows.old.items) at) is_named session) }
+        → IsFreeOf (slice_get (custodies_of rows.old.items) at) is_named session) }
 {
     match rows.get_mut(at) {
         None => Ok(false),
@@ -105,7 +113,8 @@ fn leaves_in(
 
 // Something is noted of the object at a place.
 fn note_in(rows: &mut Vec<Holding>, at: usize, note: HoldNote)
-    ensures { map custody_of rows.new.items ≡ map custody_of rows.old.items }
+    ensures notes { Becomes (Notes note) at rows.old.items rows.new.items }
+    ensures held { custodies_of rows.new.items ≡ custodies_of rows.old.items }
 {
     match rows.get_mut(at) {
         None => {}
@@ -117,7 +126,8 @@ fn note_in(rows: &mut Vec<Holding>, at: usize, note: HoldNote)
 
 // It is this second, for the object at a place.
 fn look_in(rows: &mut Vec<Holding>, at: usize, object: &Hosted, second: u64)
-    ensures { map custody_of rows.new.items ≡ map custody_of rows.old.items }
+    ensures looks { Becomes (Looks object.now second) at rows.old.items rows.new.items }
+    ensures held { custodies_of rows.new.items ≡ custodies_of rows.old.items }
 {
     match rows.get_mut(at) {
         None => {}
@@ -129,7 +139,8 @@ fn look_in(rows: &mut Vec<Holding>, at: usize, object: &Hosted, second: u64)
 
 // It is this second, for all objects.
 fn look_all(rows: &mut Vec<Holding>, objects: &[Hosted], second: u64)
-    ensures { map custody_of rows.new.items ≡ map custody_of rows.old.items }
+    ensures looks { LooksAll objects.now second rows.old.items rows.new.items }
+    ensures held { custodies_of rows.new.items ≡ custodies_of rows.old.items }
 {
     for at in 0..objects.len() {
         look_in(rows, at, &objects[at], second);
@@ -148,7 +159,7 @@ impl AllHeld {
 
     /// One object more, behind the others. The error is that memory was refused.
     pub fn push(&mut self, holding: Holding) -> Result<(), AllocError>
-        ensures { OnOk result (self.new ≡ self.old ++ custody_of holding ∷ []) }
+        ensures { OnOk result (self.new ≡ self.old ++ holding ∷ []) }
     {
         self.rows.push(holding)?;
         Ok(())
@@ -156,7 +167,7 @@ impl AllHeld {
 
     // What is held of the object at a place.
     fn at(&self, at: usize) -> Option<&Holding>
-        ensures { MatchOption result (slice_get self.now at ≡ None) (λ h. slice_get self.now at ≡ Some (custody_of h.now)) }
+        ensures { MatchOption result (slice_get self.now at ≡ None) (λ h. slice_get self.now at ≡ Some h.now) }
     {
         self.rows.get(at)
     }
@@ -164,8 +175,8 @@ impl AllHeld {
     /// Whether a session may call an operation of the object at a place: where that ends a hold that not anybody may end, it
     /// holds what would end.
     pub fn may_call(&self, at: usize, session: u16, operation: OpId, arguments: &[Datum]) -> bool
-        ensures yes { result ≡ true → MayMake (slice_get self.now at) session operation arguments.now }
-        ensures no { result ≡ false → MayMake (slice_get self.now at) session operation arguments.now → ⊥ }
+        ensures yes { result ≡ true → MayMake (slice_get (custodies_of self.now) at) session operation arguments.now }
+        ensures no { result ≡ false → MayMake (slice_get (custodies_of self.now) at) session operation arguments.now → ⊥ }
     {
         match self.at(at) {
             None => true,
@@ -175,7 +186,8 @@ impl AllHeld {
 
     /// Whether nothing is held by a session of the object at a place, of which something may be held.
     pub fn holds_none(&self, at: usize, session: u16) -> bool
-        ensures { result ≡ true → (c : Custody) × (slice_get self.now at ≡ Some c) × HasNone session c.held }
+        ensures yes { result ≡ true → (c : Custody) × (slice_get (custodies_of self.now) at ≡ Some c) × HasNone session c.held }
+        ensures no { result ≡ false → (h : AHolding) → slice_get self.now at ≡ Some h → HoldsSome h.held session }
     {
         match self.at(at) {
             None => false,
@@ -191,7 +203,8 @@ impl AllHeld {
         object: &Object,
         session: u16,
     ) -> Result<Option<OwedCall>, AllocError>
-        ensures { IfOk result (λ found. IfSome found (λ u. (c : Custody) × (slice_get self.now at ≡ Some c)
+        ensures is { IfOk result (IsUndone (object_of object.now) (slice_get self.now at) session) }
+        ensures owed { IfOk result (λ found. IfSome found (λ u. (c : Custody) × (slice_get (custodies_of self.now) at ≡ Some c)
             × IsOwed (object_of object.now) c session u.operation u.arguments.items)) }
     {
         match self.at(at) {
@@ -202,7 +215,8 @@ impl AllHeld {
 
     /// The call at a place that is made again and again, of the object at a place.
     pub fn tick(&self, at: usize, place: usize) -> Option<Ticking>
-        ensures { IfSome result (λ t. (c : Custody) × (slice_get self.now at ≡ Some c) × ((e : EveryForm)
+        ensures is { result ≡ tick_of (slice_get self.now at) place }
+        ensures every { IfSome result (λ t. (c : Custody) × (slice_get (custodies_of self.now) at ≡ Some c) × ((e : EveryForm)
             × (slice_get c.rules.everies place ≡ Some e) × (t.op ≡ e.op))) }
     {
         match self.at(at) {
@@ -213,7 +227,9 @@ impl AllHeld {
 
     /// The first that is due in this second: of the objects in their order, for sessions that are gone before what is made
     /// again and again.
-    pub fn first_due(&self, second: u64) -> Option<DueCall> {
+    pub fn first_due(&self, second: u64) -> Option<DueCall>
+        ensures { MatchOption result (All (NothingIsDue second) self.now) (IsFirst second self.now) }
+    {
         for at in 0..self.rows.len() {
             let due = due_of(&self.rows[at], at, second);
             if due.is_some() {
@@ -230,7 +246,9 @@ impl AllHeld {
         objects: &[Hosted],
         name: &Name,
         second: u64,
-    ) -> Option<Refusal> {
+    ) -> Option<Refusal>
+        ensures { IsUnwelcome (slice_get self.now at) (slice_get objects.now at) name.now second result }
+    {
         match self.at(at) {
             None => None,
             Some(holding) => match objects.get(at) {
@@ -242,8 +260,8 @@ impl AllHeld {
 
     /// The holds of the object at a place, and what is held of it, the oldest first; none where it says nothing of them.
     pub fn held_of(&self, at: usize) -> (&[Hold], &[HeldCall])
-        ensures holds { holds_of result.0.now ≡ holds_by (slice_get self.now at) }
-        ensures held { result.1.now ≡ held_by (slice_get self.now at) }
+        ensures holds { holds_of result.0.now ≡ holds_by (slice_get (custodies_of self.now) at) }
+        ensures held { result.1.now ≡ held_by (slice_get (custodies_of self.now) at) }
     {
         match self.at(at) {
             None => (&[], &[]),
@@ -259,7 +277,7 @@ impl AllHeld {
         objects: &[Hosted],
         front: &mut Vec<u8>,
     ) -> Result<(), AllocError>
-        ensures { OnOk result (front.new.items ≡ front.old.items ++ held_lines_in self.now at (slice_get objects.now at)) }
+        ensures { OnOk result (front.new.items ≡ front.old.items ++ held_lines_in (custodies_of self.now) at (slice_get objects.now at)) }
     {
         match objects.get(at) {
             None => Ok(()),
@@ -277,7 +295,7 @@ impl AllHeld {
         object: &Hosted,
         front: &mut Vec<u8>,
     ) -> Result<(), AllocError>
-        ensures { OnOk result (front.new.items ≡ front.old.items ++ held_lines_in self.now at (Some object.now)) }
+        ensures { OnOk result (front.new.items ≡ front.old.items ++ held_lines_in (custodies_of self.now) at (Some object.now)) }
     {
         match self.at(at) {
             None => Ok(()),
@@ -295,8 +313,10 @@ impl AllHeld {
 
     /// Calls of the object at a place ran, in their order: what is held of it follows. The error is that memory was refused.
     pub fn ended(&mut self, at: usize, objects: &[Hosted], all: &[Ran]) -> Result<(), AllocError>
-        ensures { OnOk result ((object : Scene) → slice_get objects.now at ≡ Some object
-            → FollowsIn (slice_get self.old at) at object all.now self.old self.new) }
+        ensures ends { OnOk result ((object : Scene) → slice_get objects.now at ≡ Some object
+            → Becomes (EndsAll object all.now) at self.old self.new) }
+        ensures held { OnOk result ((object : Scene) → slice_get objects.now at ≡ Some object
+            → FollowsIn (slice_get (custodies_of self.old) at) at object all.now (custodies_of self.old) (custodies_of self.new)) }
     {
         match objects.get(at) {
             None => Ok(()),
@@ -309,7 +329,9 @@ impl AllHeld {
 
     // The same, of this object.
     fn ended_of(&mut self, at: usize, object: &Hosted, all: &[Ran]) -> Result<(), AllocError>
-        ensures { OnOk result (FollowsIn (slice_get self.old at) at object.now all.now self.old self.new) }
+        ensures ends { OnOk result (Becomes (EndsAll object.now all.now) at self.old self.new) }
+        ensures held { OnOk result (FollowsIn (slice_get (custodies_of self.old) at) at object.now all.now
+            (custodies_of self.old) (custodies_of self.new)) }
     {
         ended_in(&mut self.rows, at, object, all)?;
         Ok(())
@@ -325,10 +347,11 @@ impl AllHeld {
         is_named: bool,
         second: u64,
     ) -> Result<bool, AllocError>
-        ensures same { OnOk result (self.new ≡ self.old) }
+        ensures goes { OnOk result (Becomes (Goes session is_named second) at self.old self.new) }
+        ensures same { OnOk result (custodies_of self.new ≡ custodies_of self.old) }
         ensures stays { IfOk result (λ stays. stays ≡ true → (is_named ≡ false)
-            × ((c : Custody) × (slice_get self.old at ≡ Some c) × HasSome session c.held)) }
-        ensures free { IfOk result (λ stays. stays ≡ false → IsFreeOf (slice_get self.old at) is_named session) }
+            × ((c : Custody) × (slice_get (custodies_of self.old) at ≡ Some c) × HasSome session c.held)) }
+        ensures free { IfOk result (λ stays. stays ≡ false → IsFreeOf (slice_get (custodies_of self.old) at) is_named session) }
     {
         let stays = leaves_in(&mut self.rows, at, session, is_named, second)?;
         Ok(stays)
@@ -336,14 +359,16 @@ impl AllHeld {
 
     /// Something is noted of the object at a place: what is held stays.
     pub fn note(&mut self, at: usize, note: HoldNote)
-        ensures { self.new ≡ self.old }
+        ensures notes { Becomes (Notes note) at self.old self.new }
+        ensures held { custodies_of self.new ≡ custodies_of self.old }
     {
         note_in(&mut self.rows, at, note);
     }
 
     /// It is this second: calls are due for those whose time has come.
     pub fn look(&mut self, objects: &[Hosted], second: u64)
-        ensures { self.new ≡ self.old }
+        ensures looks { LooksAll objects.now second self.old self.new }
+        ensures held { custodies_of self.new ≡ custodies_of self.old }
     {
         look_all(&mut self.rows, objects, second);
     }

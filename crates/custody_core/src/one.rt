@@ -1,8 +1,10 @@
 //! What is held of one object.
 
-ghost use Rattle.std.specs.Prelude.{◌≡◌, [], OnOk, IfOk, IfSome, true, false};
+ghost use Rattle.std.specs.Prelude.{◌≡◌, [], Some, OnOk, IfOk, true, false};
 ghost use Rattle.hosted_core.specs.Scene.{Scene};
 ghost use Rattle.told_core.specs.Custody.{HeldBehind, HeldBehindAll, HasNone, HasSome, as_told};
+ghost use Rattle.gone_core.specs.Holding.{Ends, Goes};
+ghost use Rattle.custody_core.specs.Due.{EndsAll, IsUnwelcome, Looks, Notes};
 ghost use Rattle.custody_core.specs.Views.{custody_of};
 
 use gone_core::holding::Holding;
@@ -31,7 +33,8 @@ pub enum HoldNote {
 
 // It is noted: what is held stays.
 pub(crate) fn note_one(holding: &mut Holding, note: HoldNote)
-    ensures { custody_of holding.new ≡ custody_of holding.old }
+    ensures notes { Notes note holding.old holding.new }
+    ensures held { custody_of holding.new ≡ custody_of holding.old }
 {
     match note {
         HoldNote::Waits(session) => holding.waits(session),
@@ -45,13 +48,15 @@ pub(crate) fn note_one(holding: &mut Holding, note: HoldNote)
 
 // It is this second: what is held stays.
 pub(crate) fn look_one(holding: &mut Holding, object: &Hosted, second: u64)
-    ensures { custody_of holding.new ≡ custody_of holding.old }
+    ensures looks { Looks object.now second holding.old holding.new }
+    ensures held { custody_of holding.new ≡ custody_of holding.old }
 {
     holding.look(object, second);
 }
 
 // A call of the object ran. The error is that memory was refused.
 fn one_ended(holding: &mut Holding, object: &Hosted, ran: &Ran) -> Result<(), AllocError>
+    ensures ends { OnOk result (Ends holding.old (as_told object.now ran.now.call) ran.now.reply holding.new) }
     ensures rules { OnOk result (holding.new.rules ≡ holding.old.rules) }
     ensures held { OnOk result (HeldBehind holding.old.rules.holds (as_told object.now ran.now.call) ran.now.reply
         holding.old.held holding.new.held) }
@@ -67,6 +72,7 @@ pub(crate) fn all_ended(
     object: &Hosted,
     all: &[Ran],
 ) -> Result<(), AllocError>
+    ensures ends { OnOk result (EndsAll object.now all.now holding.old holding.new) }
     ensures rules { OnOk result (holding.new.rules ≡ holding.old.rules) }
     ensures held { OnOk result (HeldBehindAll holding.old.rules.holds object.now all.now holding.old.held holding.new.held) }
 {
@@ -87,6 +93,7 @@ pub(crate) fn leaves_one(
     is_named: bool,
     second: u64,
 ) -> Result<bool, AllocError>
+    ensures goes { OnOk result (Goes session is_named second holding.old holding.new) }
     ensures same { OnOk result (custody_of holding.new ≡ custody_of holding.old) }
     ensures stays { IfOk result (λ stays. stays ≡ true → (is_named ≡ false) × HasSome session holding.old.held) }
     ensures free { IfOk result (λ stays. stays ≡ false → is_named ≡ false → HasNone session holding.old.held) }
@@ -100,7 +107,9 @@ pub(crate) fn unwelcome(
     object: &Hosted,
     name: &Name,
     second: u64,
-) -> Option<Refusal> {
+) -> Option<Refusal>
+    ensures { IsUnwelcome (Some holding.now) (Some object.now) name.now second result }
+{
     if holding.is_crowded(object, name, second) {
         return Some(Refusal::Full);
     }

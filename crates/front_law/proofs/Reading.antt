@@ -6,7 +6,9 @@ use Rattle.std.proofs.lemmas.Slice.Eq.{bytes_eq-Decides}
 use Rattle.line_core.specs.Words.{drop_spaces}
 use Rattle.word_core.specs.Words.{Word, bare, quoted}
 use Rattle.decl_core.specs.ObjectForm.{ObjectForm}
-use Rattle.front_core.specs.Front.{Opening}
+use Rattle.trace_core.specs.Laws.{HasNames}
+use Rattle.front_core.specs.Front.{HasRows, Opening}
+use Rattle.front_core.specs.Text.{front_text}
 use Rattle.front_read.specs.Text.{begins, goes_on, goes_on_behind_parts, goes_on_with_calls}
 use Rattle.front_read.proofs.Whole.{front_there, found_of}
 use Rattle.replay_core.specs.Said.{Says, Said, a_start, said_by, start_of, end_of, cancel_of, name_of}
@@ -181,8 +183,14 @@ read_apart o h text g came read =
     let is = read.is in
     ap goes_on is.cut ∙ joined_apart goes_on fronts_apart is.lines is.rest (first_played o (begun_by g) _ is.lines is.played) (ap goes_on read.whole)
 
+-- behind a front that was written no line of a front stands
+pub front_is_written : (o : ObjectForm) (h : House) (f g : Opening) (text found : List ℕ) (came : Recovered) → HasNames o → HasRows o f → goes_on found ≡ false → text ≡ front_text o f ++ found → IsRead o h text g came →
+    g ≡ f
+front_is_written o h f g text found came named rows ends text_is read =
+    let on = front_there o text read.behind g read.rows (read_apart o h text g came read) read.text_is in
+    (found_of o text read.behind g named on f found rows ends text_is).0
+
 pub written_is_read : WrittenIsRead
 written_is_read o h f g text lines found lost came named rows adds cut text_is read =
     let ends = front_apart found lost (ap goes_on (sym cut) ∙ adds_apart goes_on fronts_apart o f lines adds) in
-    let on = front_there o text read.behind g read.rows (read_apart o h text g came read) read.text_is in
-    (found_of o text read.behind g named on f found rows ends text_is).0
+    front_is_written o h f g text found came named rows ends text_is read

@@ -215,13 +215,6 @@ impl Holding {
         is_busy_by(hosted.guests(), &self.gone, name)
     }
 
-    /// A client of a name has come, and has its session: what it holds is not given back any more.
-    pub fn comes(&mut self, session: u16)
-        ensures { self.new ≡ with_gone self.old (without session self.old.gone) }
-    {
-        take_out(&mut self.gone, session);
-    }
-
     /// Whether a client of a new name may not come in this second: there are 4,096 names, and one that might be forgotten
     /// for it, being away for an hour, holds something.
     pub fn is_crowded(&self, hosted: &Hosted, name: &Name, second: u64) -> bool

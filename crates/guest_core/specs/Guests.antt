@@ -1,9 +1,9 @@
 -- Who the clients of an object are.
-use Rattle.std.specs.Prelude.{◌≡◌, ◌≢◌, ℕ, List, [], ◌∷◌, ◌++◌, length, slice_get, slice_set}
+use Rattle.std.specs.Prelude.{◌≡◌, ◌≢◌, ◌⊎◌, ℕ, List, [], ◌∷◌, ◌++◌, length, slice_get, slice_set}
 use Rattle.std.specs.Prelude.{Option, Some}
 use Rattle.guest_core.specs.declared.guest.Guest.{Guest}
 use Rattle.guest_core.specs.declared.seats.Seat.{Seat}
-use Rattle.guest_core.specs.declared.seats.Seat.TheVariants.{Named, Retired}
+use Rattle.guest_core.specs.declared.seats.Seat.TheVariants.{Nameless, Named, Retired}
 use Rattle.guest_core.specs.Keys.{Keys, fresh_keys}
 
 -- The clients that have names, in the order of their places; what each session number is, from 0 on; and how many names
@@ -21,6 +21,10 @@ pub record IsNamed (v : Guests) (session p : ℕ) (g : Guest) : Type 0 where
 -- no client that has a name has this session
 abbrev pub HasNoName : Guests → ℕ → Type 0
 HasNoName v session = (p : ℕ) → slice_get v.seats session ≢ Some (Named p)
+
+-- a client has this session, without a name or with one
+abbrev pub SomebodyHas : Guests → ℕ → Type 0
+SomebodyHas v session = (slice_get v.seats session ≡ Some Nameless) ⊎ ((p : ℕ) × (slice_get v.seats session ≡ Some (Named p)))
 
 -- the client of this name stands at this place
 pub record IsAt (v : Guests) (name : List ℕ) (p : ℕ) (g : Guest) : Type 0 where

@@ -6,7 +6,7 @@ ghost use Rattle.guest_core.specs.declared.guest.Guest.{Guest as AGuest};
 ghost use Rattle.guest_core.specs.declared.keys.Judged.TheVariants.{BadKey as IsBadKey};
 ghost use Rattle.guest_core.specs.declared.seats.Seat.TheVariants.{Free as AFree, Nameless as ANameless};
 ghost use Rattle.guest_core.specs.Entering.{Enters, Admits, Leaves};
-ghost use Rattle.guest_core.specs.Guests.{IsNamed, HasNoName, IsAt, IsUnknown, with_keys, with_seat};
+ghost use Rattle.guest_core.specs.Guests.{IsNamed, HasNoName, IsAt, IsUnknown, SomebodyHas, with_keys, with_seat};
 ghost use Rattle.guest_core.specs.Guests.{with_guest, with_other, guest_of};
 ghost use Rattle.guest_core.specs.Keys.{Keys as AKeys, asks, Asks, Ends, Judges, withdrawn};
 ghost use Rattle.guest_core.specs.Seats.{free_seats, IsLeastFree, NoneIsFree, renewed};
@@ -455,6 +455,17 @@ impl Guests {
         ensures { result.now ≡ self.now.guests }
     {
         self.roll.guests()
+    }
+
+    /// Whether a client has this session, without a name or with one.
+    pub fn has(&self, session: u16) -> bool
+        ensures yes { result ≡ true → SomebodyHas self.now session }
+        ensures no { result ≡ false → SomebodyHas self.now session → ⊥ }
+    {
+        match self.seats.place(session) {
+            Some(_) => true,
+            None => self.seats.is_nameless(session),
+        }
     }
 
     /// The client of a session that has a name.

@@ -14,6 +14,7 @@ use Rattle.keep_loop.specs.Epochs.{rules_of, front_in, before_in, since_in, Agre
 use Rattle.keep_loop.specs.Stands.{Survives}
 use Rattle.told_core.specs.Custody.{Custody, held_lines, held_lines_in}
 use Rattle.table_core.specs.Moves.{Gives, Fronts}
+use Rattle.table_core.specs.Seen.{seen}
 use Rattle.table_core.specs.declared.table.Table.{Table}
 use Rattle.kept_law.specs.Kept.{Stood, LeavesAnswered}
 use Rattle.kept_law.proofs.Empty.{no_bytes, front_change, since_change}
@@ -73,7 +74,7 @@ module _ (first last : Table) (j : ℕ) (o : ObjectForm) (rules : RulesForm) (pa
         over = held.over;
         holds = held.holds;
         front = at.front;
-        text_is = at.told ∙ ap (λ (x : Option Scene). at.front ++ held_lines_in last.custody j x) stood.there
+        text_is = at.told ∙ ap (λ (x : Option Scene). at.front ++ held_lines_in (seen last).custody j x) stood.there
             ∙ ap (λ (x : Option Custody). at.front ++ held_lines (object_of stood.scene.hall.object) x) held.holds.there
             ∙ ap (λ (x : ObjectForm). at.front ++ held_text x held.holds.custody.rules.holds held.holds.custody.held) stood.stands.object
             ∙ ap (λ (x : RulesForm). at.front ++ held_text o x.holds held.holds.custody.held) held.holds.rules_are;

@@ -29,6 +29,7 @@ use Rattle.written_law.specs.Told.{heard_of}
 use Rattle.written_law.proofs.Beginning.{followed_stands}
 use Rattle.post_core.specs.Turns.{added_by}
 use Rattle.told_core.specs.Custody.{Custody, Custodies, held_lines, held_lines_in}
+use Rattle.table_core.specs.Seen.{seen}
 use Rattle.kept_law.proofs.Going.{set_at, runs_are_steps}
 use Rattle.hold_law.specs.Ended.{ends_of}
 use Rattle.hold_law.specs.Played.{IsNumbered, PlayedIsHeld, NextLeavesHeld, StartLeavesHeld}
@@ -152,10 +153,10 @@ next_leaves_held before after last j o rules past text found since gives runs no
     let f = front_of was (next_epoch was) w.runs (next_base was) in
     let same : was ≡ s.scene = same_Some was s.scene (sym begins.there ∙ s.there) in
     let object : object_of was.hall.object ≡ o = ap (λ (x : Scene). object_of x.hall.object) same ∙ s.stands.object in
-    let held : slice_get after.custody j ≡ Some h.custody = ap (λ (c : Custodies). slice_get c j) gives.2.custody ∙ h.there in
+    let held : slice_get (seen after).custody j ≡ Some h.custody = ap (λ (c : Custodies). slice_get c j) gives.2.custody ∙ h.there in
     let there : slice_get after.objects.items j ≡ Some now = ap (λ (l : List Scene). slice_get l j) begins.left ∙ set_at before.objects.items j now was begins.there in
     let lines : text ≡ front_text o f ++ held_text o rules.holds h.custody.held =
-    gives.2.fronts.told ∙ ap (λ (x : Option Scene). bare ++ held_lines_in before.custody j x) begins.there
+    gives.2.fronts.told ∙ ap (λ (x : Option Scene). bare ++ held_lines_in (seen before).custody j x) begins.there
     ∙ ap (λ (x : Option Custody). bare ++ held_lines (object_of was.hall.object) x) h.there
     ∙ ap (λ (x : List ℕ). x ++ held_text (object_of was.hall.object) h.custody.rules.holds h.custody.held) w.added
     ∙ ap (λ (x : ObjectForm). front_text x f ++ held_text x h.custody.rules.holds h.custody.held) object

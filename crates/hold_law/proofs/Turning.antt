@@ -40,16 +40,16 @@ record Passed (old new : Table) (j : ℕ) (s : Scene) (steps : List Step) : Type
   scene : Scene
   there : slice_get new.objects.items j ≡ Some scene
   lines : List ℕ
-  passes : Passes s (slice_get old.custody j) lines scene (slice_get new.custody j)
+  passes : Passes s (slice_get (seen old).custody j) lines scene (slice_get (seen new).custody j)
   same : steps ≡ happened_by passes
 
 passed_says : (old new : Table) (added : Texts) (a : Account) (j : ℕ) (o : ObjectForm) (s : Stood old j o) → AllWent old.objects.items added a new.objects.items →
     PassesAt (seen old) j s.scene added (seen new) → Passed old new j s.scene (a j)
 passed_says old new added a j o s went p =
     let all = went.each j s.scene p.scene s.there p.there in
-    let by : Passes s.scene (slice_get old.custody j) (to j added) p.scene (slice_get new.custody j) =
-    subst (λ (l : List ℕ). Passes s.scene (slice_get old.custody j) l p.scene (slice_get new.custody j)) (sym p.lines_are)
-    (subst (λ (c : Option Custody). Passes s.scene (slice_get old.custody j) p.lines p.scene c) (sym p.held_is) p.passes) in
+    let by : Passes s.scene (slice_get (seen old).custody j) (to j added) p.scene (slice_get (seen new).custody j) =
+    subst (λ (l : List ℕ). Passes s.scene (slice_get (seen old).custody j) l p.scene (slice_get (seen new).custody j)) (sym p.lines_are)
+    (subst (λ (c : Option Custody). Passes s.scene (slice_get (seen old).custody j) p.lines p.scene c) (sym p.held_is) p.passes) in
     record {
       scene = p.scene;
       there = p.there;
@@ -59,19 +59,19 @@ passed_says old new added a j o s went p =
     }
 
 -- what is held behind a turn
-held_by : (new : Table) (j : ℕ) (rules : RulesForm) (past : List Happened) → HeldNow rules (slice_get new.custody j) past → HoldsBy new j rules past
+held_by : (new : Table) (j : ℕ) (rules : RulesForm) (past : List Happened) → HeldNow rules (slice_get (seen new).custody j) past → HoldsBy new j rules past
 held_by new j rules past h = record { custody = h.custody; there = h.there; rules_are = h.rules_are; are = h.are }
 
-held_now : (old : Table) (j : ℕ) (rules : RulesForm) (past : List Happened) → HoldsBy old j rules past → HeldNow rules (slice_get old.custody j) past
+held_now : (old : Table) (j : ℕ) (rules : RulesForm) (past : List Happened) → HoldsBy old j rules past → HeldNow rules (slice_get (seen old).custody j) past
 held_now old j rules past h = record { custody = h.custody; there = h.there; rules_are = h.rules_are; are = h.are }
 
 passed_hold : (old new : Table) (j : ℕ) (rules : RulesForm) (s : Scene) (steps : List Step) (past : List Happened) → Passed old new j s steps → HoldsBy old j rules past → HoldsBy new j rules (ends_of s steps ++ past)
 passed_hold old new j rules s steps past p h =
     held_by new j rules (ends_of s steps ++ past)
-    (subst (λ (l : List Step). HeldNow rules (slice_get new.custody j) (ends_of s l ++ past)) (sym p.same)
-    (passes_hold rules s p.scene (slice_get old.custody j) (slice_get new.custody j) p.lines past p.passes (held_now old j rules past h)))
+    (subst (λ (l : List Step). HeldNow rules (slice_get (seen new).custody j) (ends_of s l ++ past)) (sym p.same)
+    (passes_hold rules s p.scene (slice_get (seen old).custody j) (slice_get (seen new).custody j) p.lines past p.passes (held_now old j rules past h)))
 
-still_hold : (old new : Table) (j : ℕ) (rules : RulesForm) (s : Scene) (steps : List Step) (past : List Happened) → slice_get new.custody j ≡ slice_get old.custody j → steps ≡ [] → HoldsBy old j rules past →
+still_hold : (old new : Table) (j : ℕ) (rules : RulesForm) (s : Scene) (steps : List Step) (past : List Happened) → slice_get (seen new).custody j ≡ slice_get (seen old).custody j → steps ≡ [] → HoldsBy old j rules past →
     HoldsBy new j rules (ends_of s steps ++ past)
 still_hold old new j rules s steps past same none h =
     subst (λ (l : List Step). HoldsBy new j rules (ends_of s l ++ past)) (sym none)
@@ -112,7 +112,7 @@ turns_hold first last (t ∷ turns) (a ∷ accounts) j o rules past (mid, gives,
 
 -- what is kept behind a turn
 
-kept_now : (old : Table) (j : ℕ) (o : ObjectForm) (rules : RulesForm) (past : List Happened) (s : Stood old j o) → KeepsAt old j rules past → KeptNow rules s.scene (slice_get old.custody j) past
+kept_now : (old : Table) (j : ℕ) (o : ObjectForm) (rules : RulesForm) (past : List Happened) (s : Stood old j o) → KeepsAt old j rules past → KeptNow rules s.scene (slice_get (seen old).custody j) past
 kept_now old j o rules past s k = record {
   told = told_by s.begun s.heard.steps;
   is = s.stands.held;
@@ -125,14 +125,14 @@ kept_now old j o rules past s k = record {
 passed_keep : (old new : Table) (j : ℕ) (o : ObjectForm) (rules : RulesForm) (s : Stood old j o) (steps : List Step) (past : List Happened) → AreApart rules → Passed old new j s.scene steps →
     KeepsAt old j rules past → KeepsAt new j rules (ends_of s.scene steps ++ past)
 passed_keep old new j o rules s steps past apart p k =
-    let now : KeptNow rules p.scene (slice_get new.custody j) (ends_of s.scene steps ++ past) =
-    subst (λ (l : List Step). KeptNow rules p.scene (slice_get new.custody j) (ends_of s.scene l ++ past)) (sym p.same)
-    (passes_keep rules apart s.scene p.scene (slice_get old.custody j) (slice_get new.custody j) p.lines past p.passes (kept_now old j o rules past s k)) in
+    let now : KeptNow rules p.scene (slice_get (seen new).custody j) (ends_of s.scene steps ++ past) =
+    subst (λ (l : List Step). KeptNow rules p.scene (slice_get (seen new).custody j) (ends_of s.scene l ++ past)) (sym p.same)
+    (passes_keep rules apart s.scene p.scene (slice_get (seen old).custody j) (slice_get (seen new).custody j) p.lines past p.passes (kept_now old j o rules past s k)) in
     record { scene = p.scene; at = p.there; custody = now.custody; there = now.there; rules_are = now.rules_are; keeps = now.keeps }
 
 -- where nothing happens to it, and calls that wait are numbered anew or not
 still_keep : (old new : Table) (j : ℕ) (rules : RulesForm) (s scene : Scene) (steps : List Step) (past : List Happened) (k : KeepsAt old j rules past) → slice_get new.objects.items j ≡ Some scene →
-    slice_get new.custody j ≡ slice_get old.custody j → steps ≡ [] → Keeps rules.holds scene.hall.waiting past k.custody.held → KeepsAt new j rules (ends_of s steps ++ past)
+    slice_get (seen new).custody j ≡ slice_get (seen old).custody j → steps ≡ [] → Keeps rules.holds scene.hall.waiting past k.custody.held → KeepsAt new j rules (ends_of s steps ++ past)
 still_keep old new j rules s scene steps past k there same none keeps =
     subst (λ (l : List Step). KeepsAt new j rules (ends_of s l ++ past)) (sym none)
     (record { scene = scene; at = there; custody = k.custody; there = same ∙ k.there; rules_are = k.rules_are; keeps = keeps })
@@ -161,7 +161,7 @@ turn_keeps old new (Changes journal front true) said added a j o rules past s ap
     begins : Begins old.objects.items journal gives.2.fronts.front new.objects.items
     begins = gives.2.begins
 
-    held : slice_get new.custody j ≡ slice_get old.custody j
+    held : slice_get (seen new).custody j ≡ slice_get (seen old).custody j
     held = ap (λ (c : Custodies). slice_get c j) gives.2.custody
 
     by : (b : Bool) → (journal == j) ≡ b → KeepsAt new j rules (ends_of s.scene (a j) ++ past)

@@ -25,7 +25,7 @@ ends_of s (named session client ∷ steps) = ends_of s steps
 -- What is held of the object at a place, by these rules, is what just these calls have left that ended.
 pub record HoldsBy (t : Table) (j : ℕ) (rules : RulesForm) (past : List Happened) : Type 0 where
   pub custody : Custody
-  pub there : slice_get t.custody j ≡ Some custody
+  pub there : slice_get (seen t).custody j ≡ Some custody
   pub rules_are : custody.rules ≡ rules
   pub are : AreHeld rules.holds past custody.held
 

@@ -13,6 +13,7 @@ use Rattle.hosted_core.specs.Scene.{Scene}
 use Rattle.post_core.specs.Turns.{Turn}
 use Rattle.told_core.specs.Custody.{Custody}
 use Rattle.said_law.specs.Said.{Account}
+use Rattle.table_core.specs.Seen.{seen}
 use Rattle.table_core.specs.declared.table.Table.{Table}
 use Rattle.kept_law.specs.Kept.{Stood}
 use Rattle.hold_law.specs.Ended.{HoldsBy, EndsOver}
@@ -40,7 +41,7 @@ pub record KeepsAt (t : Table) (j : ℕ) (rules : RulesForm) (past : List Happen
   pub scene : Scene
   pub at : slice_get t.objects.items j ≡ Some scene
   pub custody : Custody
-  pub there : slice_get t.custody j ≡ Some custody
+  pub there : slice_get (seen t).custody j ≡ Some custody
   pub rules_are : custody.rules ≡ rules
   pub keeps : Keeps rules.holds scene.hall.waiting past custody.held
 

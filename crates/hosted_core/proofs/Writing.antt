@@ -1,23 +1,24 @@
 -- The lines of a front, one more.
-use Rattle.std.proofs.Common.{◌≡◌, ℕ, ◌+◌, ◌-◌, ◌<◌, List, [], ◌∷◌, ◌++◌, length, map, take, get_or, refl, sym, ap, ◌∙◌, append_assoc}
-use Rattle.std.specs.Prelude.{codes}
+use Rattle.std.proofs.Common.{◌≡◌, ℕ, ◌+◌, ◌-◌, ◌<◌, List, [], ◌∷◌, ◌++◌, length, map, take, get_or, refl, sym, ap, subst, ◌∙◌, append_assoc}
+use Rattle.std.specs.Prelude.{All, codes}
+use Rattle.value_core.specs.Contents.{IsContents}
 use Rattle.std.proofs.lemmas.List.{take_more, append-nil}
 use Rattle.decl_core.specs.ObjectForm.{ObjectForm}
 use Rattle.decl_core.specs.ObjectMap.{object_of}
 use Rattle.word_core.specs.Words.{Word, bare, line_of}
 use Rattle.trace_core.specs.Events.{Called}
 use Rattle.trace_core.specs.Text.{lines_of, parts_words}
-use Rattle.past_core.specs.declared.past.PastEvent.{PastEvent}
 use Rattle.front_core.specs.declared.front.KeptCall.{KeptCall}
 use Rattle.front_core.specs.declared.past.PastRun.{PastRun}
-use Rattle.front_core.specs.Past.{events_in}
+use Rattle.front_core.specs.Front.{Every, IsLong}
 use Rattle.front_core.specs.Text.{rows, carried_words, client_words, kept_words, runs_text, carried_text, clients_text, kept_text}
 use Rattle.front_core.specs.Text.{object_words, source_words, base_words, calls_text, behind_parts}
 use Rattle.guest_core.specs.declared.guest.Guest.{Guest}
 use Rattle.guest_core.specs.declared.kept.Kept.{Kept}
 use Rattle.hosted_core.specs.Scene.{Scene}
 use Rattle.hosted_core.specs.Fronts.{carried_as, carried_from, client_of, kept_as, kept_below, kept_of, front_of}
-use Rattle.hosted_core.specs.Fronts.{TellsCalls, TellsPast, TellsFront}
+use Rattle.hosted_core.specs.Fits.{GuestFits}
+use Rattle.hosted_core.specs.Fronts.{TellsCalls, TellsPast, TellsRuns}
 
 text_append : {X : Type 0} (verb : List ℕ) (words : X → List Word) (xs ys : List X) → lines_of (rows verb words (xs ++ ys)) ≡ lines_of (rows verb words xs) ++ lines_of (rows verb words ys)
 text_append verb words [] ys = refl
@@ -87,27 +88,39 @@ calls_told s out one two three first second third =
     behind_two out one three a (b ++ c) (a ++ (b ++ c)) first (behind_two one two three b c (b ++ c) second third refl) refl
 
 -- those from the past on
-pub past_told : (s : Scene) (past : List PastEvent) (base : ℕ) (runs : List PastRun) (out one two three : List ℕ) → events_in runs ≡ past → one ≡ out ++ runs_text (object_of s.hall.object) runs →
-    two ≡ one ++ line_of (base_words base) → TellsCalls s two three → TellsPast s past base out three
-past_told s past base runs out one two three events first second third =
+pub past_told : (s : Scene) (base : ℕ) (runs : List PastRun) (out one two three : List ℕ) → one ≡ out ++ runs_text (object_of s.hall.object) runs →
+    two ≡ one ++ line_of (base_words base) → TellsCalls s two three → Every GuestFits s.guests.guests → TellsPast s runs base out three
+past_told s base runs out one two three first second third guests =
     let o = object_of s.hall.object in
     let a = runs_text o runs in
     let b = line_of (base_words base) in
     let c = calls_text o (front_of s 0 [] 0) in
-    record { runs = runs; events = events; added = behind_two out one three a (b ++ c) (a ++ (b ++ c)) first (behind_two one two three b c (b ++ c) second third refl) refl }
+    record { guests = guests; added = behind_two out one three a (b ++ c) (a ++ (b ++ c)) first (behind_two one two three b c (b ++ c) second third refl) refl }
 
 -- all of them
-pub front_told : (s : Scene) (epoch : ℕ) (past : List PastEvent) (base : ℕ) (out one two three four : List ℕ) → one ≡ out ++ line_of (object_words (object_of s.hall.object).name epoch) → two ≡ one ++ line_of (source_words s.source) →
-    three ≡ two ++ lines_of (parts_words (object_of s.hall.object).parts s.hall.contents) → TellsPast s past base three four → TellsFront s epoch past base out four
-front_told s epoch past base out one two three four first second third told =
+pub front_told : (s : Scene) (epoch : ℕ) (runs : List PastRun) (base : ℕ) (out one two three four : List ℕ) → one ≡ out ++ line_of (object_words (object_of s.hall.object).name epoch) → two ≡ one ++ line_of (source_words s.source) →
+    three ≡ two ++ lines_of (parts_words (object_of s.hall.object).parts s.hall.contents) → TellsPast s runs base three four → IsLong s.source →
+    All IsContents s.hall.contents → TellsRuns s epoch runs base out four
+front_told s epoch runs base out one two three four first second third told source contents =
     let o = object_of s.hall.object in
     let a = line_of (object_words o.name epoch) in
     let b = line_of (source_words s.source) in
     let c = lines_of (parts_words o.parts s.hall.contents) in
-    let d = behind_parts o (front_of s 0 told.runs base) in
+    let d = behind_parts o (front_of s 0 runs base) in
     let last = behind_two two three four c d (c ++ d) third told.added refl in
     record {
-      runs = told.runs;
-      events = told.events;
+      source = source;
+      contents = contents;
+      guests = told.guests;
       added = behind_two out one four a (b ++ (c ++ d)) (a ++ (b ++ (c ++ d))) first (behind_two one two four b (c ++ d) (b ++ (c ++ d)) second last refl) refl;
     }
+
+every_push : {X : Type 0} (P : X → Type 0) (xs : List X) (x : X) → Every P xs → P x → Every P (xs ++ x ∷ [])
+every_push P [] x all is = (is, tt)
+every_push P (y ∷ xs) x all is = (all.0, every_push P xs x all.1 is)
+
+-- it holds of one more
+pub every_more : {X : Type 0} (P : X → Type 0) (all : List X) (i : ℕ) (d x : X) → i < length all → x ≡ get_or all i d → Every P (take i all) → P x → Every P (take (i + 1) all)
+every_more P all i d x inside is was more =
+    let to : take (i + 1) all ≡ take i all ++ x ∷ [] = take_more all i d inside ∙ ap (λ y. take i all ++ y ∷ []) (sym is) in
+    subst (λ l. Every P l) (sym to) (every_push P (take i all) x was more)

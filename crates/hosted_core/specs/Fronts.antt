@@ -1,5 +1,5 @@
 -- The front that stands for an object.
-use Rattle.std.specs.Prelude.{◌≡◌, ℕ, ◌+◌, ◌-◌, List, [], ◌∷◌, ◌++◌, Option, Some, None, length, map}
+use Rattle.std.specs.Prelude.{◌≡◌, ℕ, ◌+◌, ◌-◌, List, [], ◌∷◌, ◌++◌, All, Option, Some, None, length, map}
 use Rattle.std.specs.List.{flat_map}
 use Rattle.apply_core.specs.declared.reply.Reply.{Reply}
 use Rattle.decl_core.specs.ObjectMap.{object_of}
@@ -12,11 +12,13 @@ use Rattle.front_core.specs.declared.front.Answer.TheVariants.{Replied, Cancelle
 use Rattle.front_core.specs.declared.front.CarriedCall.{CarriedCall}
 use Rattle.front_core.specs.declared.front.Client.{Client}
 use Rattle.front_core.specs.declared.front.KeptCall.{KeptCall}
-use Rattle.front_core.specs.Front.{Opening}
+use Rattle.value_core.specs.Contents.{IsContents}
+use Rattle.front_core.specs.Front.{Every, IsLong, Opening}
 use Rattle.front_core.specs.Past.{events_in}
 use Rattle.front_core.specs.Text.{calls_text, behind_parts, front_text}
 use Rattle.guest_core.specs.declared.guest.Guest.{Guest}
 use Rattle.guest_core.specs.declared.kept.Kept.{Kept}
+use Rattle.hosted_core.specs.Fits.{GuestFits, RunFits}
 use Rattle.hosted_core.specs.Scene.{Scene, told_of, next_epoch, next_base}
 
 -- a call that waits, which gets this number, and keeps the number that was told of it
@@ -84,16 +86,26 @@ abbrev pub TellsCalls : Scene → List ℕ → List ℕ → Type 0
 TellsCalls s before after = after ≡ before ++ calls_text (object_of s.hall.object) (front_of s 0 [] 0)
 
 -- from those of the past on
-pub record TellsPast (s : Scene) (past : List PastEvent) (base : ℕ) (before after : List ℕ) : Type 0 where
-  pub runs : List PastRun
-  pub events : events_in runs ≡ past
+pub record TellsPast (s : Scene) (runs : List PastRun) (base : ℕ) (before after : List ℕ) : Type 0 where
   pub added : after ≡ before ++ behind_parts (object_of s.hall.object) (front_of s 0 runs base)
+  pub guests : Every GuestFits s.guests.guests
 
--- the lines of such a front, behind a past of these events, are added
+-- the lines of such a front, behind a past that is told so, are added
+pub record TellsRuns (s : Scene) (epoch : ℕ) (runs : List PastRun) (base : ℕ) (before after : List ℕ) : Type 0 where
+  pub added : after ≡ before ++ front_text (object_of s.hall.object) (front_of s epoch runs base)
+  pub source : IsLong s.source
+  pub contents : All IsContents s.hall.contents
+  pub guests : Every GuestFits s.guests.guests
+
+-- So they are behind a past of these events; and what the lines tell of is in its limits, as the types of the program say it.
 pub record TellsFront (s : Scene) (epoch : ℕ) (past : List PastEvent) (base : ℕ) (before after : List ℕ) : Type 0 where
   pub runs : List PastRun
   pub events : events_in runs ≡ past
   pub added : after ≡ before ++ front_text (object_of s.hall.object) (front_of s epoch runs base)
+  pub source : IsLong s.source
+  pub contents : All IsContents s.hall.contents
+  pub runs_fit : Every (RunFits (length (object_of s.hall.object).operations)) runs
+  pub guests : Every GuestFits s.guests.guests
 
 -- a past leaves what the paths of an object have counted
 abbrev pub IsPastOf : Scene → List PastEvent → Type 0

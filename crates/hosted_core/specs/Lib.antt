@@ -1,5 +1,6 @@
 pub mod Again
 pub mod Calls
+pub mod Fits
 pub mod Fronts
 pub mod Keys
 pub mod Lines

@@ -8,13 +8,18 @@ ghost use Rattle.trace_core.specs.Events.{Called};
 ghost use Rattle.front_core.specs.Text.{carried_words, client_words, kept_words, carried_text, clients_text, kept_text};
 ghost use Rattle.guest_core.specs.Seats.{renewed};
 ghost use Rattle.hosted_core.specs.Fronts.{carried_as, carried_from, client_of, kept_as, kept_below, kept_of};
-ghost use Rattle.hosted_core.specs.Fronts.{TellsCalls, TellsPast, TellsFront, IsPastOf, AddsFirst, IsNextBehind, IsNextFront};
+ghost use Rattle.hosted_core.specs.Fronts.{TellsCalls, TellsPast, TellsRuns, TellsFront, IsPastOf, AddsFirst, IsNextBehind, IsNextFront};
+ghost use Rattle.front_core.specs.Front.{Every, IsLong};
+ghost use Rattle.front_core.specs.Past.{events_in};
+ghost use Rattle.hosted_core.specs.Fits.{CallFits, GuestFits, RunFits};
 ghost use Rattle.hosted_core.specs.Scene.{told_of, next_base, next_epoch};
 ghost use Rattle.hosted_core.specs.Steps.{IsFollowed, BeginsBy};
 
+use crate::data::{are_contents, are_data, is_data};
 use crate::hosted::Hosted;
+use crate::runs::are_runs;
 use decl_core::object::Object;
-use front_core::past::runs_of;
+use front_core::past::{PastRun, runs_of};
 use front_core::write::{
     push_base, push_carried, push_client, push_kept, push_object, push_parts, push_past,
     push_source,
@@ -37,10 +42,12 @@ fn push_kept_call(
     key: u64,
     call: &Kept,
 ) -> Result<(), AllocError>
-    ensures { OnOk result (out.new.items ≡ out.old.items
+    ensures added { OnOk result (out.new.items ≡ out.old.items
         ++ line_of (bare (codes "kept") ∷ kept_words (object_of object.now) (kept_as session key call.now))) }
+    ensures fits { OnOk result (CallFits call.now) }
 {
     let arguments = call.asked().arguments().list(alloc)?;
+    are_data(&arguments);
     let operation = call.asked().operation();
     let session = u32::from(session);
     match call.reply() {
@@ -54,16 +61,19 @@ fn push_kept_call(
             operation,
             &arguments,
         ),
-        Some(reply) => push_kept(
-            out,
-            object,
-            session,
-            key,
-            call.told(),
-            Some(&reply),
-            operation,
-            &arguments,
-        ),
+        Some(reply) => {
+            is_data(&reply);
+            push_kept(
+                out,
+                object,
+                session,
+                key,
+                call.told(),
+                Some(&reply),
+                operation,
+                &arguments,
+            )
+        }
     }
 }
 
@@ -77,15 +87,17 @@ fn push_kept_below(
     next: u64,
     kept: &[Kept],
 ) -> Result<(), AllocError>
-    ensures { OnOk result (out.new.items ≡ out.old.items
+    ensures added { OnOk result (out.new.items ≡ out.old.items
         ++ kept_text (object_of object.now) (kept_below session next kept.now)) }
+    ensures fits { OnOk result (Every CallFits kept.now) }
 {
     match kept {
         [] => Ok(()),
         [newest, others @ ..] => {
             let key = next.saturating_sub(1);
             push_kept_below(alloc, out, object, session, key, others)?;
-            push_kept_call(alloc, out, object, session, key, newest)
+            push_kept_call(alloc, out, object, session, key, newest)?;
+            Ok(())
         }
     }
 }
@@ -97,9 +109,12 @@ fn push_kept_of(
     object: &Object,
     guest: &Guest,
 ) -> Result<(), AllocError>
-    ensures { OnOk result (out.new.items ≡ out.old.items
+    ensures added { OnOk result (out.new.items ≡ out.old.items
         ++ kept_text (object_of object.now) (kept_of (guest.now ∷ []))) }
+    ensures fits { OnOk result (GuestFits guest.now) }
 {
+    // Called for its contract alone: it is a name.
+    guest.name().as_bytes();
     let keys = guest.keys();
     push_kept_below(
         alloc,
@@ -108,7 +123,8 @@ fn push_kept_of(
         guest.session(),
         keys.next(),
         keys.kept(),
-    )
+    )?;
+    Ok(())
 }
 
 // Adds the lines of the calls that are remembered of all clients.
@@ -118,7 +134,8 @@ fn push_all_kept(
     object: &Object,
     guests: &[Guest],
 ) -> Result<(), AllocError>
-    ensures { OnOk result (out.new.items ≡ out.old.items ++ kept_text (object_of object.now) (kept_of guests.now)) }
+    ensures added { OnOk result (out.new.items ≡ out.old.items ++ kept_text (object_of object.now) (kept_of guests.now)) }
+    ensures fit { OnOk result (Every GuestFits guests.now) }
 {
     for guest in guests {
         push_kept_of(alloc, out, object, guest)?;
@@ -216,7 +233,8 @@ impl Hosted {
     // Adds the lines of a front behind that of the base.
     fn push_behind_base(&self, out: &mut Vec<u8>) -> Result<(), AllocError>
         requires few { length self.now.hall.waiting ≤ 65536 }
-        ensures { OnOk result (TellsCalls self.now out.old.items out.new.items) }
+        ensures tells { OnOk result (TellsCalls self.now out.old.items out.new.items) }
+        ensures fit { OnOk result (Every GuestFits self.now.guests.guests) }
     {
         self.push_calls(out, self.live.waiting())?;
         push_clients(out, self.guests.guests())?;
@@ -228,36 +246,76 @@ impl Hosted {
     fn push_behind_parts(
         &self,
         out: &mut Vec<u8>,
-        past: &[PastEvent],
+        runs: &[PastRun],
         base: u64,
     ) -> Result<(), AllocError>
         requires few { length self.now.hall.waiting ≤ 65536 }
-        ensures { OnOk result (TellsPast self.now past.now base out.old.items out.new.items) }
+        ensures { OnOk result (TellsPast self.now runs.now base out.old.items out.new.items) }
     {
-        let runs = runs_of(self.alloc, past)?;
-        push_past(out, self.live.object(), &runs)?;
+        push_past(out, self.live.object(), runs)?;
         push_base(out, base)?;
         self.push_behind_base(out)?;
         Ok(())
     }
 
-    // Adds the lines of the front of an epoch, behind this past.
+    // Adds the lines of the front of an epoch, behind a past that is told so.
+    fn push_runs(
+        &self,
+        out: &mut Vec<u8>,
+        epoch: u64,
+        runs: &[PastRun],
+        base: u64,
+    ) -> Result<(), AllocError>
+        requires few { length self.now.hall.waiting ≤ 65536 }
+        ensures { OnOk result (TellsRuns self.now epoch runs.now base out.old.items out.new.items) }
+    {
+        let object = self.live.object();
+        are_contents(self.live.contents());
+        push_object(out, object, epoch)?;
+        push_source(self.alloc, out, self.source())?;
+        push_parts(self.alloc, out, &object.parts, self.live.contents())?;
+        self.push_behind_parts(out, runs, base)?;
+        Ok(())
+    }
+
+    // What the declaration of the object gives, in 64 bits.
+    fn source(&self) -> u64
+        ensures source { result ≡ self.now.source }
+        ensures long { IsLong self.now.source }
+    {
+        self.source
+    }
+
+    // How a past is told, where each line of that says something by itself.
+    fn runs_for(&self, past: &[PastEvent]) -> Result<Option<Vec<PastRun>>, AllocError>
+        ensures events { IfOk result (λ found. IfSome found (λ runs. events_in runs.items ≡ past.now)) }
+        ensures fit { IfOk result (λ found. IfSome found (λ runs.
+            Every (RunFits (length (object_of self.now.hall.object).operations)) runs.items)) }
+    {
+        let runs = runs_of(self.alloc, past)?;
+        if !are_runs(&runs, self.live.object().operations.len()) {
+            return Ok(None);
+        }
+        Ok(Some(runs))
+    }
+
+    // Adds the lines of the front of an epoch, behind this past. False: a line of the past would say nothing by itself; then
+    // nothing is added.
     fn push_front(
         &self,
         out: &mut Vec<u8>,
         epoch: u64,
         past: &[PastEvent],
         base: u64,
-    ) -> Result<(), AllocError>
+    ) -> Result<bool, AllocError>
         requires few { length self.now.hall.waiting ≤ 65536 }
-        ensures { OnOk result (TellsFront self.now epoch past.now base out.old.items out.new.items) }
+        ensures { IfOk result (λ yes. IsTrue yes → TellsFront self.now epoch past.now base out.old.items out.new.items) }
     {
-        let object = self.live.object();
-        push_object(out, object, epoch)?;
-        push_source(self.alloc, out, self.source)?;
-        push_parts(self.alloc, out, &object.parts, self.live.contents())?;
-        self.push_behind_parts(out, past, base)?;
-        Ok(())
+        let Some(runs) = self.runs_for(past)? else {
+            return Ok(false);
+        };
+        self.push_runs(out, epoch, &runs, base)?;
+        Ok(true)
     }
 
     // What is added to numbers in the next epoch: the first number that is given there is told as the next one.
@@ -321,7 +379,9 @@ impl Hosted {
         if !self.is_past(&self.past)? || !self.has_numbers(self.past.len()) {
             return Ok(false);
         }
-        self.push_front(out, self.epoch, &self.past, self.base)?;
+        if !self.push_front(out, self.epoch, &self.past, self.base)? {
+            return Ok(false);
+        }
         Ok(true)
     }
 
@@ -338,7 +398,9 @@ impl Hosted {
         if !self.has_numbers(past.len()) {
             return Ok(false);
         }
-        self.push_front(front, self.next_epoch(), &past, self.next_base())?;
+        if !self.push_front(front, self.next_epoch(), &past, self.next_base())? {
+            return Ok(false);
+        }
         Ok(true)
     }
 
@@ -353,7 +415,9 @@ impl Hosted {
             return Ok(None);
         }
         let mut text = Vec::with_capacity(self.alloc, front.len())?;
-        self.push_front(&mut text, self.next_epoch(), &past, self.next_base())?;
+        if !self.push_front(&mut text, self.next_epoch(), &past, self.next_base())? {
+            return Ok(None);
+        }
         if !is_same_text(&text, front) {
             return Ok(None);
         }

@@ -11,5 +11,6 @@ mod data;
 pub mod epoch;
 pub mod event;
 pub mod hosted;
+mod runs;
 pub mod size;
 pub mod start;

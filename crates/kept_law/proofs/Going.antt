@@ -206,7 +206,7 @@ next_is_served first last j o earlier since front runs stood none =
       before = begins.before;
       after = begins.after;
       front = text.front;
-      told = text.told ∙ ap (λ (x : Option Scene). text.front ++ held_lines_in at.custody j x) begins.there
+      told = text.told ∙ ap (λ (x : Option Scene). text.front ++ held_lines_in (seen at).custody j x) begins.there
           ∙ ap (λ (c : Custodies). text.front ++ held_lines (object_of begins.before.hall.object) (slice_get c j)) (sym gave.2.custody);
       begun = begins.begun;
       served = record {
@@ -305,7 +305,7 @@ read_ahead : (last : Table) (j : ℕ) (o : ObjectForm) (front found : List ℕ) 
 read_ahead last j o front found s at none = record {
   stood = s;
   front = at.front;
-  told = at.told ∙ ap (λ (x : Option Scene). at.front ++ held_lines_in last.custody j x) s.there;
+  told = at.told ∙ ap (λ (x : Option Scene). at.front ++ held_lines_in (seen last).custody j x) s.there;
   written = subst (λ (x : Scene). IsNextFront x at.front) (same_Some at.stands.object s.scene (sym at.stands.there ∙ s.there)) at.stands.stands;
   nothing = none;
   recovered = λ h f bytes r b. nothing_played o (begun_by f) b.lines (record { steps = b.steps; running = None }) (no_lines b.lines b.rest (sym none ∙ b.cut)) b.played;

@@ -36,7 +36,7 @@ record Keeps (old_table new : Table) (j : ℕ) (f : Opening) (asked : Asked) (ad
   scene : Scene
   there : slice_get new.objects.items j ≡ Some scene
   events : List KeyEvent
-  names : NamesIn j (slice_get old_table.custody j) asked old told added (account j) scene events
+  names : NamesIn j (slice_get (seen old_table).custody j) asked old told added (account j) scene events
   keys : HaveKeys f events scene.guests
 
 module _ (old new : Table) (j : ℕ) (f : Opening) (h : Scene) (told : List KeyEvent) (there : slice_get old.objects.items j ≡ Some h) (keys : HaveKeys f told h.guests) where
@@ -76,9 +76,9 @@ module _ (old new : Table) (j : ℕ) (f : Opening) (h : Scene) (told : List KeyE
           let here : slice_get old.objects.items j ≡ Some held.begins.before = subst (λ n. slice_get old.objects.items n ≡ Some held.begins.before) at held.begins.there in
           let is : held.begins.before ≡ h = same_Some held.begins.before h (sym here ∙ there) in
           let next : BeginsBy h held.fronts.front held.begins.after = subst (λ (x : Scene). BeginsBy x held.fronts.front held.begins.after) is held.begins.begun in
-          let told_so : text ≡ held.fronts.front ++ held_lines (object_of h.hall.object) (slice_get old.custody j) =
-          subst (λ n. text ≡ held.fronts.front ++ held_lines_in old.custody n (slice_get old.objects.items n)) at held.fronts.told
-          ∙ ap (λ (x : Option Scene). held.fronts.front ++ held_lines_in old.custody j x) there in
+          let told_so : text ≡ held.fronts.front ++ held_lines (object_of h.hall.object) (slice_get (seen old).custody j) =
+          subst (λ n. text ≡ held.fronts.front ++ held_lines_in (seen old).custody n (slice_get old.objects.items n)) at held.fronts.told
+          ∙ ap (λ (x : Option Scene). held.fronts.front ++ held_lines_in (seen old).custody j x) there in
           record {
             scene = held.begins.after;
             there = ap (λ (l : List Scene). slice_get l j) held.begins.left ∙ ap (λ n. slice_get (slice_set old.objects.items n held.begins.after) j) at

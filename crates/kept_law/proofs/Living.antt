@@ -7,14 +7,17 @@ use Rattle.std.proofs.lemmas.Option.{same_Some, slice_get_within}
 use Rattle.path_tree.specs.Trace.{Event, running_calls}
 use Rattle.path_count.specs.Stands.{StandsFor}
 use Rattle.value_core.specs.Contents.{Contents}
+use Rattle.decl_core.specs.declared.object.Object.{Object}
 use Rattle.decl_core.specs.ObjectForm.{ObjectForm}
 use Rattle.decl_core.specs.ObjectMap.{object_of}
 use Rattle.apply_core.specs.History.{End}
 use Rattle.trace_core.specs.Events.{history_of}
 use Rattle.past_core.specs.Past.{events_of}
+use Rattle.live_core.specs.declared.call.Limits.{Limits}
 use Rattle.live_core.specs.Hall.{Told}
 use Rattle.front_core.specs.Text.{front_text}
 use Rattle.replay_core.specs.Steps.{Step, Begun, nothing_heard, told_by, happened_of}
+use Rattle.recover_core.specs.declared.recover.House.{House}
 use Rattle.recover_core.specs.Playing.{begun_by}
 use Rattle.hosted_core.specs.Fronts.{front_of}
 use Rattle.hosted_core.specs.Scene.{Scene, next_base, next_epoch}
@@ -24,7 +27,7 @@ use Rattle.written_law.specs.Told.{heard_of}
 use Rattle.written_law.proofs.Beginning.{followed_stands}
 use Rattle.written_law.proofs.Telling.{steps_are_told}
 use Rattle.year_law.specs.Read.{IsReadOf}
-use Rattle.year_law.specs.Year.{Epoch, IsEpoch, Follows, epoch_of, all_ends, first_opening}
+use Rattle.year_law.specs.Year.{AreEpochs, Epoch, IsEpoch, Follows, epoch_of, all_ends, first_opening}
 use Rattle.year_law.proofs.Reading.{read_is_epoch, epochs_up_to}
 use Rattle.year_law.proofs.Sound.{kept_is_epoch, begun_follows, epochs_are_sound}
 use Rattle.post_core.specs.Texts.{to}
@@ -41,7 +44,7 @@ use Rattle.said_law.proofs.Turning.{turns_say}
 use Rattle.table_core.specs.Moves.{Gives}
 use Rattle.table_core.specs.Seen.{seen}
 use Rattle.table_core.specs.declared.table.Table.{Table}
-use Rattle.kept_law.specs.Lived.{HasLived, epoch_in, StoodHasLived, IsBegunIn, TurnsLiveOn, ReadLivesOn, StartLivesOn, CrashLeavesOneHistory}
+use Rattle.kept_law.specs.Lived.{BeginsAt, HasLived, epoch_in, StoodHasLived, IsBegunIn, TurnsLiveOn, ReadLivesOn, StartLivesOn, CrashLeavesOneHistory}
 use Rattle.kept_law.specs.Kept.{LeavesAnswered}
 use Rattle.kept_law.specs.Replied.{AreTold, ends_in, Lives, TurnsHaveOneHistory}
 use Rattle.kept_law.proofs.Going.{get_at, set_at, set_other, crash_leaves_answered}
@@ -114,6 +117,24 @@ module _ (old new : Table) (j : ℕ) (o : ObjectForm) (b : Begun) (earlier : Lis
       Lives new j o (turn ∷ []) b (first_opening d earlier) (all_ends o d earlier) []
   lives_still turn none lines quiet same = lives_in turn none lines [] l.scene (same ∙ l.there) (subst (λ (x : List ℕ). Went l.scene x [] l.scene) (sym quiet) (rests, refl))
 
+  -- the epoch that it begins is one behind that
+  pub begun_epochs : (front : List ℕ) (s' : Scene) (by : BeginsBy l.scene front s') →
+      (n : ℕ) × AreEpochs o (epoch_of s'.hall (told_by (begun_by (front_of l.scene (next_epoch l.scene) by.written.runs (next_base l.scene))) []) n) (d ∷ earlier)
+  begun_epochs front s' by =
+      let s = l.scene in
+      let w = by.written in
+      let f = front_of s (next_epoch s) w.runs (next_base s) in
+      let stands = followed_stands o b l.heard s s' s'.past w.runs (next_epoch s) (next_base s) l.stands by.followed w.events in
+      let up = epochs_up_to o d earlier b.past refl l.epochs in
+      let now : Epoch = epoch_of s'.hall (told_by (begun_by f) []) up.0 in
+      let is : IsEpoch o now =
+      subst (λ x. IsEpoch x now) stands.object (kept_is_epoch s'.hall (told_by (begun_by f) []) up.0 stands.held.kept) in
+      let follows : Follows o d now =
+      subst (λ x. Follows x d now) l.stands.object
+      (begun_follows s.hall s'.hall (told_by b l.heard.steps) l.base now s'.past by.followed.begun (by.followed.held (told_by b l.heard.steps) l.stands.held).kept
+      (ap events_of w.events) refl) in
+      (up.0, (is, follows, up.1, l.epochs))
+
   -- where it begins the next one
   lives_changed : (front : List ℕ) (said added : Texts) → said ≡ [] → added ≡ [] → BeginsHeld (seen old) j front (seen new) → LivesBy (Changes j front true) said added []
   lives_changed front said added quiet nothing held =
@@ -126,22 +147,15 @@ module _ (old new : Table) (j : ℕ) (o : ObjectForm) (b : Begun) (earlier : Lis
       let w = by.written in
       let f = front_of s (next_epoch s) w.runs (next_base s) in
       let stands = followed_stands o b l.heard s s' s'.past w.runs (next_epoch s) (next_base s) l.stands by.followed w.events in
-      let up = epochs_up_to o d earlier b.past refl l.epochs in
-      let now : Epoch = epoch_of s'.hall (told_by (begun_by f) []) up.0 in
-      let is : IsEpoch o now =
-      subst (λ x. IsEpoch x now) stands.object (kept_is_epoch s'.hall (told_by (begun_by f) []) up.0 stands.held.kept) in
-      let follows : Follows o d now =
-      subst (λ x. Follows x d now) l.stands.object
-      (begun_follows s.hall s'.hall (told_by b l.heard.steps) l.base now s'.past by.followed.begun (by.followed.held (told_by b l.heard.steps) l.stands.held).kept
-      (ap events_of w.events) refl) in
-      let text : front ≡ front_text o f ++ held_lines o (slice_get old.custody j) =
-      held.fronts.told ∙ ap (λ (x : Option Scene). bare ++ held_lines_in old.custody j x) l.there
-      ∙ ap (λ (x : ObjectForm). bare ++ held_lines x (slice_get old.custody j)) l.stands.object
-      ∙ ap (λ (x : List ℕ). x ++ held_lines o (slice_get old.custody j)) (w.added ∙ ap (λ x. front_text x f) l.stands.object) in
+      let epochs = begun_epochs bare s' by in
+      let text : front ≡ front_text o f ++ held_lines o (slice_get (seen old).custody j) =
+      held.fronts.told ∙ ap (λ (x : Option Scene). bare ++ held_lines_in (seen old).custody j x) l.there
+      ∙ ap (λ (x : ObjectForm). bare ++ held_lines x (slice_get (seen old).custody j)) l.stands.object
+      ∙ ap (λ (x : List ℕ). x ++ held_lines o (slice_get (seen old).custody j)) (w.added ∙ ap (λ x. front_text x f) l.stands.object) in
       lived_on new j o (record { asked = Changes j front true; said = said; added = added } ∷ []) b (first_opening d earlier) (all_ends o d earlier) (begun_by f)
       (inr (record {
         front = f;
-        held = slice_get old.custody j;
+        held = slice_get (seen old).custody j;
         before = [];
         since = [];
         cut = ap (λ (x : Texts). record { asked = Changes j front true; said = x; added = added } ∷ []) quiet
@@ -154,8 +168,8 @@ module _ (old new : Table) (j : ℕ) (o : ObjectForm) (b : Begun) (earlier : Lis
         names = l.names;
         heard = nothing_heard;
         stands = stands;
-        base = up.0;
-        epochs = (is, follows, up.1, l.epochs);
+        base = epochs.0;
+        epochs = epochs.1;
       }) refl [] refl
 
   -- by what happened to it
@@ -259,8 +273,11 @@ read_lives_on t j o b earlier h f text came l began read =
     let are = epochs_grow o (epoch_in l) e earlier refl past opening (read_is_epoch o text came e is) l.epochs in
     (e, is, are, epochs_are_sound o e earlier are)
 
-pub start_lives_on : StartLivesOn
-start_lives_on t j object h lines limits b e earlier is are =
+-- the epoch that a start has begun is one behind that which was read
+pub start_epochs : (t : Table) (j : ℕ) (object : Object) (h : House) (lines : List ℕ) (limits : Limits) (b : BeginsAt t j object h lines limits) (e : Epoch) (earlier : List Epoch) →
+    IsReadOf (object_of object) lines b.begins.came e → AreEpochs (object_of object) e earlier →
+    (n : ℕ) × AreEpochs (object_of object) (epoch_of b.scene.hall (told_by (begun_by (front_of b.scene b.scene.epoch b.adds.tells.runs b.scene.base)) []) n) (e ∷ earlier)
+start_epochs t j object h lines limits b e earlier is are =
     let o = object_of object in
     let s = b.scene in
     let again = b.begins.again in
@@ -278,14 +295,19 @@ start_lives_on t j object h lines limits b e earlier is are =
       quiet = ap running_calls past ∙ again.counted.quiet;
       same = again.counted.same ∙ ap (λ c. c.words) (sym is.counters);
     } in
+    (up.0, (epoch, follows, up.1, are))
+
+pub start_lives_on : StartLivesOn
+start_lives_on t j object h lines limits b e earlier is are =
+    let epochs = start_epochs t j object h lines limits b e earlier is are in
     record {
-      scene = s;
+      scene = b.scene;
       there = b.there;
       names = b.names;
       heard = nothing_heard;
-      stands = stands;
-      base = up.0;
-      epochs = (epoch, follows, up.1, are);
+      stands = behind_stands object h lines limits b.scene b.before b.after b.begins b.adds b.few b.known;
+      base = epochs.0;
+      epochs = epochs.1;
     }
 
 pub crash_leaves_one_history : CrashLeavesOneHistory

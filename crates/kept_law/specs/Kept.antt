@@ -24,6 +24,7 @@ use Rattle.keep_loop.specs.Epochs.{rules_of, front_in, since_in, stored_since, B
 use Rattle.keep_loop.specs.Stands.{IsHonest, IsBetween, SurvivesSince}
 use Rattle.told_core.specs.Custody.{held_lines}
 use Rattle.table_core.specs.Moves.{Gives, Fronts}
+use Rattle.table_core.specs.Seen.{seen}
 use Rattle.table_core.specs.declared.table.Table.{Table}
 
 -- An object that begins no epoch goes by steps, and the lines that turns add to its journal are those of them.
@@ -81,7 +82,7 @@ pub record GoesOnBehind (j : ℕ) (o : ObjectForm) (text : List ℕ) (since : Li
   pub before : Scene
   pub after : Scene
   pub front : List ℕ
-  pub told : text ≡ front ++ held_lines (object_of before.hall.object) (slice_get mid.custody j)
+  pub told : text ≡ front ++ held_lines (object_of before.hall.object) (slice_get (seen mid).custody j)
   pub begun : BeginsBy before front after
   pub served : IsServed mid j o (front_of before (next_epoch before) begun.written.runs (next_base before)) since
 
@@ -112,7 +113,7 @@ ReadsIn first j o (Some front) answered later last found = AreReadBehind j o fro
 pub record IsReadAhead (j : ℕ) (o : ObjectForm) (text : List ℕ) (last : Table) (found : List ℕ) : Type 0 where
   pub stood : Stood last j o
   pub front : List ℕ
-  pub told : text ≡ front ++ held_lines (object_of stood.scene.hall.object) (slice_get last.custody j)
+  pub told : text ≡ front ++ held_lines (object_of stood.scene.hall.object) (slice_get (seen last).custody j)
   pub written : IsNextFront stood.scene front
   pub nothing : found ≡ []
   pub recovered : (h : House) (f : Opening) (bytes : ℕ) (r : Recovered) → (b : IsBehind o h f bytes found r) → b.steps ≡ []

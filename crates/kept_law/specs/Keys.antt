@@ -50,7 +50,7 @@ NamesOver j old (t ∷ turns) [] new told now = ⊥
 NamesOver j old (t ∷ turns) (a ∷ accounts) new told now =
     (mid : Table) × Gives old t.asked t.said t.added mid × SaysIn (seen old) t.asked t.said t.added a (seen mid)
     × (before : Scene) × (slice_get old.objects.items j ≡ Some before) × (after : Scene) × (slice_get mid.objects.items j ≡ Some after)
-    × (so_far : List KeyEvent) × NamesIn j (slice_get old.custody j) t.asked before told t.added (a j) after so_far × NamesOver j mid turns accounts new so_far now
+    × (so_far : List KeyEvent) × NamesIn j (slice_get (seen old).custody j) t.asked before told t.added (a j) after so_far × NamesOver j mid turns accounts new so_far now
 
 -- An object stands at a place, these turns have led there and told this of names, and each key stands once in it.
 pub record HasKeysAt (first last : Table) (j : ℕ) (f : Opening) (turns : List Turn) (accounts : List Account) (told : List KeyEvent) : Type 0 where

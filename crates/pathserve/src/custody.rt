@@ -139,13 +139,22 @@ fn begin_read(
 ) -> Result<BegunHeld, AllocError> {
     let cut = cut_held(alloc, lines, &read)?;
     let (front, behind) = (read.front, read.behind);
-    let held = match play_held(alloc, &object, &rules.holds, read, lines)? {
-        Some(held) => held,
-        None => Holds::new(alloc),
+    let begun = match play_held(alloc, &object, &rules.holds, read, lines)? {
+        Some(held) => begin_plain(alloc, object, &cut, held)?,
+        None => refuse_unplayed(alloc, object, &cut)?,
     };
-    match begin_plain(alloc, object, &cut, held)? {
+    match begun {
         Ok(begun) => Ok(Ok(begun)),
         Err(why) => Ok(Err(moved_by(why, lines, front, behind))),
+    }
+}
+
+// Why an object is not begun with whose lines do not say what is held: what is wrong with them, or that the object was
+// changed. `lines` has no held lines.
+fn refuse_unplayed(alloc: Global, object: Object, lines: &[u8]) -> Result<BegunHeld, AllocError> {
+    match begin_plain(alloc, object, lines, Holds::new(alloc))? {
+        Err(why) => Ok(Err(why)),
+        Ok(_) => Ok(Err(NotBegun::Refused(RecoverFault::Changed))),
     }
 }
 

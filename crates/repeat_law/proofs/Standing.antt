@@ -23,6 +23,7 @@ use Rattle.post_core.specs.Turns.Asked.{Heard, Noted, Changes}
 use Rattle.told_core.specs.Custody.{Custody}
 use Rattle.said_law.specs.Said.{Account}
 use Rattle.said_law.proofs.Going.{ran_more, all_more, TellsAlike, all_alike, told_alike}
+use Rattle.table_core.specs.Seen.{seen}
 use Rattle.table_core.specs.declared.table.Table.{Table}
 use Rattle.kept_law.specs.Replied.{AreTold, HaveOneHistory}
 use Rattle.kept_law.specs.Keys.{NamesIn, NamesOver}
@@ -146,7 +147,7 @@ module _ (P : ℕ → Reply → Type 0) where
   turns_each j first last (t ∷ turns) (a ∷ accounts) told now (mid, gives, says, before, there, after, at, so_far, names, more) each so =
       turns_each j mid last turns accounts so_far now more
       (λ ts earlier b behind m s led cut is. each (t ∷ ts) (a ∷ earlier) b behind m s (mid, gives, says, led) (ap (λ (l : List Account). a ∷ l) cut) is)
-      (turn_each j (slice_get first.custody j) t.asked before told t.added (a j) after so_far names (each [] [] a accounts first before refl refl there) so)
+      (turn_each j (slice_get (seen first).custody j) t.asked before told t.added (a j) after so_far names (each [] [] a accounts first before refl refl there) so)
 
 -- it stands in the history, or it was told before
 abbrev Stood : (first last : Table) (turns : List Turn) → HaveOneHistory first last turns → ℕ → List KeyEvent → ℕ → Reply → Type 0

@@ -32,7 +32,7 @@ use Rattle.told_core.specs.Gone.Settles.{rests, goes_on, calls, seats, frees}
 use Rattle.told_core.specs.Turns.{GoesOn}
 use Rattle.told_core.proofs.Doing.{all_end_keeps}
 use Rattle.table_core.specs.Brings.{Brings, Continues, SettlesOn}
-use Rattle.table_core.specs.Objects.{LeavesAt, SeatsAt}
+use Rattle.table_core.specs.Objects.{IsKnownAt, LeavesAt, NoneWaitsAt, SeatsAt}
 use Rattle.table_core.specs.Parts.{AsksCall, EndsAll, FreesOr, HasMade, IsOwedAt, LeavesOf, MakesCall, MayAsk, MayNotAsk, SeatsOr, TellsAll, TellsTaken, TellsUnheld, bare_seat}
 use Rattle.table_core.specs.Seen.{state_of}
 use Rattle.table_core.proofs.Bringing.{brings_as, continued}
@@ -126,10 +126,10 @@ settles_seat a old new at (inr same) = settles_still a old new same
 
 -- a call was made for a session that no connection has
 pub owed_made : (a b c : Post) (old mid new : State) (at session operation : ℕ) (arguments : List Datum) (seat : Opened) (taken : Taken) →
-    seat ≡ bare_seat at session → NoneHas at session old → IsOwedAt old at session operation arguments →
+    seat ≡ bare_seat at session → NoneHas at session old → IsKnownAt old.objects at session → IsOwedAt old at session operation arguments →
     HasMade seat operation arguments taken a old b mid →
     ((object : Scene) → slice_get mid.objects at ≡ Some object → Brings (EndsAll at object taken.ran.items) b mid c new) → SettlesOn a old c new
-owed_made a b c old mid new at session operation arguments seat taken seat_is apart owed made ends =
+owed_made a b c old mid new at session operation arguments seat taken seat_is apart known owed made ends =
     let is : HasMade (bare_seat at session) operation arguments taken a old b mid =
     subst (λ (s : Opened). HasMade s operation arguments taken a old b mid) seat_is made in
     let there : slice_get mid.objects at ≡ Some is.after =
@@ -141,6 +141,7 @@ owed_made a b c old mid new at session operation arguments seat taken seat_is ap
       apart = apart;
       before = is.object;
       there = is.there;
+      known = known is.object is.there;
       custody = cause.0;
       has = cause.1;
       owed = cause.2;
@@ -262,9 +263,9 @@ brings_still P a b old mid new brings same = subst (λ (s : State). Brings P a o
 
 -- a session that no connection has leaves
 pub free_left : (custody : Custodies) (old new : List Scene) (clients : Clients) (at session now : ℕ) → NoneHas at session (state_of custody old clients) →
-    ((c : Custody) × (slice_get custody at ≡ Some c) × HasNone session c.held) → LeavesAt old at session now new →
+    ((c : Custody) × (slice_get custody at ≡ Some c) × HasNone session c.held) → NoneWaitsAt old at session → LeavesAt old at session now new →
     FreesOr at session (state_of custody old clients) (state_of custody new clients)
-free_left custody old new clients at session now apart (c, has, none) (inl left) = inl (record {
+free_left custody old new clients at session now apart (c, has, none) idle (inl left) = inl (record {
   told = refl;
   lines = refl;
   apart = apart;
@@ -273,13 +274,14 @@ free_left custody old new clients at session now apart (c, has, none) (inl left)
   custody = c;
   has = has;
   none = none;
+  idle = idle left.object left.there;
   now = now;
   was_here = left.was_here;
   guests = left.guests;
   leaves = left.leaves;
   left = objects_are custody (slice_set old at (with_guests left.object left.guests)) new (peers_of clients) left.left;
 })
-free_left custody old new clients at session now apart c (inr none) = inr (objects_are custody old new (peers_of clients) none.1)
+free_left custody old new clients at session now apart c idle (inr none) = inr (objects_are custody old new (peers_of clients) none.1)
 
 -- the same, where what is held was noted before
 pub free_noted : (custody kept : Custodies) (old new : List Scene) (clients : Clients) (at session : ℕ) → kept ≡ custody →

@@ -3,6 +3,7 @@ use Rattle.std.specs.Prelude.{ℕ, List}
 use Rattle.post_core.specs.Turns.{Asked}
 use Rattle.told_core.specs.Moves.{FrontsHeld}
 use Rattle.told_core.specs.Given as told
+use Rattle.custody_core.specs.Views.{custodies_of}
 use Rattle.watch_core.specs.Looks.{IsStatus}
 use Rattle.table_core.specs.Seen.{seen}
 use Rattle.table_core.specs.declared.table.Table.{Table}
@@ -17,4 +18,4 @@ Gives old asked said added new = told.Gives (seen old) asked said added (seen ne
 
 -- a text is a status of a table
 abbrev pub IsSeenIn : Table → List ℕ → Type 0
-IsSeenIn t text = IsStatus t.objects.items t.tallies.objects.items t.clients t.custody t.second text
+IsSeenIn t text = IsStatus t.objects.items t.tallies.objects.items t.clients (custodies_of t.custody) t.second text

@@ -13,7 +13,7 @@ use Rattle.guest_core.specs.declared.guests.Entered.{Entered}
 use Rattle.guest_core.specs.declared.guests.EnterFault.{EnterFault}
 use Rattle.guest_core.specs.declared.seats.Seat.TheVariants.{Nameless}
 use Rattle.guest_core.specs.Entering.{Enters, Leaves}
-use Rattle.guest_core.specs.Guests.{Guests, with_seat}
+use Rattle.guest_core.specs.Guests.{Guests, SomebodyHas, with_seat}
 use Rattle.guest_core.specs.Seats.{IsLeastFree}
 use Rattle.hosted_core.specs.Calls.{Does, Cancels}
 use Rattle.hosted_core.specs.Lines.{entered_lines}
@@ -92,3 +92,7 @@ NoneWaitsAt objects at session = (object : Scene) → slice_get objects at ≡ S
 abbrev pub CancelsAt : List Scene → ℕ → ℕ → Option ℕ → List ℕ → List Scene → Type 0
 CancelsAt old at session (Some told) line new = HasCancelled old at session told line new
 CancelsAt old at session None line new = (new ≡ old) × NoneWaitsAt old at session
+
+-- a client has a session of the object at this place
+abbrev pub IsKnownAt : List Scene → ℕ → ℕ → Type 0
+IsKnownAt objects at session = (object : Scene) → slice_get objects at ≡ Some object → SomebodyHas object.guests session

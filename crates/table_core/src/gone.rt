@@ -10,17 +10,18 @@ ghost use Rattle.post_core.specs.Posts.{Tells};
 ghost use Rattle.tally_core.specs.Tallies.{CountsTaken};
 ghost use Rattle.told_core.specs.Asked.{Opens, Follows};
 ghost use Rattle.told_core.specs.Custody.{Custody, HasNone, not_held_text};
+ghost use Rattle.custody_core.specs.Views.{custodies_of};
 ghost use Rattle.told_core.specs.Deeds.{OnlyTold};
 ghost use Rattle.told_core.specs.Gone.{Settles, NoneHas};
 ghost use Rattle.told_core.specs.Moves.{BeginsHeld, FrontsHeld, IsFrontAt};
 ghost use Rattle.told_core.specs.State.{opened_at};
 ghost use Rattle.table_core.specs.Brings.{Brings, SettlesOn};
-ghost use Rattle.table_core.specs.Objects.{IsNamed, SeatsAt};
+ghost use Rattle.table_core.specs.Objects.{IsKnownAt, IsNamed, NoneWaitsAt, SeatsAt};
 ghost use Rattle.table_core.specs.Parts.{AsksCall, TellsUnheld, MayAsk, MayNotAsk, LeavesOf, IsOwedAt, HasCustody, SeatsOr, FreesOr, EndsAll, bare_seat};
 ghost use Rattle.table_core.specs.Seen.{seen};
 
 use crate::making::{Asker, Ready};
-use crate::objects::{admit_at, begin_at, leave_at};
+use crate::objects::{admit_at, begin_at, is_known_at, leave_at};
 use crate::peers::{has_session, opened_at};
 use crate::table::Table;
 use crate::tell::tell;
@@ -59,7 +60,9 @@ fn seat_of(at: usize, session: u16) -> Opened
 }
 
 // Whether a call of a session waits, of the object at a place.
-fn has_waiting(objects: &[Hosted], at: usize, session: u16) -> bool {
+fn has_waiting(objects: &[Hosted], at: usize, session: u16) -> bool
+    ensures { result ≡ false → NoneWaitsAt objects.now at session }
+{
     match objects.get(at) {
         Some(object) => object.waiting_of(session).is_some(),
         None => false,
@@ -351,12 +354,16 @@ impl Table {
         leave_at(&mut self.objects, at, one.session, self.second);
     }
 
-    // Whether a session holds nothing, and no connection has it.
+    // Whether a session holds nothing, no call of it waits, and no connection has it.
     fn may_free(&self, at: usize, session: u16) -> bool
-        ensures none { result ≡ true → (c : Custody) × (slice_get self.now.custody at ≡ Some c) × HasNone session c.held }
+        ensures none { result ≡ true → (c : Custody) × (slice_get (custodies_of self.now.custody) at ≡ Some c) × HasNone session c.held }
+        ensures idle { result ≡ true → NoneWaitsAt self.now.objects.items at session }
         ensures apart { result ≡ true → NoneHas at session (seen self.now) }
     {
         if has_session(&self.clients, at, session) {
+            return false;
+        }
+        if has_waiting(&self.objects, at, session) {
             return false;
         }
         self.custody.holds_none(at, session)
@@ -468,7 +475,7 @@ impl Table {
         }
     }
 
-    // Makes a call of a session that no connection has. False: it is refused.
+    // Makes a call of a session that no connection has, where a client has it. False: it is refused.
     #[tactic(auto, using(crate::proofs::Settling::settles_room, crate::proofs::Settling::settles_quiet))]
     fn call_for(
         &mut self,
@@ -485,6 +492,9 @@ impl Table {
             return Ok(false);
         }
         if has_session(&self.clients, at, session) {
+            return Ok(false);
+        }
+        if !is_known_at(&self.objects, at, session) {
             return Ok(false);
         }
         let made = self.make_owed(at, session, operation, arguments, post)?;
@@ -528,6 +538,7 @@ impl Table {
         post: &mut Post,
     ) -> Result<bool, AllocError>
         requires apart { NoneHas at session (seen self.old) }
+        requires known { IsKnownAt self.old.objects.items at session }
         requires owed { IsOwedAt (seen self.old) at session operation arguments.items }
         ensures { OnOk result (SettlesOn post.old (seen self.old) post.new (seen self.new)) }
     {

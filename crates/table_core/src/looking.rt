@@ -7,6 +7,7 @@ ghost use Rattle.client_core.specs.People.{people_of};
 ghost use Rattle.inside_core.specs.Adds.{crowd_of};
 ghost use Rattle.told_core.specs.Asked.{AnswersInside};
 ghost use Rattle.told_core.specs.Custody.{holds_by, held_by};
+ghost use Rattle.custody_core.specs.Views.{custodies_of};
 ghost use Rattle.told_core.specs.Inside.{IsWhy, IsWho, object_in};
 ghost use Rattle.told_core.specs.State.{opened_in, peers_of};
 ghost use Rattle.table_core.specs.Brings.{Brings};
@@ -54,8 +55,8 @@ fn who_at(
     whom: Whom,
 ) -> Option<Result<Vec<u8>, AllocError>>
     ensures { IfSome result (λ r. IfOk r (λ text. (object : Scene) × (slice_get objects.now whom.at ≡ Some object)
-        × IsWho (crowd_of clients.now whom) object (holds_by (slice_get custody.now whom.at))
-        (held_by (slice_get custody.now whom.at)) whom.from text.items)) }
+        × IsWho (crowd_of clients.now whom) object (holds_by (slice_get (custodies_of custody.now) whom.at))
+        (held_by (slice_get (custodies_of custody.now) whom.at)) whom.from text.items)) }
 {
     match objects.get(whom.at) {
         None => None,

@@ -6,8 +6,9 @@ ghost use Rattle.hosted_core.specs.declared.hosted.Keyed.TheVariants as keys;
 ghost use Rattle.hosted_core.specs.Keys.{Says, WaitsAs};
 ghost use Rattle.hosted_core.specs.Scene.{Scene, told_of};
 ghost use Rattle.hosted_core.specs.Fronts.{IsNextFront};
+ghost use Rattle.guest_core.specs.Guests.{SomebodyHas};
 ghost use Rattle.told_core.specs.Moves.{Begins, IsFrontAt};
-ghost use Rattle.table_core.specs.Objects.{IsNamed, HasOperation, EntersAt, SeatsAt, LeavesAt, CallsAt, CancelsAt};
+ghost use Rattle.table_core.specs.Objects.{IsNamed, HasOperation, EntersAt, SeatsAt, LeavesAt, CallsAt, CancelsAt, IsKnownAt};
 
 use ask_core::answer::{Cancelled, SubmitFault};
 use guest_core::guests::{EnterFault, Entered};
@@ -116,6 +117,23 @@ pub(crate) fn seat_at(
                 Ok(session)
             }
         },
+    }
+}
+
+// Whether a client of an object has a session.
+fn is_known(object: &Hosted, session: u16) -> bool
+    ensures { result ≡ true → SomebodyHas object.now.guests session }
+{
+    object.guests().has(session)
+}
+
+/// Whether a client has a session of the object at a place.
+pub(crate) fn is_known_at(objects: &[Hosted], at: usize, session: u16) -> bool
+    ensures { result ≡ true → IsKnownAt objects.now at session }
+{
+    match objects.get(at) {
+        None => false,
+        Some(object) => is_known(object, session),
     }
 }
 

@@ -10,7 +10,7 @@ ghost use Rattle.told_core.specs.Deeds.{OnlyTold};
 ghost use Rattle.table_core.specs.Brings.{Brings};
 ghost use Rattle.table_core.specs.Objects.{IsNamed};
 ghost use Rattle.table_core.specs.Parts.{TellsOpened, ComesAt, LeavesOf};
-ghost use Rattle.table_core.specs.Seen.{seen};
+ghost use Rattle.table_core.specs.Seen.{IsQuiet, NobodyIsThere, seen};
 
 use crate::objects::{Comer, enter_at, may_come, object_for};
 use crate::peers::{go, open_as, opened_at, who_at};
@@ -73,14 +73,17 @@ fn refusal_of(fault: EnterFault) -> Line
 }
 
 impl Table {
-    /// These objects, with so many places for connections, in the second `now`. The error is that memory was refused.
+    /// These objects, with so many places for connections, in the second `now`: nobody is there, and nobody has opened any of them. The error is
+    /// that memory was refused.
     pub fn new(
         alloc: Global,
         objects: Vec<Hosted>,
         places: usize,
         now: u64,
     ) -> Result<Table, AllocError>
-        ensures { IfOk result (λ t. t.objects ≡ objects) }
+        ensures objects { IfOk result (λ t. t.objects ≡ objects) }
+        ensures quiet { IfOk result (λ t. IsQuiet (seen t)) }
+        ensures empty { IfOk result (λ t. NobodyIsThere (seen t)) }
     {
         let custody = AllHeld::new(alloc);
         Table::with_held(alloc, objects, custody, places, now)
@@ -96,6 +99,8 @@ impl Table {
     ) -> Result<Table, AllocError>
         ensures objects { IfOk result (λ t. t.objects ≡ objects) }
         ensures held { IfOk result (λ t. t.custody ≡ custody) }
+        ensures quiet { IfOk result (λ t. IsQuiet (seen t)) }
+        ensures empty { IfOk result (λ t. NobodyIsThere (seen t)) }
     {
         let clients = Clients::new(alloc, places)?;
         let line = Vec::with_capacity(alloc, MOST_LINE)?;

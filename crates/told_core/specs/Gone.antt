@@ -1,12 +1,14 @@
 -- What is done for clients that are gone, and again and again.
-use Rattle.std.specs.Prelude.{◌≡◌, ℕ, Bool, List, [], ◌∷◌, ◌++◌, Some, slice_get}
+use Rattle.std.specs.Prelude.{◌≡◌, ◌≢◌, ℕ, Bool, List, [], ◌∷◌, ◌++◌, Some, slice_get}
 use Rattle.value_core.specs.declared.datum.Datum.{Datum}
 use Rattle.decl_core.specs.ObjectMap.{object_of}
+use Rattle.trace_core.specs.Events.{Called}
 use Rattle.live_core.specs.declared.live.Taken.{Taken}
+use Rattle.live_core.specs.Hall.{Every}
 use Rattle.live_core.specs.Lines.{all_lines}
 use Rattle.guest_core.specs.Entering.{Leaves}
 use Rattle.guest_core.specs.declared.seats.Seat.TheVariants.{Nameless}
-use Rattle.guest_core.specs.Guests.{Guests, with_seat}
+use Rattle.guest_core.specs.Guests.{Guests, SomebodyHas, with_seat}
 use Rattle.guest_core.specs.Seats.{IsLeastFree}
 use Rattle.hosted_core.specs.Calls.{Does}
 use Rattle.hosted_core.specs.Scene.{Scene, with_guests}
@@ -22,12 +24,13 @@ abbrev pub NoneHas : ℕ → ℕ → State → Type 0
 NoneHas at session s =
     (place : ℕ) (opened : Opened) → opened_at s place ≡ Some opened → opened.object ≡ at → opened.session ≡ session → ⊥
 
--- A call is made for a session that no connection has. Nobody is told its number; each that waits for one that ran is told
+-- A call is made for a session that no connection has, of a client that is known. Nobody is told its number; each that waits for one that ran is told
 -- its end, and what is held follows from these.
 pub record CallsFor (at session operation : ℕ) (arguments : List Datum) (old : State) (said added : Texts) (new : State) : Type 0 where
   pub apart : NoneHas at session old
   pub before : Scene
   pub there : slice_get old.objects at ≡ Some before
+  pub known : SomebodyHas before.guests session
   pub custody : Custody
   pub has : slice_get old.custody at ≡ Some custody
   pub owed : IsOwed (object_of before.hall.object) custody session operation arguments
@@ -50,7 +53,7 @@ pub record SeatsOne (at session : ℕ) (old : State) (said added : Texts) (new :
   pub free : IsLeastFree object.guests.seats session
   pub left : new ≡ with_object old at (with_guests object (with_seat object.guests session Nameless))
 
--- a session leaves that no connection has, and that holds nothing
+-- a session leaves that no connection has, that holds nothing, and of which no call waits
 pub record Frees (at session : ℕ) (old : State) (said added : Texts) (new : State) : Type 0 where
   pub told : said ≡ []
   pub lines : added ≡ []
@@ -60,6 +63,7 @@ pub record Frees (at session : ℕ) (old : State) (said added : Texts) (new : St
   pub custody : Custody
   pub has : slice_get old.custody at ≡ Some custody
   pub none : HasNone session custody.held
+  pub idle : Every (λ (c : Called). c.session ≢ session) object.hall.waiting
   pub now : ℕ
   pub was_here : Bool
   pub guests : Guests

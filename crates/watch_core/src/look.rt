@@ -6,6 +6,7 @@ ghost use Rattle.decl_core.specs.ObjectMap.{object_of};
 ghost use Rattle.trace_core.specs.Text.{operation_name};
 ghost use Rattle.tally_core.specs.Laws.{sum_of};
 ghost use Rattle.tally_core.specs.Tallies.{ends_of, taken_of};
+ghost use Rattle.custody_core.specs.Views.{custodies_of};
 ghost use Rattle.told_core.specs.Custody.{held_by};
 ghost use Rattle.told_core.specs.Inside.{Crowd, sits_in, sitting_from};
 ghost use Rattle.told_core.specs.State.{opened_in, peers_of};
@@ -254,7 +255,7 @@ fn given_of(live: &Live) -> u64
 
 // How many calls of the object at a place are held.
 fn held_at(custody: &AllHeld, at: usize) -> u64
-    ensures { result ≡ length (held_by (slice_get custody.now at)) }
+    ensures { result ≡ length (held_by (slice_get (custodies_of custody.now) at)) }
 {
     let (_, held) = custody.held_of(at);
     held.len() as u64
@@ -298,7 +299,7 @@ fn seen_at(
     at: usize,
 ) -> Result<SeenObject, AllocError>
     requires { at < length objects.now }
-    ensures { IfOk result (λ seen. ShowsAt objects.now tallies.now.objects.items clients.now custody.now second at
+    ensures { IfOk result (λ seen. ShowsAt objects.now tallies.now.objects.items clients.now (custodies_of custody.now) second at
         seen) }
 {
     let sessions = sessions_of(clients, at);
@@ -317,7 +318,7 @@ fn seen_in(
     custody: &AllHeld,
     second: u64,
 ) -> Result<Vec<SeenObject>, AllocError>
-    ensures all { IfOk result (λ all. ShowsAll objects.now tallies.now.objects.items clients.now custody.now second 0
+    ensures all { IfOk result (λ all. ShowsAll objects.now tallies.now.objects.items clients.now (custodies_of custody.now) second 0
         all.items) }
     ensures count { IfOk result (λ all. length all.items ≡ length objects.now) }
 {
@@ -340,7 +341,7 @@ pub fn write_look(
     second: u64,
     out: &mut Vec<u8>,
 ) -> Result<(), AllocError>
-    ensures { OnOk result (IsStatus objects.now tallies.now.objects.items clients.now custody.now second out.new.items) }
+    ensures { OnOk result (IsStatus objects.now tallies.now.objects.items clients.now (custodies_of custody.now) second out.new.items) }
 {
     let seen = seen_in(alloc, objects, tallies, clients, custody, second)?;
     out.clear();

@@ -1,5 +1,5 @@
 -- What calls replied that ran can be written.
-use Rattle.std.proofs.Common.{ℕ, zero, suc, List, [], ◌∷◌, map}
+use Rattle.std.proofs.Common.{◌≡◌, ℕ, zero, suc, refl, List, [], ◌∷◌, map}
 use Rattle.std.specs.Prelude.{Some, None, slice_index_or}
 use Rattle.std.specs.declared.sync.Arc.{Arc}
 use Rattle.std.specs.Arc.{arc_value}
@@ -20,13 +20,14 @@ use Rattle.live_core.specs.Hall.{Every, Told}
 use Rattle.live_core.specs.Settles.{Settles, rests, runs, contents_of}
 use Rattle.hosted_core.specs.Calls.{RepliesDatum}
 
--- the body at a place is well typed
-typed_at : {Z : Type 0} (ops : List (Arc Operation Z)) (place : ℕ) →
+-- the body at a place is well typed, and replies what its types say
+pub typed_at : {Z : Type 0} (ops : List (Arc Operation Z)) (place : ℕ) →
     (types : Types) × StatementsTyped types (slice_index_or (map form_body (operations_of ops)) place no_body).statements
-typed_at [] place = (record { kinds = []; params = []; result = None }, tt)
+    × (types.result ≡ (slice_index_or (map form_body (operations_of ops)) place no_body).result)
+typed_at [] place = (record { kinds = []; params = []; result = None }, tt, refl)
 typed_at (x ∷ ops) zero =
     let o : Operation = arc_value x in
-    (record { kinds = o.kinds.items; params = map (λ p. p.kind) o.params.items; result = o.result }, o.typed)
+    (record { kinds = o.kinds.items; params = map (λ p. p.kind) o.params.items; result = o.result }, o.typed, refl)
 typed_at (x ∷ ops) (suc place) = typed_at ops place
 
 -- what the body at a place replies can be written

@@ -127,7 +127,7 @@ unnamed_by v session seat is other p same = other p (some_seat seat (Named p) (s
 pub named_at : (v : Guests) (session p : ℕ) → IsSound v → slice_get v.seats session ≡ Some (Named p) → (g : Guest) × IsNamed v session p g
 named_at v session p sound is = let h = sound.named session p is in (h.0, record { seat = is; there = h.1 })
 
-named_or : (v : Guests) (session : ℕ) (seat : Option Seat) → slice_get v.seats session ≡ seat → IsSound v → ((p : ℕ) × (g : Guest) × IsNamed v session p g) ⊎ HasNoName v session
+pub named_or : (v : Guests) (session : ℕ) (seat : Option Seat) → slice_get v.seats session ≡ seat → IsSound v → ((p : ℕ) × (g : Guest) × IsNamed v session p g) ⊎ HasNoName v session
 named_or v session (Some (Named p)) is sound = let h = named_at v session p sound is in inl (p, h.0, h.1)
 named_or v session (Some Void) is sound = inr (unnamed_by v session Void is void_named)
 named_or v session (Some Free) is sound = inr (unnamed_by v session Free is free_named)

@@ -1,5 +1,13 @@
 use Rattle.custody_core.proofs.Placing.{at_place, same_at, stays_at, free_at}
+use Rattle.gone_core.specs.Holding.{Goes}
+use Rattle.custody_core.proofs.Becoming.{becomes}
 use Rattle.custody_core.proofs.all.leaves_in.Goals as goal
+
+pub returns-in_ok-stays-in-Some-clause-goes : goal.returns-in_ok-stays-in-Some-clause-goes
+returns-in_ok-stays-in-Some-clause-goes c = becomes (Goes c.args.session c.args.is_named c.args.second) c.args.rows.now.items c.args.at
+    c.in-Some.holding.now c.leaves_one.new.holding
+    (at_place c.args.rows.now.items c.args.at c.in-Some.holding.now c.in-Some.ensures.item.3.0 c.in-Some.ensures.value)
+    c.in_ok-stays-in-Some.ensures.goes
 
 pub returns-in_ok-stays-in-Some-clause-same : goal.returns-in_ok-stays-in-Some-clause-same
 returns-in_ok-stays-in-Some-clause-same c = same_at c.args.rows.now.items c.args.at c.in-Some.holding.now c.leaves_one.new.holding

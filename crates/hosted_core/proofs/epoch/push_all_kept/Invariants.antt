@@ -1,8 +1,13 @@
 use Rattle.std.proofs.Common.{◌≡◌, ◌++◌, take}
 use Rattle.decl_core.specs.ObjectMap.{object_of}
+use Rattle.front_core.specs.Front.{Every}
 use Rattle.front_core.specs.Text.{kept_text}
+use Rattle.hosted_core.specs.Fits.{GuestFits}
 use Rattle.hosted_core.specs.Fronts.{kept_of}
 use Rattle.hosted_core.proofs.epoch.push_all_kept.Given as goal
 
 abbrev pub invariant-loop-guest : goal.invariant-loop-guest
-invariant-loop-guest l = l.out.items ≡ l.initial.out.items ++ kept_text (object_of l.object) (kept_of (take l.guest-index l.guests))
+invariant-loop-guest l = record {
+  added : l.out.items ≡ l.initial.out.items ++ kept_text (object_of l.object) (kept_of (take l.guest-index l.guests));
+  fit : Every GuestFits (take l.guest-index l.guests);
+}

@@ -1,11 +1,12 @@
 use Rattle.std.proofs.Common.{ap, sym, subst, arith, length}
 use Rattle.watch_core.specs.Looks.{ShowsAll}
 use Rattle.watch_core.proofs.Looking.{seen_more, length_more}
+use Rattle.custody_core.specs.Views.{custodies_of}
 use Rattle.watch_core.proofs.look.seen_in.Goals as goal
 
 pub loop-at-init : goal.loop-at-init
 loop-at-init c = (
-  subst (ShowsAll c.args.objects.now c.args.tallies.now.objects.items c.args.clients.now c.args.custody.now c.args.second 0) (sym c.new-seen.ensures.items) tt,
+  subst (ShowsAll c.args.objects.now c.args.tallies.now.objects.items c.args.clients.now (custodies_of c.args.custody.now) c.args.second 0) (sym c.new-seen.ensures.items) tt,
   ap length c.new-seen.ensures.items,
 )
 
@@ -14,8 +15,8 @@ loop-at-preserved c =
     let push = c.in_ok-push.ensures.items in
     let more = length_more c.loop-at.seen.items c.in_ok-one.one in
     let count = c.loop-at.invariant.1 in (
-      subst (ShowsAll c.args.objects.now c.args.tallies.now.objects.items c.args.clients.now c.args.custody.now c.args.second 0) (sym push)
-          (seen_more c.args.objects.now c.args.tallies.now.objects.items c.args.clients.now c.args.custody.now c.args.second 0 c.loop-at.at c.loop-at.seen.items c.in_ok-one.one (omega (arith, count)) c.loop-at.invariant.0
+      subst (ShowsAll c.args.objects.now c.args.tallies.now.objects.items c.args.clients.now (custodies_of c.args.custody.now) c.args.second 0) (sym push)
+          (seen_more c.args.objects.now c.args.tallies.now.objects.items c.args.clients.now (custodies_of c.args.custody.now) c.args.second 0 c.loop-at.at c.loop-at.seen.items c.in_ok-one.one (omega (arith, count)) c.loop-at.invariant.0
           c.in_ok-one.ensures),
       (let long = ap length push in omega (arith, long, more, count)),
     )

@@ -9,6 +9,6 @@ pub returns : goal.returns
 returns c =
     let out = c.args.out.now.items in
     let here = c.object.ensures ∙ ap (λ (s : Scene). s.hall.object) c.self.view_is in
-    past_told c.args.self.now c.args.past.now c.args.base c.in_ok-runs.runs.items out c.push_past.new.out.items c.push_base.new.out.items c.push_behind_base.new.out.items c.in_ok-runs.ensures
-    (c.in_ok-push_past.ensures ∙ ap (λ x. out ++ runs_text (object_of x) c.deref.result.now) here ∙ ap (λ r. out ++ runs_text (object_of c.args.self.now.hall.object) r) c.deref.ensures.value)
-    c.in_ok-push_base.ensures c.in_ok-push_behind_base.ensures
+    past_told c.args.self.now c.args.base c.args.runs.now out c.push_past.new.out.items c.push_base.new.out.items c.push_behind_base.new.out.items
+    (c.in_ok-push_past.ensures ∙ ap (λ x. out ++ runs_text (object_of x) c.args.runs.now) here)
+    c.in_ok-push_base.ensures c.in_ok-push_behind_base.ensures.tells c.in_ok-push_behind_base.ensures.fit

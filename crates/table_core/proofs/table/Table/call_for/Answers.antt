@@ -1,11 +1,12 @@
 use Rattle.std.proofs.Common.{sym, subst}
 use Rattle.told_core.specs.State.{State}
 use Rattle.table_core.specs.Parts.{IsOwedAt}
+use Rattle.custody_core.specs.Views.{custodies_of}
 use Rattle.table_core.proofs.table.Table.call_for.Goals as goal
 
 pub make_owed-requires-clause-apart : goal.make_owed-requires-clause-apart
 make_owed-requires-clause-apart c =
-    c.has_session.ensures c.if-has_session.false c.has_room_for.new.self.custody c.has_room_for.new.self.objects.items
+    c.has_session.ensures c.if-has_session.false (custodies_of c.has_room_for.new.self.custody) c.has_room_for.new.self.objects.items
 
 pub make_owed-requires-clause-owed : goal.make_owed-requires-clause-owed
 make_owed-requires-clause-owed c =

@@ -12,4 +12,4 @@ returns-in-Some c =
     owed_found c.undo.result (seen c.args.self.now) c.args.at c.args.session c.in-Some.object.now (object_of c.object.result.now)
     (ap (λ (l : List Scene). slice_get l c.args.at) (sym c.deref.ensures.value)
     ∙ at_place c.deref.result.now c.args.at c.in-Some.object.now c.in-Some.ensures.lookup.3.0 c.in-Some.ensures.lookup.1)
-    (ap object_of same) c.undo.ensures
+    (ap object_of same) c.undo.ensures.owed

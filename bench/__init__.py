@@ -1,0 +1,1 @@
+"""What measures the program: bench/README.md tells how."""

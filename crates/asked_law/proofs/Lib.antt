@@ -1,0 +1,12 @@
+pub mod Clients
+pub mod Coming
+pub mod Doing
+pub mod Fitting
+pub mod Going
+pub mod Keying
+pub mod Known
+pub mod Owning
+pub mod Reading
+pub mod Repeating
+pub mod Tracing
+pub mod Turning

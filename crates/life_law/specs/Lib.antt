@@ -1,0 +1,4 @@
+pub mod Ends
+pub mod Keeps
+pub mod Lives
+pub mod Rows

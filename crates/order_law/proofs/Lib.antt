@@ -1,0 +1,10 @@
+pub mod Doing
+pub mod Ending
+pub mod Hearing
+pub mod Leaving
+pub mod Lists
+pub mod Making
+pub mod Runs
+pub mod Settling
+pub mod Standing
+pub mod Voicing

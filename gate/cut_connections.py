@@ -1,0 +1,275 @@
+"""Serves drawn objects to 64 connections that are cut, slow, silent or polite, and looks at what is left; then to clients that
+have a name, are cut, and come back.
+
+usage: gate/cut_connections [--program FILE] [SEED ..]
+       gate/cut_connections --names [WORDS OF A TITLE ..]    the trials of clients that have a name alone (gate/returning.py)
+
+Of each connection the number and the last line of each call that it was told are kept. After all connections have ended,
+the server has to end by itself with status 0; `pathserve audit` has to call each trace legal; each call that was told stands
+in the trace with that reply; no value file is left, and one of an earlier run was moved away. A second server on the folder begins with the
+values of the first; files with other names stay.
+
+The program is the one that ./pathserve runs, or FILE. The last line is `cut_connections: N passed, M failed`; the exit status is 0
+where M is 0 and N is not.
+"""
+import pathlib
+import random
+import select
+import socket
+import struct
+import subprocess
+import sys
+import tempfile
+import threading
+import time
+
+from gate import returning
+from gate.drawn_objects import OBJECTS
+from gate.served import Told, free_port, traced_wrongly
+from gate.slow_world import written
+from gate.tried import given_words, program, whole
+
+SEEDS = (1, 2)
+CONNECTIONS = 64
+# How long a connection may last, and how long a server may take to end after the last one, in seconds.
+LASTS, ENDS = 4, 60
+# Files that are there before: one of a run that was killed, and others that are nobody's.
+KILLED, OTHERS = 41, ("notes.val", "007.val", "9223372036854775808.val", "7.value", "cell.v.part.old")
+KINDS = ("polite", "cut", "reset", "slow", "silent", "ahead", "deaf", "canceller", "loud", "hasty")
+
+
+class Connection(threading.Thread):
+    """One client: what it sends follows from its number, and what it is told is kept."""
+
+    def __init__(self, seed, number, port):
+        super().__init__()
+        self.random, self.port = random.Random(seed * 1000 + number), port
+        self.kind = KINDS[number % len(KINDS)]
+        self.made, self.told = None, Told()
+        self.rest, self.end = b"", time.monotonic() + LASTS
+
+    def run(self):
+        try:
+            with socket.create_connection(("127.0.0.1", self.port), timeout=LASTS) as it:
+                self.it = it
+                getattr(self, self.kind)()
+        except (OSError, EOFError, TimeoutError):
+            pass
+
+    def left(self):
+        left = self.end - time.monotonic()
+        if left <= 0:
+            raise TimeoutError
+        return left
+
+    def send(self, *lines):
+        self.it.settimeout(self.left())
+        self.it.sendall(b"".join(line.encode() + b"\n" for line in lines))
+
+    def line(self):
+        """The next line, what it tells being kept."""
+        while b"\n" not in self.rest:
+            self.it.settimeout(self.left())
+            piece = self.it.recv(65536)
+            if not piece:
+                raise EOFError
+            self.rest += piece
+        line, _, self.rest = self.rest.partition(b"\n")
+        line = line.decode("ascii")
+        self.told.hear(line)
+        return line
+
+    def open(self):
+        self.made = self.random.choice(OBJECTS)
+        self.send(f"open {self.made.name}")
+        self.line()
+
+    def call(self):
+        op = self.random.choice(list(self.made.operations))
+        arguments = [self.random.choice(it) for it in self.made.operations[op].draws]
+        return " ".join(["call", op, *map(written, arguments)])
+
+    def calls(self):
+        """Calls one after the other, each to its last line."""
+        for _ in range(self.random.randrange(40)):
+            self.send(self.call())
+            if self.line().startswith("accepted"):
+                self.line()
+
+    def polite(self):
+        self.open()
+        self.calls()
+        self.send("quit")
+        while True:
+            self.line()
+
+    def cut(self):
+        self.open()
+        self.calls()
+        self.send(self.call())
+
+    def reset(self):
+        """It ends with a reset in place of an end."""
+        self.open()
+        self.calls()
+        self.it.setsockopt(socket.SOL_SOCKET, socket.SO_LINGER, struct.pack("ii", 1, 0))
+        self.send(self.call())
+
+    def slow(self):
+        """One byte at a time."""
+        self.open()
+        for byte in (self.call() + "\n" + self.call() + "\nqui").encode():
+            self.it.sendall(bytes([byte]))
+            time.sleep(0.002)
+        while True:
+            self.line()
+
+    def silent(self):
+        if self.random.randrange(2):
+            self.open()
+        select.select([self.it], [], [], self.left())
+
+    def ahead(self):
+        """Many calls at once, and then all that comes."""
+        self.open()
+        self.send(*(self.call() for _ in range(100)))
+        while True:
+            self.line()
+
+    def deaf(self):
+        """It reads nothing."""
+        self.open()
+        for _ in range(20):
+            self.send(*(self.call() for _ in range(50)))
+        time.sleep(self.random.random())
+
+    def canceller(self):
+        """It cancels calls of others."""
+        self.open()
+        for _ in range(30):
+            self.send(self.call(), f"cancel {self.random.randrange(300)}")
+            self.line()
+        while True:
+            self.line()
+
+    def hasty(self):
+        """It says `quit` behind calls that may wait, and is gone; every other one by a reset."""
+        self.open()
+        self.send(*(self.call() for _ in range(10)), "quit")
+        if self.random.randrange(2):
+            self.line()
+        if self.random.randrange(2):
+            self.it.setsockopt(socket.SOL_SOCKET, socket.SO_LINGER, struct.pack("ii", 1, 0))
+
+    def loud(self):
+        """Lines that mean nothing, and at last one that is too long."""
+        self.send("call get", "cancel 1", "dance", "open nothing", "it's", "call", "\x01")
+        self.open()
+        self.send("call nothing", "call get 1 2 3", "open cell", "x" * 4096)
+        self.calls()
+        self.send("y" * 5000)
+        while True:
+            self.line()
+
+
+def value_numbers(place):
+    return sorted(int(it.stem) for it in place.glob("*.val") if it.name not in OTHERS)
+
+
+def ended_wrongly(out, objects, place, all_told):
+    """What is wrong with the lines with which a server ended, and with the traces that it left."""
+    lines = [it.partition(" entries ") for it in out.splitlines()]
+    if [it[0] for it in lines] != [it.name for it in OBJECTS] or not all(it[2].isdigit() for it in lines):
+        return [f"the server ended with {out!r}"]
+    return [wrong for name, _, count in lines for wrong in traced_wrongly(objects, place, name, all_told, int(count))]
+
+
+def second_start(objects, place):
+    """What is wrong with a server on the folder of one that has ended."""
+    before = {it.name: it.read_bytes() for it in place.glob("*.part")}
+    port = free_port()
+    words = [program(), "serve", objects, place, str(port), "--sessions", "1"]
+    with subprocess.Popen(words, stdout=subprocess.PIPE, text=True) as server:
+        server.stdout.readline()
+        with socket.create_connection(("127.0.0.1", port), timeout=LASTS) as it:
+            it.sendall(b"quit\n")
+            it.recv(100)
+        server.communicate(timeout=ENDS)
+    after = {it.name: it.read_bytes() for it in place.glob("*.part")}
+    said = []
+    if server.returncode or after != before or not before:
+        said.append(f"a second start: status {server.returncode}, {len(before)} parts before, the same after: {after == before}")
+    return said
+
+
+def tried(seed):
+    """What is wrong after one server, and how many calls were told."""
+    with tempfile.TemporaryDirectory(prefix="cut-") as folder:
+        folder = pathlib.Path(folder)
+        objects, place = folder / "objects", folder / "place"
+        place.mkdir()
+        for name in (f"{KILLED}.val", *OTHERS):
+            (place / name).write_text("left", encoding="ascii")
+        objects.write_text("".join(it.text for it in OBJECTS), encoding="ascii")
+        port = free_port()
+        words = [program(), "serve", objects, place, str(port), "--sessions", str(CONNECTIONS)]
+        with subprocess.Popen(words, stdout=subprocess.PIPE, stderr=subprocess.PIPE, text=True) as server:
+            first = server.stdout.readline()
+            if first != f"listening {port}\n":
+                server.kill()
+                return [f"seed {seed}: the server said {first!r} {server.stderr.read()!r}"], 0
+            connections = [Connection(seed, number, port) for number in range(CONNECTIONS)]
+            for it in connections:
+                it.start()
+            for it in connections:
+                it.join()
+            try:
+                out, error = server.communicate(timeout=ENDS)
+            except subprocess.TimeoutExpired:
+                server.kill()
+                return [f"seed {seed}: the server did not end in {ENDS} seconds"], 0
+        said = [f"{it.kind}: {wrong}" for it in connections for wrong in it.told.wrong]
+        if server.returncode or error != f"moved to left/1: {KILLED}.val\n":
+            said.append(f"status {server.returncode}, standard error {error!r}")
+        said += ended_wrongly(out, objects, place, [it.told for it in connections])
+        said += second_start(objects, place)
+        if values := value_numbers(place):
+            said.append(f"the value files {values} are left")
+        said += [f"{name} is gone" for name in OTHERS if not (place / name).exists()]
+        told = sum(len(it.told.ends) for it in connections)
+        if not told:
+            said.append("no connection was told of a call")
+        return [f"seed {seed}: {it}" for it in said], told
+
+
+def names_failed(words):
+    """How many of the trials of clients that have a name there are, and how many of them fail."""
+    chosen = [it for it in returning.TRIALS if all(word in it for word in words)]
+    failed = 0
+    for name in chosen:
+        began = time.monotonic()
+        said = returning.tried(name)
+        print(said or f"{name}: {time.monotonic() - began:.1f} seconds")
+        failed += bool(said)
+    return len(chosen), failed
+
+
+def main():
+    words = given_words()
+    names = words[1:] if words[:1] == ["--names"] else None
+    if names is None and not all(it.isdigit() for it in words):
+        print(__doc__, file=sys.stderr)
+        return 2
+    seeds = [] if names is not None else [int(it) for it in words] or SEEDS
+    failed = 0
+    for seed in seeds:
+        said, told = tried(seed)
+        print("\n".join(said) if said else f"seed {seed}: {told} calls were told")
+        failed += bool(said)
+    trials, wrong = names_failed(names or []) if names is not None or not words else (0, 0)
+    count, failed = len(seeds) + trials, failed + wrong
+    print(f"cut_connections: {count - failed} passed, {failed} failed")
+    return 0 if count and not failed else 1
+
+
+load_tests = whole(main)

@@ -1,0 +1,268 @@
+"""Refuses each call of the system, and each growth of memory, of `pathserve keep` in turn, under clients with names.
+
+usage: gate/refuse_kept [--program FILE] [--runs N] [--jobs N] [--first N] [KIND ..]
+
+The n-th open, read, write, seek, change of a size, sync or rename of a file of the folder fails, once or from there on;
+or the n-th accept, read or write of a connection, wait or watch does; or the server is killed in the place of that
+call, or behind half of a write; or the n-th growth of memory is refused. A server whose journal cannot be written ends
+with status 3, one without memory with 4, or it goes on. A start behind that knows each call that was answered, each
+once, as gate/crowd.py judges. Four clients make twelve calls each; in `epochs` a change of epochs comes in between.
+In `options` its command line is all that it reads: FILE is not there.
+
+Of each kind so many numbers are tried, further and further apart, that there are N runs in all, 150 where no number is
+given; with `--runs 0` each number is tried, from the first one given on. KIND leaves out all kinds whose names do not
+have these words. Where there is no `cc` nothing is run. The program is the one that ./pathserve runs, or FILE. The last
+line is `refuse_kept: N passed, M failed`; the exit status is 0 where M is 0 and N is not.
+"""
+import collections
+import concurrent.futures
+import contextlib
+import errno
+import os
+import pathlib
+import random
+import subprocess
+import tempfile
+import threading
+import time
+
+from gate import crowd, losing, refusing
+from gate.crowd import Crowd
+from gate.kept import ROOMS, Server, Talk, options
+from gate.tried import Wrong, check, given_words, holds, lacks, program, whole
+
+# What fails, how, and with which statuses the server may end: where it goes on it ends in order, with 0.
+Kind = collections.namedtuple("Kind", "name env statuses play", defaults=("calls",))
+DISK = ("open", "read", "write", "seek", "size", "sync", "rename", "link", "unlink")
+CONNECTIONS = (("accept", "EMFILE"), ("accept", "ECONNABORTED"), ("accept", "EINTR"), ("recv", "ECONNRESET"),
+               ("recv", "EINTR"), ("recv", "EIO"), ("send", "EPIPE"), ("send", "EINTR"), ("send", "EIO"),
+               ("wait", "EINTR"), ("watch", "ENOSPC"))
+OVER_EPOCHS = ("write ENOSPC", "write half", "write killed", "sync EIO", "rename EIO", "rename killed", "open EMFILE",
+               "size ENOSPC", "link EIO", "link killed", "unlink EIO", "memory")
+CALLS, PUMPED, ROUNDS = 12, 3300, 2400
+KILLED = -9
+
+
+def kinds():
+    """All kinds, those of which a change of epochs is tried too at the end."""
+    found = []
+    for call in DISK:
+        fault = "ENOSPC" if call in ("write", "size") else "EIO"
+        for name, error in (("EIO", errno.EIO), ("ENOSPC", errno.ENOSPC), ("EMFILE", errno.EMFILE)):
+            if name == fault or call == "write" or (call, name) == ("open", "EMFILE"):
+                found.append(Kind(f"{call} {name}", {"FAIL_CALL": call, "FAIL_ERRNO": str(error)}, (0, 3)))
+        rest = {"FAIL_CALL": call, "FAIL_ERRNO": str(getattr(errno, fault)), "FAIL_REST": "1"}
+        found.append(Kind(f"{call} {fault} for ever", rest, (0, 3)))
+        found.append(Kind(f"{call} killed", {"FAIL_CALL": call, "FAIL_ERRNO": "0"}, (0, KILLED)))
+    found.append(Kind("write half", {"FAIL_CALL": "write", "FAIL_ERRNO": "-1"}, (0, KILLED)))
+    for call, error in CONNECTIONS:
+        found.append(Kind(f"{call} {error}", {"FAIL_CALL": call, "FAIL_ERRNO": str(getattr(errno, error))}, (0, 3)))
+    found.append(Kind("memory", {}, (0, 4)))
+    again = [it for it in found if it.name in OVER_EPOCHS]
+    over_epochs = [it._replace(name=f"epochs, {it.name}", play="epochs") for it in again]
+    return [*found, *over_epochs, Kind("options, memory", {}, (3, 4), "options")]
+
+
+class Run:
+    """A server of which one call fails, and what came of it."""
+
+    def __init__(self, libraries, kind, number):
+        self.kind, self.number, self.libraries, self.wrong, self.was_refused = kind, number, libraries, None, False
+
+    def go(self):
+        with tempfile.TemporaryDirectory(prefix="refuse-", dir=ROOMS) as folder:
+            try:
+                (self.read if self.kind.play == "options" else self.tried)(pathlib.Path(folder))
+            except (Wrong, OSError, ValueError, IndexError, EOFError, subprocess.TimeoutExpired) as wrong:
+                self.wrong = f"{type(wrong).__name__} {wrong}"
+        return self
+
+    def env(self, folder):
+        note, own = str(folder / "note"), {"LOSE_FROM": str(folder / "kept")}
+        if not self.kind.env:
+            return {"LD_PRELOAD": str(self.libraries[1]), "REFUSE_NOTE": note, "REFUSE_GROWTH": str(self.number)}
+        own |= {"LD_PRELOAD": str(self.libraries[0]), "FAIL_NOTE": note, "FAIL_NUMBER": str(self.number)}
+        return own | self.kind.env
+
+    def read(self, folder):
+        """Its command line is read."""
+        pasts = [it for operation in ("say", "get") for it in ("--past", f"echo:{operation}:2")]
+        words = [program(), "keep", folder / "none.pp", folder, "1", "--sync", "100", *pasts]
+        ran = subprocess.run(words, env={**os.environ, **self.env(folder)}, capture_output=True, text=True, timeout=60)
+        self.was_refused = (folder / "note").exists()
+        holds(ran.returncode in self.kind.statuses, f"status {ran.returncode}, standard error {ran.stderr!r}")
+        check(ran.stdout, "", "what it said")
+        # (behind the command line what is told of FILE may lack)
+        last = {3: "read fault", 4: "out of memory"}[ran.returncode]
+        check(ran.stderr.splitlines()[-1:], [last], "the last line of standard error")
+        holds(self.was_refused or ran.returncode == 3, "nothing was refused, and it is out of memory")
+
+    def tried(self, folder):
+        # What was kept before has to be there too.
+        server = Server(folder, crowd.SOURCE, at_path=True)
+        server.start()
+        crowd.fill_ledger(server)
+        server.kill()
+        clients = Crowd(server, 4, random.Random(self.number))
+        for it in clients.clients:
+            it.ahead, it.most = 1, CALLS
+        try:
+            self.play(folder, server, clients)
+        finally:
+            clients.close()
+            if server.child.poll() is None:
+                server.kill()
+
+    def play(self, folder, server, clients):
+        server.env = self.env(folder)
+        server.begin()
+        line = server.child.stdout.readline().decode()
+        eve = None
+        if line:
+            check(line, f"listening {server.place}\n", "the first line")
+            eve = Pumping(server) if self.kind.play == "epochs" else None
+            for _ in range(ROUNDS):
+                clients.run(0.05)
+                if server.child.poll() is not None or clients.is_done() and (eve is None or not eve.is_alive()):
+                    break
+            if eve:
+                eve.join()
+        self.was_refused = (folder / "note").exists()
+        if server.child.poll() is None:
+            out, status = server.end()
+        else:
+            status = server.awaited()
+            server.close()
+        error = server.error()
+        clients.killed()
+        holds(status in self.kind.statuses, f"status {status}, standard error {error!r}")
+        holds(status != 3 or "fault" in error, f"status 3, standard error {error!r}")
+        holds(status != 4 or error == "out of memory\n", f"status 4, standard error {error!r}")
+        holds(status or self.was_refused or clients.is_done(), "nothing was refused, and clients have no answers")
+        server.env = {}
+        server.start()
+        if eve:
+            eve.look(server)
+        clients.settle()
+        crowd.are_right(server, clients)
+        server.is_whole(*crowd.NAMES)
+        check(server.end()[1], 0, "the status at the end")
+
+
+class Pumping(threading.Thread):
+    """A client of one object that has so much said that its journal begins anew, and one with a name there."""
+
+    def __init__(self, server):
+        super().__init__(daemon=True)
+        self.server, self.done, self.answers = server, 0, []
+        self.start()
+
+    def run(self):
+        with contextlib.suppress(OSError, EOFError, Wrong):
+            for turn in range(3):
+                self.named(turn)
+                with Talk(self.server, "open echo") as it:
+                    self.pump(it)
+            self.named(3)
+
+    def named(self, turn):
+        with Talk(self.server) as it:
+            # (her connection before may not have been seen to end)
+            while not self.answer(it, "open echo as eve").startswith("opened "):
+                time.sleep(0.001)
+            for key in range(4 * turn + 1, 4 * turn + 5):
+                self.answers.append(self.answer(it, f"call #{key} say 'e{key}'"))
+
+    @staticmethod
+    def answer(it, line):
+        """The last line that answers one, which is said again where memory was refused."""
+        answer = "no Memory"
+        while answer == "no Memory":
+            it.say(line)
+            answer = it.hear()
+        while answer.startswith("accepted "):
+            answer = it.hear()
+        if not answer:
+            raise EOFError
+        return answer
+
+    @staticmethod
+    def pump(it):
+        text = f"call say '{crowd.LONG}'\n".encode() * PUMPED
+        saying = threading.Thread(target=send, args=(it.socket, text), daemon=True)
+        saying.start()
+        left = PUMPED
+        while left:
+            line = it.hear()
+            if not line:
+                break
+            left -= line.startswith(("done", "no", "failed"))
+        saying.join()
+
+    def look(self, server):
+        """What was answered is known, and nothing is known that was not asked."""
+        with Talk(server, "open echo as eve") as it:
+            line = it.hear()
+            next_key = int(line.rpartition(" ")[2])
+            count = len(self.answers)
+            holds(count < next_key <= count + 2, f"eve has {count} answers, and is told {line!r}")
+            for key, answer in enumerate(self.answers, 1):
+                # (a name that could not come in may have asked for less)
+                it.say(f"call #{key} say 'e{key}'")
+                check(it.hear(), f"repeat {answer.removeprefix('repeat ')}", f"the answer of eve's call {key}")
+
+
+def send(it, text):
+    with contextlib.suppress(OSError):
+        it.sendall(text)
+
+
+def spread(count):
+    """So many numbers from 1 on, further and further apart."""
+    number, found = 1, []
+    for at in range(count):
+        found.append(number)
+        number += 1 + int(number * 0.12 * (1 + at / 8))
+    return found
+
+
+def each_of(pool, libraries, kind, numbers, jobs):
+    """Tries these numbers of a kind, as long as something is refused."""
+    passed = failed = 0
+    numbers, goes_on = iter(numbers), True
+    while goes_on and failed < 5:
+        batch = [it for it, _ in zip(numbers, range(jobs))] if jobs else []
+        if not batch:
+            break
+        for it in pool.map(lambda number: Run(libraries, kind, number).go(), batch):
+            if it.wrong:
+                failed += 1
+                print(f"{kind.name}, {it.number}: {it.wrong}", flush=True)
+            else:
+                passed += 1
+                goes_on = goes_on and it.was_refused
+    return passed, failed
+
+
+def main():
+    given, words = options(given_words(), runs=150, jobs=len(os.sched_getaffinity(0)), first=1)
+    if lacks("cc"):
+        return 0
+    program()
+    wanted = [it for it in kinds() if all(word in it.name for word in words)]
+    lanes = concurrent.futures.ThreadPoolExecutor(given["jobs"])
+    with tempfile.TemporaryDirectory(prefix="refuse-") as folder, lanes as pool:
+        libraries = losing.build(folder), refusing.build(folder)
+        passed = failed = 0
+        for kind in wanted:
+            runs = max(1, given["runs"] // len(wanted))
+            each = not given["runs"] or kind.play == "options"
+            numbers = range(given["first"], 1_000_000) if each else spread(runs)
+            ran = each_of(pool, libraries, kind, numbers, given["jobs"])
+            print(f"{kind.name}: {ran[0]} runs passed, {ran[1]} failed", flush=True)
+            passed, failed = passed + ran[0], failed + ran[1]
+    print(f"refuse_kept: {passed} passed, {failed} failed")
+    return 1 if failed or not passed else 0
+
+
+load_tests = whole(main)

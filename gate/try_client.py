@@ -1,0 +1,796 @@
+"""Tries a client, in any language, against a server that answers as it is told.
+
+usage: gate/try_client CMD [WORD ..]        the client that this command drives
+       gate/try_client [--program FILE]     each client of the repository (gate/drivers); and all of them at once over
+                                            `pathserve keep`, which is killed by `kill -9` meanwhile
+
+CMD drives a client by lines. It first writes `can` and what the client can beside calls: `values` (it reads replies as
+values of its language), `within` (a call has a time), `name` (it has a name, and keys), `ahead` (it sends calls without
+waiting for those before them). What needs anything else is left out, and said. Then it reads a line, does it, and writes
+what came of it, at once; up to the end of its input:
+
+  open PLACE OBJECT MS CLIENT   opens OBJECT at this port or path, which is tried for MS milliseconds, by the name CLIENT,
+                                or without one where that is `-`: `opened`, or how it failed
+  call MS OP ARG ..             calls; where MS is not 0, the call is cancelled that still waits after MS milliseconds:
+                                how it ended
+  ahead K                       the next K lines are `call 0 ..`, which are sent ahead: K lines, how each ended
+  close                         quits: `closed`
+
+ARG is an integer or a text, as a server reads them. How a call ended is one of
+
+  done, done VALUE       its reply, which the driver writes from a value of its language as a server would
+  refused WORD, failed WORD, cancelled
+  no WORD                the server did not take the call, or did not open the object
+  no server              nobody answers, or the server opens nothing, so nothing was called
+  lost                   it is not known whether the call was done
+  expired                the session of this name is not as the client left it (docs/CLIENTS.md)
+
+A call of a client whose connection was lost makes a new one. The last line is `try_client: N passed, M failed`; the exit
+status is 0 where M is 0 and N is not.
+"""
+import collections
+import concurrent.futures
+import contextlib
+import itertools
+import os
+import pathlib
+import queue
+import random
+import shutil
+import signal
+import socket
+import struct
+import subprocess
+import sys
+import tempfile
+import threading
+import time
+
+from gate import kept
+from gate.tried import TOP, Wrong, given_words, lacks, whole
+
+DRIVERS = TOP / "gate" / "drivers"
+# How long anything may take, and how much longer than its time a call, in seconds.
+SECONDS, LATER = 20, 5
+# How many tries of a client are made at once.
+LANES = 3
+RESET = struct.pack("ii", 1, 0)
+HOLDS, RESETS = object(), object()
+
+
+def check(found, *wanted):
+    if found not in wanted:
+        raise Wrong(f"{found!r}, not {' or '.join(map(repr, wanted))}")
+
+
+class Client:
+    """A client, as its driver answers for it."""
+
+    def __init__(self, words):
+        self.lines = queue.Queue()
+        self.ran = subprocess.Popen(words, stdin=subprocess.PIPE, stdout=subprocess.PIPE, text=True, bufsize=1, start_new_session=True)
+        threading.Thread(target=self.read, daemon=True).start()
+        kind, *self.can = self.hear().split(" ")
+        check(kind, "can")
+
+    def read(self):
+        for line in self.ran.stdout:
+            self.lines.put(line.rstrip("\n"))
+        self.lines.put(None)
+
+    def hear(self, seconds=SECONDS):
+        try:
+            line = self.lines.get(timeout=seconds)
+        except queue.Empty:
+            raise Wrong(f"the client says nothing for {seconds} s") from None
+        if line is None:
+            raise Wrong("the driver has ended")
+        return line
+
+    def say(self, line, seconds=SECONDS):
+        self.ran.stdin.write(f"{line}\n")
+        return self.hear(seconds)
+
+    def open(self, server, name="-", wait=9000, wanted="opened"):
+        check(self.say(f"open {server.port} {server.name} {wait} {name}"), wanted)
+
+    def call(self, text, *wanted, within=0):
+        begun = time.monotonic()
+        check(self.say(f"call {within} {text}"), *wanted)
+        took = time.monotonic() - begun
+        if within and took > within / 1000 + LATER:
+            raise Wrong(f"a call of {within} ms took {took:.1f} s")
+
+    def ahead(self, *texts, seconds=SECONDS):
+        for line in [f"ahead {len(texts)}", *(f"call 0 {it}" for it in texts)]:
+            self.ran.stdin.write(f"{line}\n")
+        return [self.hear(seconds) for _ in texts]
+
+    def close(self):
+        check(self.say("close"), "closed")
+
+    def end(self):
+        with contextlib.suppress(OSError):
+            self.ran.stdin.close()
+        with contextlib.suppress(subprocess.TimeoutExpired):
+            self.ran.wait(2)
+        with contextlib.suppress(ProcessLookupError):
+            os.killpg(self.ran.pid, signal.SIGKILL)
+        self.ran.wait()
+        self.ran.stdout.close()
+
+
+class Server:
+    """Takes connections, each in a thread, until it is closed."""
+
+    name = "cell"
+
+    def __init__(self):
+        self.faults, self.heard, self.socket, self.open = [], [], socket.create_server(("127.0.0.1", 0)), set()
+        self.port = self.socket.getsockname()[1]
+        threading.Thread(target=self.run, daemon=True).start()
+
+    def run(self):
+        with contextlib.suppress(OSError):
+            for number in range(1000):
+                it = self.socket.accept()[0]
+                it.setsockopt(socket.IPPROTO_TCP, socket.TCP_NODELAY, 1)
+                self.open.add(it)
+                threading.Thread(target=self.served, args=(it, number), daemon=True).start()
+
+    def served(self, it, number):
+        with it, contextlib.suppress(OSError):
+            self.serve(it, number)
+
+    def __enter__(self):
+        return self
+
+    def __exit__(self, kind, *_):
+        with contextlib.suppress(OSError):
+            self.socket.shutdown(socket.SHUT_RDWR)
+        self.socket.close()
+        for it in list(self.open):
+            with contextlib.suppress(OSError):
+                it.shutdown(socket.SHUT_RDWR)
+        if kind is None and self.faults:
+            raise Wrong(f"the server heard {self.faults[0]}")
+
+
+class Listener(Server):
+    """Of each connection it has a list: a line that has to come, and what is sent behind it, at once or byte by byte.
+    After that the connection is closed, reset, or held, as the list's last word says; one that is left is let go."""
+
+    def __init__(self, *connections, pause=None):
+        self.connections, self.pause = connections, pause
+        super().__init__()
+
+    def serve(self, it, number):
+        rows = self.connections[number] if number < len(self.connections) else []
+        lines = it.makefile("rb")
+        for row in rows:
+            if row is HOLDS:
+                while lines.readline():
+                    pass
+                return
+            if row is RESETS:
+                it.setsockopt(socket.SOL_SOCKET, socket.SO_LINGER, RESET)
+                return
+            wanted, sent = row
+            line = lines.readline().decode("ascii", "replace")
+            self.heard.append(line)
+            if line != wanted + "\n":
+                self.faults.append(f"{line!r}, not {wanted!r}, on connection {number + 1}")
+                return
+            for at in range(len(sent)) if self.pause else ():
+                it.sendall(sent[at : at + 1])
+                time.sleep(self.pause)
+            if not self.pause:
+                it.sendall(sent)
+        lines.close()
+
+
+class Meter(Server):
+    """An object with `add`, which replies the sum, as a server serves it: each session with a name has its keys, and a
+    connection is cut behind so many bytes that come (`up`) or go (`down`)."""
+
+    name = "meter"
+
+    def __init__(self, first=1, in_use=0, together=1, stops=False, cuts_all=False):
+        self.sum, self.calls, self.next, self.said, self.in_use, self.together = 0, 0, first, {}, in_use, together
+        self.cut, self.resets, self.lock, self.connections, self.stops, self.cuts_all = None, False, threading.Lock(), 0, stops, cuts_all
+        self.offset = first - 1
+        super().__init__()
+
+    def answer(self, line, named):
+        """The lines that answer this one, and whether there is a session with a name."""
+        words = line.split(" ")
+        if words[:2] == ["open", self.name]:
+            if words[2:3] != ["as"]:
+                return b"opened meter\n", False
+            self.in_use -= 1
+            return (b"no InUse\n" if self.in_use >= 0 else f"opened meter next {self.next}\n".encode()), True
+        if words[0] == "quit":
+            return b"bye\n", named
+        if words[0] == "cancel":
+            return f"cancel {words[1]} Ended\n".encode(), named
+        if words[0] != "call":
+            self.faults.append(repr(line))
+            return b"no BadLine\n", named
+        key = None
+        if words[1].startswith("#"):
+            key, words = int(words[1][1:]), [words[0], *words[2:]]
+        elif named:
+            self.faults.append(f"{line!r}, without a key")
+        if key is not None and key != self.next:
+            if key not in self.said:
+                return b"no BadKey\n", named
+            text, last = self.said[key]
+            return (f"repeat {last}\n".encode() if text == words else b"no KeyReused\n"), named
+        if words[1] != "add":
+            return b"no UnknownOp\n", named
+        self.calls += 1
+        self.sum += int(words[2])
+        last = f"done {self.calls + self.offset} {self.sum}"
+        if key is not None:
+            self.said[key], self.next = (words, last), key + 1
+        return f"accepted {self.calls + self.offset}\n{last}\n".encode(), named
+
+    def serve(self, it, number):
+        rest, named, lines, self.connections = b"", False, [], self.connections + 1
+        while piece := it.recv(4096):
+            with self.lock:
+                is_cut, out = False, b""
+                if self.cuts_all and b"open" not in piece:
+                    return
+                if self.cut and self.cut[0] == "up":
+                    is_cut = len(piece) >= self.cut[1]
+                    piece = piece[: self.cut[1]]
+                    self.cut = None if is_cut else ("up", self.cut[1] - len(piece))
+                *new, rest = (rest + piece).split(b"\n")
+                lines += new
+                # (so many calls have to be sent before one of them is answered)
+                waits = sum(line.startswith(b"call") for line in lines) < self.together and lines[-1:] and lines[-1].startswith(b"call")
+                if waits and not is_cut:
+                    continue
+                for line in lines:
+                    answer, named = self.answer(line.decode("ascii", "replace"), named)
+                    out += answer
+                lines = []
+                # (what was answered does not come, where the connection broke behind a whole line)
+                out = b"" if is_cut else out
+                if self.cut and self.cut[0] == "down" and not is_cut and out:
+                    is_cut = len(out) >= self.cut[1]
+                    out = out[: self.cut[1]]
+                    self.cut = None if is_cut else ("down", self.cut[1] - len(out))
+            if out:
+                it.sendall(out)
+            if is_cut:
+                if self.resets:
+                    it.setsockopt(socket.SOL_SOCKET, socket.SO_LINGER, RESET)
+                return
+            if out.endswith(b"bye\n"):
+                return
+
+
+OPENED = ("open cell", b"opened cell\n")
+QUIT = ("quit", b"bye\n")
+GET = "call get"
+
+
+def opened(key, answer=None):
+    return ("open cell as ann", answer or f"opened cell next {key}\n".encode())
+
+
+# Tries: each has a title, what the client has to be able to, and what is done.
+TRIES = []
+
+
+def attempt(title, *needs):
+    def kept(function):
+        TRIES.append((title, needs, function))
+        return function
+
+    return kept
+
+
+def answered(title, rows, wanted, needs=(), within=0, **options):
+    """A call of `get`, which is answered so."""
+
+    def tried(client):
+        with Listener([OPENED, *rows], **options) as server:
+            client.open(server)
+            client.call("get", wanted, within=within)
+
+    TRIES.append((title, needs, tried))
+
+
+for reply in ("7", "0", "4294967295", "''", "'it''s'", "''''''", "' a  b '", "'%s'" % "".join(map(chr, range(32, 127))).replace("'", "''")):
+    answered(f"a reply {reply[:12]}", [(GET, f"accepted 1\ndone 1 {reply}\n".encode())], f"done {reply}")
+answered("a reply of 1,000 characters", [(GET, b"accepted 1\ndone 1 '" + b"x" * 1000 + b"'\n")], f"done '{'x' * 1000}'")
+answered("a procedure", [(GET, b"accepted 1\ndone 1\n")], "done")
+answered("a number of 64 bits", [(GET, b"accepted 18446744073709551615\ndone 18446744073709551615 5\n")], "done 5")
+for last in ("refused N known", "failed N device", "failed N memory", "failed N damaged", "cancelled N"):
+    answered(last, [(GET, f"accepted 3\n{last}\n".replace("N", "3").encode())], last.replace(" N", ""))
+for word in ("UnknownOp", "BadArgs", "Full", "HistoryFull", "Memory", "Gone", "LineTooLong"):
+    answered(f"no {word}", [(GET, f"no {word}\n".encode())], f"no {word}")
+answered("an answer in pieces", [(GET, b"accepted 12\ndone 12 'a b'\n")], "done 'a b'", pause=0.002)
+answered("the reply of another call", [(GET, b"accepted 12\ndone 1 5\n")], "lost")
+answered("a reply that is none", [(GET, b"accepted 1\ndone 1 x7\n")], "lost", needs=("values",))
+answered("a line that is none", [(GET, b"hello\n"), HOLDS], "lost")
+answered("a line without an end", [(GET, b"a" * 10000), HOLDS], "lost", needs=("within",), within=300)
+for end in ((), (RESETS,)):
+    for sent in (b"accepted 12\ndone 12 34", b"no Full"):
+        for at in range(len(sent) + 1):
+            answered(f"{sent[:at]!r}, and the connection {'is reset' if end else 'ends'}", [(GET, sent[:at]), *end], "lost")
+for kind, rows in (("a cancel that is answered first", [("cancel 1", b"cancel 1 Cancelled\ncancelled 1\n")]),
+                   ("a cancel that is answered behind the last line", [("cancel 1", b"cancelled 1\ncancel 1 Cancelled\n")])):
+    answered(kind, [(GET, b"accepted 1\n"), *rows], "cancelled", needs=("within",), within=100)
+for kind, sent in (("a cancel that came too late", b"cancel 1 Running\ndone 1 5\n"), ("a cancel that crosses `done`", b"done 1 5\ncancel 1 Ended\n")):
+    answered(kind, [(GET, b"accepted 1\n"), ("cancel 1", sent)], "done 5", needs=("within",), within=100)
+answered("silence behind a call", [(GET, b""), HOLDS], "lost", needs=("within",), within=100)
+answered("silence behind a cancel", [(GET, b"accepted 1\n"), ("cancel 1", b""), HOLDS], "lost", needs=("within",), within=100)
+answered("silence behind the answer to a cancel", [(GET, b"accepted 1\n"), ("cancel 1", b"cancel 1 Running\n"), HOLDS], "lost",
+         needs=("within",), within=100)
+answered("the end behind a cancel", [(GET, b"accepted 1\n"), ("cancel 1", b"cancel 1 Cancelled\n")], "lost", needs=("within",), within=100)
+answered("a call that ends in its time", [(GET, b"accepted 1\ndone 1 5\n")], "done 5", needs=("within",), within=3000)
+
+
+@attempt("calls of one session, and its end")
+def _(client):
+    rows = [("call put 'it''s' 7", b"accepted 1\ndone 1\n"), ("call pop", b"no UnknownOp\n"), (GET, b"accepted 2\ndone 2 ''\n")]
+    with Listener([OPENED, *rows, QUIT]) as server:
+        client.open(server)
+        client.call("put 'it''s' 7", "done")
+        client.call("pop", "no UnknownOp")
+        client.call("get", "done ''")
+        client.close()
+        check(server.heard[-1], "quit\n")
+
+
+@attempt("an object that is not there")
+def _(client):
+    with Listener([("open cell", b"no NoObject\n")]) as server:
+        client.open(server, wanted="no NoObject")
+
+
+@attempt("no server")
+def _(client):
+    with Listener() as server:
+        pass
+    client.open(server, wanted="no server", wait=100)
+
+
+@attempt("a server that opens nothing")
+def _(client):
+    with Listener(*[[("open cell", b"opened cell"[:at])] for at in range(100)]) as server:
+        client.open(server, wanted="no server", wait=150)
+
+
+@attempt("a server that is full", "within")
+def _(client):
+    with Listener(*[[("open cell", b""), HOLDS]] * 9) as server:
+        begun = time.monotonic()
+        client.open(server, wanted="no server", wait=150)
+        if time.monotonic() - begun > LATER:
+            raise Wrong(f"it took {time.monotonic() - begun:.1f} s")
+
+
+@attempt("`opened` in pieces")
+def _(client):
+    with Listener([OPENED, (GET, b"accepted 1\ndone 1 5\n")], pause=0.002) as server:
+        client.open(server)
+        client.call("get", "done 5")
+
+
+@attempt("the next call after a lost one")
+def _(client):
+    with Listener([OPENED, (GET, b"accepted 9\n")], [OPENED, (GET, b"accepted 1\ndone 1 5\n"), QUIT]) as server:
+        client.open(server)
+        client.call("get", "lost")
+        client.call("get", "done 5")
+        client.close()
+        check(len(server.heard), 5)
+
+
+@attempt("a call without a name is not sent again")
+def _(client):
+    for cut in [("up", at) for at in (0, 3, 10, 11)] + [("down", at) for at in range(0, 21, 3)]:
+        with Meter() as server:
+            client.open(server)
+            client.call("add 5", "done 5")
+            server.cut = cut
+            client.call("add 5", "lost")
+            if server.calls > 2:
+                raise Wrong(f"it was done {server.calls - 1} times")
+            client.call("add 5", f"done {server.sum + 5}")
+
+
+@attempt("an answer to a cancel that comes late", "within")
+def _(client):
+    rows = [(GET, b"accepted 1\n"), ("cancel 1", b"cancelled 1\n"), (GET, b"cancel 1 Cancelled\naccepted 2\ndone 2 5\n")]
+    with Listener([OPENED, *rows]) as server:
+        client.open(server)
+        client.call("get", "cancelled", within=100)
+        client.call("get", "done 5")
+
+
+@attempt("an `accepted` that comes when the time is over", "within")
+def _(client):
+    class Late(Listener):
+        def serve(self, it, number):
+            lines = it.makefile("rb")
+            rows = ((b"open cell\n", 0, b"opened cell\n"), (b"call get\n", 0.6, b"accepted 1\n"), (b"cancel 1\n", 0, b"cancelled 1\n"))
+            for wanted, wait, sent in rows:
+                line = lines.readline()
+                if line != wanted:
+                    self.faults.append(f"{line!r}, not {wanted!r}")
+                time.sleep(wait)
+                it.sendall(sent)
+
+    with Late() as server:
+        client.open(server)
+        client.call("get", "cancelled", within=200)
+
+
+# With a name.
+
+
+@attempt("keys", "name")
+def _(client):
+    rows = [("call #5 get", b"accepted 9\ndone 9 1\n"), ("call #6 pop", b"no UnknownOp\n"),
+            ("call #6 get", b"accepted 10\nrefused 10 empty\n"), ("call #7 get", b"accepted 11\ncancelled 11\n"), ("call #8 get", b"accepted 12\ndone 12 2\n")]
+    with Listener([opened(5), *rows, QUIT]) as server:
+        client.open(server, "ann")
+        for wanted in ("done 1", "no UnknownOp", "refused empty", "cancelled", "done 2"):
+            client.call("pop" if "Unknown" in wanted else "get", wanted)
+        client.close()
+
+
+def comes_back(title, wanted, *connections, key=5, sent=b"", wait=9000):
+    """A call of a client with a name, whose connection breaks behind the call of this key."""
+
+    @attempt(f"asked again: {title}", "name")
+    def _(client):
+        with Listener([opened(key), (f"call #{key} get", sent)], *connections) as server:
+            client.open(server, "ann", wait)
+            client.call("get", wanted)
+
+
+for said, wanted in (("done 9 34", "done 34"), ("done 9 'it''s'", "done 'it''s'"), ("done 9", "done"), ("refused 9 range", "refused range"),
+                     ("failed 9 device", "failed device"), ("cancelled 9", "cancelled")):
+    comes_back(said, wanted, [opened(6), ("call #5 get", f"repeat {said}\n".encode())])
+comes_back("a call that had not come", "done 34", [opened(5), ("call #5 get", b"accepted 9\ndone 9 34\n")])
+comes_back("a connection that breaks twice", "done 34", [opened(5), ("call #5 get", b"accepted 9\n")],
+           [opened(6), ("call #5 get", b"repeat done 9 34\n")])
+comes_back("a connection that breaks before `opened`", "done 34", [opened(5, b"opened cell ne")], [opened(5, b"no InU")],
+           [opened(6), ("call #5 get", b"repeat done 9 34\n")])
+comes_back("behind `accepted`", "done 34", [opened(6), ("call #5 get", b"repeat done 9 34\n")], sent=b"accepted 9\ndone 9 3")
+comes_back("a server that was started anew", "expired", [opened(1), HOLDS])
+comes_back("a server that may have been started anew, at the first call", "lost", [opened(1), HOLDS], key=1)
+comes_back("a server that has the first call", "done 34", [opened(2), ("call #1 get", b"repeat done 9 34\n")], key=1)
+comes_back("a key that is too far", "expired", [opened(7), HOLDS])
+comes_back("a key that somebody else has used", "expired", [opened(6), ("call #5 get", b"no KeyReused\n")])
+comes_back("a server that is gone", "lost", wait=500)
+comes_back("a server that has not the call, and stops", "no Gone", [opened(5), ("call #5 get", b"no Gone\n")])
+comes_back("a server that has the call, and stops", "lost", [opened(6), ("call #5 get", b"no Gone\n")], wait=500)
+
+
+@attempt("a connection that ended between two calls", "name")
+def _(client):
+    first, rows = [opened(5), ("call #5 get", b"accepted 9\ndone 9 1\n")], [opened(6), ("call #6 get", b"accepted 10\ndone 10 2\n"), QUIT]
+    with Listener(first, rows) as server:
+        client.open(server, "ann")
+        client.call("get", "done 1")
+        time.sleep(0.3)
+        client.call("get", "done 2")
+        client.close()
+
+
+@attempt("a connection that ended between two calls, of a name that has called meanwhile", "name")
+def _(client):
+    first, rows = [opened(5), ("call #5 get", b"accepted 9\ndone 9 1\n")], [opened(8), ("call #8 get", b"accepted 13\ndone 13 2\n"), QUIT]
+    with Listener(first, [opened(8), HOLDS], rows) as server:
+        client.open(server, "ann")
+        client.call("get", "done 1")
+        time.sleep(0.3)
+        client.call("get", "expired")
+        client.call("get", "done 2")
+        client.close()
+
+
+@attempt("a name that is in use for a while", "name")
+def _(client):
+    with Meter(first=3, in_use=4) as server:
+        client.open(server, "ann")
+        client.call("add 5", "done 5")
+        server.in_use, server.cut = 3, ("down", 12)
+        client.call("add 5", "done 10")
+
+
+@attempt("a name that stays in use", "name")
+def _(client):
+    with Meter(in_use=9999) as server:
+        client.open(server, "ann", wait=150, wanted="no InUse")
+
+
+@attempt("a name that is in use when it comes back", "name")
+def _(client):
+    with Meter() as server:
+        client.open(server, "ann", wait=500)
+        client.call("add 5", "done 5")
+        server.in_use, server.cut = 9999, ("down", 12)
+        client.call("add 5", "lost")
+
+
+@attempt("a connection that breaks each time", "name")
+def _(client):
+    with Meter(first=5) as server:
+        client.open(server, "ann")
+        server.cuts_all = True
+        client.call("add 5", "lost")
+        check(server.sum, 0)
+
+
+def cut_at_each_byte(way, size, resets):
+    @attempt(f"a connection that breaks at each byte {way}, {'by a reset' if resets else 'closed'}", "name")
+    def _(client):
+        with Meter(first=10) as server:
+            server.resets = resets
+            client.open(server, "ann")
+            for place in range(size):
+                server.cut = (way, place)
+                client.call("add 5", f"done {5 * (place + 1)}")
+                server.cut = None
+            check(server.calls, size)
+
+
+for resets in (False, True):
+    cut_at_each_byte("up", len("call #99 add 5\n") + 1, resets)
+    cut_at_each_byte("down", len("accepted 99\ndone 99 495\n") + 1, resets)
+
+
+# Sent ahead.
+
+
+@attempt("calls that are sent ahead", "ahead")
+def _(client):
+    with Meter(together=8) as server:
+        client.open(server)
+        check(client.ahead(*["add 5"] * 8), [f"done {5 * it}" for it in range(1, 9)])
+
+
+@attempt("many calls that are sent ahead", "ahead")
+def _(client):
+    with Meter() as server:
+        client.open(server)
+        check(client.ahead(*["add 1"] * 300), [f"done {it}" for it in range(1, 301)])
+
+
+@attempt("a call sent ahead that is not taken", "ahead")
+def _(client):
+    with Meter() as server:
+        client.open(server)
+        check(client.ahead("add 5", "pop", "add 5"), ["done 5", "no UnknownOp", "done 10"])
+
+
+@attempt("calls sent ahead under keys, of which some are not taken", "ahead", "name")
+def _(client):
+    with Meter(together=7) as server:
+        client.open(server, "ann")
+        server.together = 1
+        for _ in range(3):
+            had = server.sum
+            found = client.ahead("add 5", "pop", "add 5", "add 5", "pop", "pop", "add 5")
+            wanted = ["done {}", "no UnknownOp", "done {}", "done {}", "no UnknownOp", "no UnknownOp", "done {}"]
+            numbers = iter(range(had + 5, had + 25, 5))
+            check(found, [it.format(next(numbers)) if "{}" in it else it for it in wanted])
+
+
+@attempt("calls sent ahead without a name, whose connection breaks", "ahead")
+def _(client):
+    with Meter() as server:
+        client.open(server)
+        server.cut = ("down", len("accepted 1\ndone 1 5\naccepted 2\ndone 2 "))
+        found = client.ahead("add 5", "add 5", "add 5")
+        check(found[0], "done 5")
+        check(found[1:], ["lost", "lost"])
+
+
+@attempt("calls sent ahead under keys, over a connection that breaks", "ahead", "name")
+def _(client):
+    with Meter(first=10) as server:
+        client.open(server, "ann")
+        for turn in range(40):
+            server.resets, server.cut = turn % 4 > 1, (("up", "down")[turn % 2], turn * 5)
+            check(client.ahead(*["add 5"] * 10), [f"done {5 * (10 * turn + it)}" for it in range(1, 11)])
+            server.cut = None
+        check(server.calls, 400)
+
+
+# The clients of the repository.
+
+
+class Crew:
+    """Clients of one kind, each of which does one try at a time."""
+
+    def __init__(self, name, words, build=()):
+        self.name, self.words, self.build, self.idle, self.made = name, list(map(str, words)), build, queue.LifoQueue(), []
+
+    def one(self, work):
+        """Has a client do this. One that did wrong is put away."""
+        try:
+            client = self.idle.get_nowait()
+        except queue.Empty:
+            client = Client(self.words)
+            self.made.append(client)
+        try:
+            came = work(client)
+            self.idle.put(client)
+            return came
+        except Exception:
+            client.end()
+            raise
+
+    def end(self):
+        for it in self.made:
+            it.end()
+
+    def tries(self):
+        """What came of each try: a title, and what is wrong."""
+        if self.build:
+            ran = subprocess.run(self.build, capture_output=True, text=True, timeout=10 * SECONDS, check=False)
+            if ran.returncode or ran.stderr:
+                return [(f"{self.name}: it is built", ran.stdout + ran.stderr)]
+        can = self.one(lambda client: client.can)
+        mine = [it for it in TRIES if set(it[1]) <= set(can)]
+        lacking = sorted({word for _, needs, _ in TRIES for word in needs} - set(can))
+        if lacking:
+            print(f"{self.name}: {len(TRIES) - len(mine)} tries left out, for want of {' '.join(lacking)}")
+
+        def tried(it):
+            try:
+                self.one(it[2])
+                return it[0], None
+            except Exception as error:  # whatever a client does wrong is told, and the others are tried
+                return it[0], f"{type(error).__name__}: {str(error)[:600]}"
+
+        with concurrent.futures.ThreadPoolExecutor(LANES) as lanes:
+            # (those that wait for a time first)
+            found = list(lanes.map(tried, sorted(mine, key=lambda it: "within" not in it[1])))
+        return [(f"{self.name}: {title}", fault) for title, fault in found]
+
+
+def clients(room):
+    """The clients of the repository, as the tools are there to run them."""
+    drive = ["env", f"PYTHONPATH={TOP / 'clients' / 'python'}", sys.executable, DRIVERS / "drive.py"]
+    found = [Crew("Python", drive), Crew("asyncio", [*drive, "aio"])]
+    if not lacks("node"):
+        found.append(Crew("Node", ["node", DRIVERS / "drive.mjs"]))
+    if not lacks("javac"):
+        # (a machine that starts at once, and takes little of the others)
+        fast = ["-XX:TieredStopAtLevel=1", "-XX:+UseSerialGC"]
+        sources = [TOP / "clients" / "java" / "PathClient.java", DRIVERS / "Drive.java"]
+        build = ["javac", *(f"-J{it}" for it in fast), "-Xlint:all", "-Werror", "-d", room, *sources]
+        # (what takes longest comes first)
+        found.insert(0, Crew("Java", ["java", *fast, "-cp", room, "Drive"], build))
+    if not lacks("cc"):
+        build = ["cc", "-Wall", "-Wextra", "-Werror", "-o", room / "client", TOP / "examples" / "clients" / "client.c"]
+        found.append(Crew("C", [sys.executable, DRIVERS / "drive_c.py", room / "client"], build))
+    return found
+
+
+METER = """object meter;
+  path 1:(add, [total]) end;
+  var v : array [1] of integer;
+  entry function add(x : integer) : integer; begin v[0] := v[0] + x; add := v[0] end;
+  entry function total : integer; begin total := v[0] end;
+end;
+"""
+# How often the server is killed while clients add 1, and how often each does at least. A start may take long on a machine
+# that has much else to do.
+KILLS, ADDS, PATIENCE = 4, 30, 60
+
+
+def live(crews, room):
+    """All clients at once over `pathserve keep` at a socket, which is killed meanwhile: nothing that was answered is lost,
+    and under a name no call is done twice."""
+    server = kept.Server(room, METER, at_path=True)
+    server.start()
+    sure, unsure, faults, had, is_over = collections.Counter(), collections.Counter(), [], set(), threading.Event()
+
+    def work(crew, client):
+        named = "name" in client.can
+        while client.say(f"open {server.place} meter {500 * PATIENCE} {crew.name.lower() if named else '-'}") == "no server":
+            time.sleep(0.01)
+        # (the first call of a session is one that may be done twice)
+        while not client.say("call 0 total", PATIENCE).startswith("done "):
+            time.sleep(0.01)
+        for turn in itertools.count():
+            if turn >= ADDS and is_over.is_set():
+                break
+            if turn % 3 == 0 and "ahead" in client.can:
+                said = client.ahead(*["add 1"] * 5, seconds=PATIENCE)
+            else:
+                said = [client.say("call 0 add 1", PATIENCE)]
+            for it in said:
+                if it.startswith("done ") and it not in had:
+                    had.add(it)
+                    sure[crew.name] += 1
+                elif it == "lost" and not named:
+                    unsure[crew.name] += 1
+                elif it == "no server" and not named:
+                    time.sleep(0.01)
+                else:
+                    raise Wrong(f"{crew.name}: {it!r}")
+        client.close()
+
+    def worked(crew):
+        try:
+            crew.one(lambda client: work(crew, client))
+        except Exception as error:
+            faults.append(f"{type(error).__name__}: {error}")
+
+    def killed():
+        for _ in range(KILLS):
+            time.sleep(random.uniform(0.3, 0.7))
+            server.kill()
+            server.start()
+        is_over.set()
+
+    threads = [threading.Thread(target=worked, args=(it,), daemon=True) for it in crews]
+    killer = threading.Thread(target=killed, daemon=True)
+    for it in [*threads, killer]:
+        it.start()
+    for it in [*threads, killer]:
+        it.join(3 * PATIENCE)
+    try:
+        if faults or any(it.is_alive() for it in threads):
+            raise Wrong("; ".join(faults) or "a client does not end")
+        total = int(server.replies("meter", "total")[0].split(" ")[1])
+        if not sure.total() <= total <= sure.total() + unsure.total():
+            raise Wrong(f"{sure.total()} were answered, {unsure.total()} lost, and {total} done")
+        server.end()
+        server.is_whole("meter")
+        counts = ", ".join(f"{name} {count}" for name, count in sorted(sure.items()))
+        print(f"over {KILLS} kills: {counts} calls, {unsure.total()} of C lost")
+    finally:
+        with contextlib.suppress(OSError):
+            server.kill()
+
+
+def main():
+    words = sys.argv[1:]
+    is_own = bool(words) and words[0] != "--program"
+    if words[:1] == ["--help"]:
+        print(__doc__)
+        return 0
+    if not is_own:
+        if given_words():
+            print(__doc__, file=sys.stderr)
+            return 2
+    with tempfile.TemporaryDirectory(prefix="client-") as room:
+        room = pathlib.Path(room)
+        if is_own and not shutil.which(words[0]):
+            print(f"not run: {words[0]}")
+            return 2
+        crews = [Crew(pathlib.Path(words[0]).name, words)] if is_own else clients(room)
+        try:
+            with concurrent.futures.ThreadPoolExecutor(len(crews)) as pool:
+                found = [it for crew in pool.map(Crew.tries, crews) for it in crew]
+            if not is_own:
+                try:
+                    live(crews, room)
+                    found.append(("live", None))
+                except Exception as error:
+                    found.append((live.__doc__, f"{type(error).__name__}: {error}"))
+        finally:
+            for it in crews:
+                it.end()
+    wrong = [it for it in found if it[1]]
+    for title, fault in wrong:
+        print(f"{title}: {fault}")
+    print(f"try_client: {len(found) - len(wrong)} passed, {len(wrong)} failed")
+    return 1 if wrong or not found else 0
+
+
+load_tests = whole(main)

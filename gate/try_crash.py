@@ -1,0 +1,384 @@
+"""Kills `pathserve keep` by `kill -9` at drawn moments, under clients with names, or takes its power, and looks what is
+there afterwards; and tries what a start does with a folder.
+
+usage: gate/try_crash [--program FILE] [--kills N] [--seed N] [WORDS OF A TITLE ..]
+
+64 clients call three objects: a counter that tells each number once, a ledger of transfers, and a buffer whose paths
+count what was put and got. Each call has a key; a client says up to 16 calls ahead, hangs up now and then, and where
+its connection breaks it comes back by its name and asks again for what has no answer. Some kills come within a start.
+After N kills (10 where no number is given) no answered call is lost, none was done twice, each has the reply that it
+has in the order of the numbers of calls, no number was told twice, what is got comes in the order in which it was put,
+and `pathserve audit FILE DIR` finds the folder whole.
+
+Half as often a loss of power is worked out (gate/fail.c, gate/losing.py): what no sync has stored may be gone, also in
+part. With `--sync always` nothing is lost then; with `--sync 100` no more than what was answered in the last 100 ms,
+and what is there has no gap.
+
+The program is the one that ./pathserve runs, or FILE. The last line is `try_crash: N passed, M failed`; the exit status
+is 0 where M is 0 and N is not.
+"""
+import contextlib
+import random
+import shutil
+import socket
+import struct
+import subprocess
+import threading
+import time
+
+from gate import crowd, kept, losing
+from gate.crowd import NAMES, SOURCE, Crowd
+from gate.kept import SECONDS, Talk
+from gate.served import free_port
+from gate.tried import Wrong, check, given_words, holds, loads, program
+
+CLIENTS = 64
+# A server is killed after so long, in seconds; where it is a start that is killed, after so long.
+LIVES, STARTS = (0.01, 0.3), (0.0, 0.06)
+# What may be lost with `--sync 100`, and how much later an answer may be noted on a busy machine, in seconds.
+LOSSES, LATE = 0.1, 0.15
+
+
+class Server(kept.Server):
+    def __init__(self, folder, *words, source=SOURCE, **more):
+        super().__init__(folder, source, *words, **more)
+
+
+def crashed(server, kills, draw, may_lose=None, lose=None):
+    """Kills a server under its clients, so often, and judges what they were answered. `lose` takes its power."""
+    crowd.fill_ledger(server)
+    clients = Crowd(server, CLIENTS, draw, may_lose)
+    try:
+        for _ in range(kills):
+            clients.run(draw.uniform(*LIVES), hangs_up=20)
+            server.kill()
+            clients.killed()
+            if lose:
+                lose()
+            if draw.random() < 0.2:
+                server.begin()
+                time.sleep(draw.uniform(*STARTS))
+                server.kill()
+                if lose:
+                    lose()
+            server.start()
+        clients.run(0.2)
+        clients.settle()
+    finally:
+        clients.close()
+    calls = crowd.are_right(server, clients)
+    holds(all(client.done for client in clients.clients), "a client was never answered")
+    server.is_whole(*NAMES)
+    check(server.end()[1], 0, "the status")
+    server.is_whole(*NAMES)
+    return calls
+
+
+def answered_calls_are_kept(folder, kills, seed):
+    """No answered call is lost, and none is done twice."""
+    server = Server(folder)
+    server.start()
+    calls = crashed(server, kills, random.Random(seed))
+    print(f"{kills} kills, {calls} calls")
+
+
+def answered_calls_are_kept_where_syncs_are_late(folder, kills, seed):
+    """The same with `--sync 100`: what is killed is the server, and not the machine."""
+    server = Server(folder, "--sync", "100", at_path=True)
+    server.start()
+    calls = crashed(server, kills, random.Random(seed + 1))
+    print(f"{kills} kills, {calls} calls")
+
+
+def powered_down(folder, kills, seed, *words, may_lose=None):
+    library, log = losing.build(folder), folder / "log"
+    env = {"LD_PRELOAD": str(library), "LOSE_FROM": str(folder / "kept"), "LOSE_LOG": str(log)}
+    server, draw = Server(folder, *words, env=env, at_path=True), random.Random(seed + 2)
+    disk = [losing.Disk(server.folder)]
+
+    def lose():
+        disk[0].lose(log, draw)
+        disk[0] = losing.Disk(server.folder)
+
+    server.start()
+    calls = crashed(server, kills, draw, may_lose, lose)
+    print(f"{kills} losses of power, {calls} calls")
+
+
+def answered_calls_outlive_a_loss_of_power(folder, kills, seed):
+    """What was answered was stored: nothing is lost where what no sync has stored is."""
+    if shutil.which("cc"):
+        powered_down(folder, (kills + 1) // 2, seed)
+
+
+def a_loss_of_power_takes_what_was_answered_last(folder, kills, seed):
+    """With `--sync 100` no more is lost than what was answered in the last 100 ms."""
+    if shutil.which("cc"):
+        powered_down(folder, (kills + 1) // 2, seed, "--sync", "100", may_lose=LOSSES + LATE)
+
+
+def what_was_answered_is_there_at_once(folder, **_):
+    """After an answer the next one to start has what was put, its number, its key and its paths' counts."""
+    server = Server(folder)
+    server.start()
+    check(server.says("open buffer as ann", "call put 'a'", "call put 'b'")[:5],
+          ["opened buffer next 1", "accepted 1", "done 1", "accepted 2", "done 2"])
+    server.kill()
+    server.start()
+    found = server.says("open buffer as ann", "call #2 put 'b'", "call #2 put 'c'", "call get")
+    check(found[:3], ["opened buffer next 3", "repeat done 2", "no KeyReused"])
+    check(found[4].split(" ")[2], "'a'")
+    server.end()
+
+
+def a_second_server_is_refused(folder, **_):
+    """While a folder is kept nobody else keeps or serves it; afterwards `serve` refuses it, and nothing is changed."""
+    server = Server(folder)
+    server.start()
+    server.says("open counter", "call add 7")
+    check(server.refused()[1], 3, "the status of a second server")
+    check(server.end(), ("counter entries 1\nledger entries 0\nbuffer entries 0\necho entries 0\n", 0))
+    before = {it.name: it.read_bytes() for it in server.folder.iterdir()}
+    words = [program(), "serve", server.file, server.folder, str(free_port())]
+    ran = subprocess.run(words, stdin=subprocess.DEVNULL, capture_output=True, timeout=SECONDS)
+    check((ran.stdout.decode(), ran.returncode), (f"{server.folder} is kept: use pathserve keep\n", 1))
+    check({it.name: it.read_bytes() for it in server.folder.iterdir()}, before, "the folder")
+
+
+def a_journal_that_was_changed_is_refused(folder, **_):
+    """A journal in which a byte is spoilt is refused, with its line, and nothing is changed."""
+    server = Server(folder)
+    server.start()
+    server.says("open counter", "call add 7")
+    server.kill()
+    journal = server.folder / "counter.journal"
+    text = journal.read_bytes()
+    journal.write_bytes(text.replace(b"end 1 done", b"end 1 dune"))
+    said, status = server.refused()
+    if status != 1 or "counter.journal" not in said:
+        raise Wrong(f"status {status}: {said!r}")
+    check(journal.read_bytes(), text.replace(b"end 1 done", b"end 1 dune"), "the journal")
+    journal.write_bytes(text)
+    server.start()
+    check(server.says("open counter", "call read")[-2].split(" ")[2], "7")
+    server.end()
+
+
+def another_object_does_not_go_on(folder, **_):
+    """Behind a crash an object that was changed is refused; behind an ordered end it goes on."""
+    server = Server(folder)
+    server.start()
+    server.says("open counter", "call add 7")
+    server.kill()
+    changed = SOURCE.replace("v[0] := v[0] + x", "v[0] := x")
+    server.file.write_text(changed, encoding="ascii")
+    check(server.refused(), ("object counter was changed: start the old FILE once\n", 1))
+    server.file.write_text(SOURCE, encoding="ascii")
+    server.start()
+    server.kill()
+    server.file.write_text(changed, encoding="ascii")
+    server.start()
+    check(server.says("open counter", "call read")[-2].split(" ")[2], "7")
+    server.end()
+
+
+def parts_of_before_are_taken(folder, **_):
+    """A folder of `serve` gives the values of its parts; but where a path has a `;` nobody knows what it counted."""
+    server = Server(folder, source=SOURCE.split("object buffer")[0])
+    (server.folder / "counter.v.part").write_bytes(bytes([2, 1, 0, 1, 0, 0, 0, 9]))
+    server.start()
+    check(server.says("open counter", "call read")[-2], "done 1 9")
+    server.end()
+    other = folder / "other"
+    other.mkdir()
+    server = Server(other)
+    (server.folder / "buffer.b.part").write_bytes(bytes([2, 4, 0, 0]))
+    check(server.refused(), ("object buffer past is not known\n", 1))
+
+
+def calls_wait_and_are_cancelled(folder, **_):
+    """A call waits until its paths admit it, over starts of epochs and cancels; lines behind it are held, but for
+    `cancel`."""
+    server = Server(folder)
+    server.start()
+    ann, bob = Talk(server), Talk(server)
+    ann.say("open buffer as ann", "call get", "call size")
+    ann.hears("opened buffer next 1", "accepted 1")
+    bob.say("open buffer", "call put 'x'")
+    bob.hears("opened buffer", "accepted 2", "done 2")
+    ann.hears("done 1 'x'", "accepted 3", "done 3 0")
+    ann.say("call #3 get", "cancel 2", "cancel 4", "call #3 get", "cancel 9")
+    ann.hears("accepted 4", "cancel 2 Ended", "cancel 4 Cancelled", "cancelled 4", "repeat cancelled 4")
+    ann.hears("cancel 9 Unknown")
+    bob.say("call get")
+    bob.hears("accepted 5")
+    bob.close()
+    ann.say("call get", "call put 'z'")
+    ann.hears("accepted 6")
+    ann.close()
+    time.sleep(0.2)
+    # A call that was sent behind one that waits is not done.
+    found = server.says("open buffer as ann", "call #4 get", "call size")[:2]
+    check(found, ["opened buffer next 5", "repeat cancelled 6"])
+    server.kill()
+    server.start()
+    check(server.says("open buffer as ann", "call #4 get")[:2], ["opened buffer next 6", "repeat cancelled 6"])
+    server.end()
+
+
+def many_lines_are_held(folder, **_):
+    """Of who sends on behind a waiting call 64 KiB are held, and no more is read; all of it is done once the call has
+    ended."""
+    server = Server(folder)
+    server.start()
+    ann, bob, calls = Talk(server), Talk(server), 20_000
+    ann.say("open buffer", "call get")
+    ann.hears("opened buffer", "accepted 1")
+    saying = threading.Thread(target=shouting, args=(ann, "call size", calls))
+    saying.start()
+    time.sleep(0.5)
+    bob.say("open buffer", "call put 'x'")
+    bob.hears("opened buffer", "accepted 2", "done 2")
+    ann.hears("done 1 'x'")
+    for number in range(3, calls + 3):
+        ann.hears(f"accepted {number}", f"done {number} 0")
+    saying.join()
+    ann.close()
+    bob.close()
+    server.end()
+
+
+def an_epoch_follows_another(folder, **_):
+    """After 60,000 calls the journal begins anew, and nothing else changes; who does not read is not read."""
+    server = Server(folder, "--sync", "50")
+    server.start()
+    calls = 61_000
+    eve = Talk(server)
+    eve.say("open counter as eve")
+    eve.hears("opened counter next 1")
+    saying = threading.Thread(target=lambda: eve.say(*["call add 1"] * calls))
+    saying.start()
+    time.sleep(1)
+    for number in range(1, calls + 1):
+        eve.hears(f"accepted {number}", f"done {number}")
+    saying.join()
+    eve.close()
+    time.sleep(0.3)
+    server.kill()
+    if b"object counter epoch 2\n" not in (server.folder / "counter.journal").read_bytes()[:64]:
+        raise Wrong("the journal has not begun anew")
+    server.start()
+    found = server.says("open counter as eve", f"call #{calls} add 1", "call read")[:2]
+    check(found, [f"opened counter next {calls + 1}", f"repeat done {calls}"])
+    check(server.says("open counter", "call read")[-2].split(" ")[2], str(calls))
+    server.end()
+    check(server.audit()[1], 0, "the audit")
+
+
+def a_call_waits_over_an_epoch(folder, **_):
+    """Calls that wait when a journal begins anew keep their numbers: they are cancelled by them, done, and known behind
+    a start."""
+    source = """object mixed;
+  path 1:(put; get) end;
+  path 1:(put, get, [say]) end;
+  var b : queue of text;
+  entry procedure put(x : text); begin append(b, x) end;
+  entry function get : text; begin get := first(b); take(b) end;
+  entry function say(x : text) : text; begin say := x end;
+end;
+"""
+    server = Server(folder, source=source, at_path=True)
+    server.start()
+    ann = Talk(server, "open mixed as ann", "opened mixed next 1")
+    bob, cid = Talk(server, "open mixed", "opened mixed"), Talk(server, "open mixed as cid", "opened mixed next 1")
+    for at, it in enumerate((ann, bob, cid), 1):
+        it.say("call get", "call say 'held'")
+        it.hears(f"accepted {at}")
+    epochs = lambda: int((server.folder / "mixed.journal").read_bytes()[:64].split(b"\n")[0].split(b" ")[3])
+    with Talk(server, "open mixed", "opened mixed") as it:
+        for turn in range(2):
+            begun = epochs()
+            while epochs() == begun:
+                check(it.calls(*[f"say '{crowd.LONG}'"] * 100), [f"done '{crowd.LONG}'"] * 100)
+        check([found for number in (0, 2, 3) if (found := it.say(f"cancel {number}") or it.hear())],
+              ["cancel 0 Unknown", "cancel 2 Cancelled", "cancel 3 Cancelled"])
+        it.say("cancel 2")
+        it.hears("cancel 2 Ended")
+    bob.hears("cancelled 2")
+    cid.hears("cancelled 3")
+    holds(bob.hear().startswith("accepted ") and bob.hear().endswith(" 'held'"), "what was held is not done")
+    check(server.replies("mixed", "put 'x'"), ["done"])
+    ann.hears("done 1 'x'")
+    holds(ann.hear().startswith("accepted ") and ann.hear().endswith(" 'held'"), "what was held is not done")
+    server.kill()
+    server.start()
+    check(server.says("open mixed as ann", "call #1 get")[:2], ["opened mixed next 3", "repeat done 1 'x'"])
+    check(server.says("open mixed as cid", "call #1 get")[:2], ["opened mixed next 3", "repeat cancelled 3"])
+    server.end()
+    server.is_whole("mixed")
+
+
+def who_does_not_read_is_not_read(folder, **_):
+    """Of a client that takes no answers no more is read: others are served, memory is bounded, and its answers are
+    whole."""
+    server = Server(folder, "--sync", "1000")
+    server.start()
+    calls, text = 12_000, "x" * 1000
+    deaf, gone = Talk(server), Talk(server)
+    for it in (deaf, gone):
+        it.say("open echo")
+        it.hears("opened echo")
+    saying = [threading.Thread(target=shouting, args=(it, f"call say '{text}'", calls)) for it in (deaf, gone)]
+    for it in saying:
+        it.start()
+    time.sleep(1)
+    check(server.says("open counter", "call add 1")[-2], "done 1")
+    memory = server.memory("VmHWM")
+    holds(memory <= 100_000, f"the server has {memory} KiB")
+    # One of them breaks off.
+    gone.socket.setsockopt(socket.SOL_SOCKET, socket.SO_LINGER, struct.pack("ii", 1, 0))
+    gone.socket.shutdown(socket.SHUT_RDWR)
+    gone.close()
+    found = 0
+    while found < calls:
+        line = deaf.stream.readline().decode()
+        if line.startswith("done "):
+            found += 1
+            check(line.split(" ")[2], f"'{text}'\n")
+    deaf.close()
+    for it in saying:
+        it.join()
+    server.end()
+
+
+def shouting(talk, line, count):
+    """Says a line so often, as long as the connection stands."""
+    with contextlib.suppress(OSError):
+        for _ in range(count):
+            talk.say(line)
+
+
+TRIALS = (
+    who_does_not_read_is_not_read,
+    many_lines_are_held,
+    calls_wait_and_are_cancelled,
+    a_call_waits_over_an_epoch,
+    an_epoch_follows_another,
+    what_was_answered_is_there_at_once,
+    a_second_server_is_refused,
+    a_journal_that_was_changed_is_refused,
+    another_object_does_not_go_on,
+    parts_of_before_are_taken,
+    answered_calls_are_kept,
+    answered_calls_are_kept_where_syncs_are_late,
+    answered_calls_outlive_a_loss_of_power,
+    a_loss_of_power_takes_what_was_answered_last,
+)
+
+
+def main():
+    given, words = kept.options(given_words(), kills=10, seed=1)
+    return kept.run("try_crash", TRIALS, words, **given)
+
+
+load_tests = loads(lambda: kept.trials_of("try_crash", TRIALS, kills=10, seed=1))

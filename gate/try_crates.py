@@ -1,0 +1,143 @@
+"""Looks whether crates.txt and the folders of crates/ agree, whether each crate names what it is said to stand on, and
+whether each type has a name of its own.
+
+usage: gate/try_crates
+
+Each crate has a line, and a folder with its root file; each word behind the colon of a line stands as a word in a file of
+that crate's src/, specs/ or proofs/. A name of a struct, an enum, a trait or a type in src/ stands once in the
+repository. gate/type_names.txt has those that do not, each with its crates, one that has it twice told twice. That list
+may only shrink: what is not in it fails, and so does what is in it and is so no more. Then small repositories are
+looked at in which this is not so.
+
+The last line is `try_crates: N passed, M failed`; the exit status is 0 where M is 0 and N is not.
+"""
+import collections
+import pathlib
+import re
+import sys
+import tempfile
+
+from gate.tried import TOP, whole
+from tools import repository
+
+WORD = re.compile(r"\w+")
+ROOTS = ("src/lib.rt", "src/main.rt")
+TYPE = re.compile(r"^(?:pub(?:\([\w ]+\))? )?(?:struct|enum|trait|type|union) (\w+)", re.M)
+NAMES = "gate/type_names.txt"
+
+
+def words_in(folder):
+    """The words of all that a proof of the crate in this folder reads."""
+    files = [it for part in repository.PARTS for it in repository.files(folder / part)]
+    return {word for it in files for word in WORD.findall(it.read_text(encoding="utf-8"))}
+
+
+def faults_of(name, line, folder):
+    """What is wrong with the line of a crate whose folder is this one."""
+    if not any((folder / it).is_file() for it in ROOTS):
+        return [f"crates.txt has {name}, and there is no crates/{name} with {' or '.join(ROOTS)}"]
+    found = words_in(folder)
+    uses = line.partition(":")[2].replace(",", " ").split()
+    return [f"crates.txt has {name} stand on {it}, which {name} never names" for it in uses if it not in found]
+
+
+def types_in(top, lines):
+    """The names of the types of the crates, each with the crates that declare it, one as often as it does."""
+    found = collections.defaultdict(collections.Counter)
+    for crate in lines:
+        for file in (it for it in repository.files(top / "crates" / crate / "src") if it.suffix == ".rt"):
+            for name in TYPE.findall(file.read_text(encoding="utf-8")):
+                found[name][crate] += 1
+    return found
+
+
+def names_told(top):
+    """The names that stand several times, as the list has them."""
+    rows = (top / NAMES).read_text(encoding="utf-8").splitlines() if (top / NAMES).exists() else []
+    rows = [it.partition(":") for it in rows if it.strip() and not it.startswith("#")]
+    return {name: collections.Counter(crates.split()) for name, _, crates in rows}
+
+
+def faults_of_type(name, found, told):
+    """What is wrong with a type's name, by the crates that declare it and those that the list has."""
+    new, gone, count = found - told, told - found, sum(found.values())
+    if count < 2:
+        return [f"{name} stands once: take its line out of {NAMES}"] if told else []
+    if new and not told:
+        return [f"{name} names several types, in {', '.join(sorted(found.elements()))}: give each a name of its own"]
+    said = [f"{name} names one more type, in {it}: give it a name of its own" for it in sorted(new.elements())]
+    return said + [f"{name} names a type of {it} no more: take {it} out of its line in {NAMES}" for it in sorted(gone.elements())]
+
+
+def faults_in(top):
+    """What is wrong with the crates of the repository at this folder and its types, by their names."""
+    lines = repository.crates(top)
+    said = {name: faults_of(name, line, top / "crates" / name) for name, line in lines.items()}
+    for it in sorted((top / "crates").iterdir()):
+        # What was built of a crate may outlive it.
+        if it.is_dir() and it.name not in lines and any(at.name != "out" for at in it.iterdir()):
+            said[it.name] = [f"crates.txt has no line for crates/{it.name}"]
+    found, told = types_in(top, lines), names_told(top)
+    for name in sorted({*found, *told}):
+        said[f"the type {name}"] = faults_of_type(name, found[name], told.get(name, collections.Counter()))
+    return said
+
+
+# What is spoilt in a small repository, its crates.txt, and what has to be said.
+FILES = {"low/src/lib.rt": "pub fn one() {}", "top/src/main.rt": "use low::one;", "top/proofs/Lib.antt": "import std"}
+TYPES = {
+    "low/src/lib.rt": "pub fn one() {}\npub struct Row {\n}\n// struct Path\n",
+    "low/src/more.rt": "pub(crate) enum Row<'a> {}\n    type Item = Row;\n",
+    "top/src/main.rt": "use low::one;\ntrait Row {}\npub struct Path(u8);\nfn rows() {}\n",
+}
+SPOILT = (
+    ("nothing", FILES, "low:\ntop: low std\n", []),
+    ("a crate that is not named", FILES, "low:\ntop: low std regex\n", ["crates.txt has top stand on regex, which top never names"]),
+    ("a part of a word", {**FILES, "top/src/main.rt": "use lower::one;"}, "low:\ntop: low\n",
+     ["crates.txt has top stand on low, which top never names"]),
+    ("a file that no proof reads", {**FILES, "top/wrong-bodies/it.edit": "old: regex"}, "low:\ntop: low regex\n",
+     ["crates.txt has top stand on regex, which top never names"]),
+    ("a folder that is missing", FILES, "low:\ntop: low\ntop_vectors: low\n",
+     ["crates.txt has top_vectors, and there is no crates/top_vectors with src/lib.rt or src/main.rt"]),
+    ("a line that is missing", FILES, "top: low std\n", ["crates.txt has no line for crates/low"]),
+    ("what was built of a crate that is gone", {**FILES, "gone/out/log": ""}, "low:\ntop: low\n", []),
+    *(
+        (what, {**FILES, **TYPES, f"../{NAMES}": told}, "low:\ntop: low\n", wanted)
+        for what, told, wanted in (
+            ("types that are told", "# Row\n\nRow: low low top\n", []),
+            ("types that are not told", "", ["Row names several types, in low, low, top: give each a name of its own"]),
+            ("one type more", "Row: low top\n", ["Row names one more type, in low: give it a name of its own"]),
+            ("one type less", "Row: low low low top\n", [f"Row names a type of low no more: take low out of its line in {NAMES}"]),
+            ("a type that stands once", "Row: low low top\nPath: top\n", [f"Path stands once: take its line out of {NAMES}"]),
+            ("a type that is gone", "Row: low low top\nTree: low top\n", [f"Tree stands once: take its line out of {NAMES}"]),
+        )
+    ),
+)
+
+
+def spoilt_faults(files, lines):
+    """What is said of a small repository."""
+    with tempfile.TemporaryDirectory(prefix="crates-") as folder:
+        top = pathlib.Path(folder)
+        for name, text in {**{f"crates/{it}": text for it, text in files.items()}, "crates.txt": lines}.items():
+            (top / name).parent.mkdir(parents=True, exist_ok=True)
+            (top / name).write_text(text, encoding="utf-8")
+        return [line for said in faults_in(top).values() for line in said]
+
+
+def main():
+    if sys.argv[1:]:
+        print(__doc__, file=sys.stderr)
+        return 2
+    said = faults_in(TOP)
+    for what, files, lines, wanted in SPOILT:
+        found = spoilt_faults(files, lines)
+        said[what] = [] if found == wanted else [f"of a small repository with {what} is said {found}, and not {wanted}"]
+    for line in (line for lines in said.values() for line in lines):
+        print(line)
+    failed = sum(bool(it) for it in said.values())
+    print(f"try_crates: {len(said) - failed} passed, {failed} failed")
+    return 1 if failed else 0
+
+
+load_tests = whole(main)

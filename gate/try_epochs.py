@@ -1,0 +1,258 @@
+"""Audits folders of kept objects, as `pathserve audit FILE DIR` does: chains of epochs that are whole, and each kind of fault.
+
+usage: gate/try_epochs [--program FILE]
+
+A row says which files lie in the folder, and what standard output and standard error get. What is expected comes from docs/FORMATS.md and
+docs/AUDIT.md. The numbers of the declarations, which the line `source` of a front has, are those of examples/objects/cell.pp and of SLOT;
+the rows on a changed declaration show that they are those.
+
+The program is the one that ./pathserve runs, or FILE. The last line is `try_epochs: N passed, M failed`; the exit status is 0
+where M is 0 and N is not.
+"""
+import pathlib
+import subprocess
+import tempfile
+
+from gate.tried import TOP, given_words, program, whole
+
+CELL = TOP / "examples/objects/cell.pp"
+SOURCE = "709919887b5d0865"
+
+
+def front(epoch, value, base, more="", past="", source=SOURCE, name="cell"):
+    """The text of a front of the object: its epoch, value and base, the lines of its past, and those behind the base."""
+    return f"object {name} epoch {epoch}\nsource {source}\npart v 02010001{value:08x}\n{past}base {base}\n{more}"
+
+
+ONE = front(1, 0, 0) + "name s1 ann\nstart 1 s1 put 7\nend 1 done\nstart 2 s2 bump 5\nend 2 done\n"
+KEPT = "kept s1 1 1 done put 7\n"
+TWO = front(2, 12, 2, "client s1 ann 1\n" + KEPT) + "start 1 s1 get\nend 1 done 12\n"
+# Two clients, each of which has used one key; a front may keep fewer calls of a client than it has made.
+BOTH = "client s1 ann 1\nclient s2 bob 1\n"
+KEPT_TWO = KEPT + "kept s1 2 3 done 12 get\n"
+THREE = front(3, 12, 3, "client s1 ann 2\n" + KEPT_TWO)
+ZEROS = "\0" * 40
+
+# A title, the files, standard output, standard error.
+ROWS = [
+    ("one epoch", {"cell.journal": ONE + ZEROS}, "cell epochs 1 entries 2 whole", ""),
+    ("no calls", {"cell.journal": front(1, 0, 0) + ZEROS}, "cell epochs 1 entries 0 whole", ""),
+    ("three epochs", {"cell.000001.trace": ONE, "cell.000002.trace": TWO, "cell.journal": THREE + ZEROS},
+     "cell epochs 3 entries 3 whole", ""),
+    ("the oldest are gone", {"cell.000002.trace": TWO, "cell.journal": THREE + ZEROS}, "cell epochs 2 entries 1 whole", ""),
+    ("what lies before a gap is not looked at", {"cell.000001.trace": "rubbish", "cell.journal": THREE + ZEROS},
+     "cell epochs 1 entries 0 whole", ""),
+    ("an ended epoch that was not cut to its lines", {"cell.000001.trace": ONE + ZEROS, "cell.journal": TWO + ZEROS},
+     "cell epochs 2 entries 3 whole", ""),
+    ("a second name of the epoch that goes on", {"cell.000002.trace": TWO, "cell.000003.trace": THREE + ZEROS, "cell.journal": THREE + ZEROS},
+     "cell epochs 2 entries 1 whole", ""),
+    ("a number of seven digits",
+     {"cell.1000000.trace": ONE.replace("epoch 1", "epoch 1000000"), "cell.journal": TWO.replace("epoch 2", "epoch 1000001")},
+     "cell epochs 2 entries 3 whole", ""),
+    ("other files are not looked at", {"cell.journal": ONE, "cell.trace": "rubbish", "note": "rubbish"},
+     "cell epochs 1 entries 2 whole", ""),
+    ("a call that has started and not ended never was", {"cell.journal": ONE + "start 3 s2 put 9\n" + ZEROS},
+     "cell epochs 1 entries 2 whole", ""),
+    ("a line that is not whole is cut", {"cell.journal": ONE + "start 3 s2 put 9\nend 3 do" + ZEROS},
+     "cell epochs 1 entries 2 whole", ""),
+    ("bytes behind the first 0 are noted", {"cell.journal": ONE + "\0" + "end 9 done\n" + ZEROS},
+     "cell epochs 1 entries 2 whole", "cell.journal: 11 bytes behind the first byte 0 are not 0"),
+    ("no journal", {}, "cell no journal", ""),
+    ("no journal, though epochs have ended", {"cell.000001.trace": ONE}, "cell no journal", ""),
+    ("an empty journal", {"cell.journal": ZEROS}, "cell cell.journal line 1 bad", ""),
+    ("a front without its base", {"cell.journal": front(1, 0, 0).replace("base 0\n", "") + ZEROS}, "cell cell.journal line 4 bad", ""),
+    ("a front of another object", {"cell.journal": front(1, 0, 0, name="other")}, "cell cell.journal line 1 bad", ""),
+    ("a trace whose front is not read", {"cell.000001.trace": "object cell\n", "cell.journal": TWO},
+     "cell cell.000001.trace line 1 bad", ""),
+    ("a wrong reply", {"cell.journal": ONE + "start 3 s2 get\nend 3 done 13\n"}, "cell epoch 1 line 11 wrong reply", ""),
+    ("an end of another call", {"cell.journal": ONE + "end 3 done\n"}, "cell epoch 1 line 10 not running", ""),
+    ("two calls at once", {"cell.journal": ONE + "start 3 s2 get\nstart 4 s1 get\n"}, "cell epoch 1 line 11 bad", ""),
+    ("a number that was told before", {"cell.journal": ONE + "start 2 s2 get\n"}, "cell epoch 1 line 10 bad", ""),
+    ("a session that gets a second name", {"cell.journal": ONE + "name s1 bob\n"}, "cell epoch 1 line 10 contradicts", ""),
+    ("a kept call without its client", {"cell.journal": front(1, 0, 9, KEPT)}, "cell epoch 1 line 5 contradicts", ""),
+    ("a kept call with another key", {"cell.journal": front(1, 0, 9, "client s1 ann 2\n" + KEPT)}, "cell epoch 1 line 6 contradicts", ""),
+    ("a past that does not fit", {"cell.journal": front(1, 0, 0, past="past begin put\npast begin bump\npast end put\npast end bump\n")},
+     "cell epoch 1 past does not fit", ""),
+    ("another declaration, and lines behind the front", {"cell.journal": ONE.replace(SOURCE, "0" * 16)}, "cell epoch 1 was changed", ""),
+    ("another declaration, and no line behind the front", {"cell.journal": front(1, 0, 0, source="0" * 16)},
+     "cell epochs 1 entries 0 whole", ""),
+    ("another value", {"cell.000001.trace": ONE, "cell.journal": TWO.replace("0000000c", "0000000d").replace("done 12", "done 13")},
+     "cell epoch 2 does not follow: values", ""),
+    ("another epoch", {"cell.000001.trace": ONE.replace("epoch 1", "epoch 9"), "cell.journal": TWO}, "cell epoch 2 does not follow: epoch", ""),
+    ("numbers that are told again", {"cell.000001.trace": ONE, "cell.journal": front(2, 12, 1)}, "cell epoch 2 does not follow: numbers", ""),
+    ("numbers behind those of a crash", {"cell.000001.trace": ONE, "cell.journal": front(2, 12, 65538)}, "cell epochs 2 entries 2 whole", ""),
+    ("numbers too far ahead", {"cell.000001.trace": ONE, "cell.journal": front(2, 12, 65539)}, "cell epoch 2 does not follow: numbers", ""),
+    ("a client that was not known", {"cell.000001.trace": ONE, "cell.journal": front(2, 12, 2, "client s3 bob 0\n")},
+     "cell epoch 2 does not follow: clients", ""),
+    ("a client that has lost a key", {"cell.000001.trace": ONE, "cell.journal": front(2, 12, 2, "client s1 ann 0\n")},
+     "cell epoch 2 does not follow: clients", ""),
+    ("a kept call that is lost", {"cell.000001.trace": ONE, "cell.journal": front(2, 12, 2, "client s1 ann 1\n")},
+     "cell epoch 2 does not follow: clients", ""),
+    ("a kept call that replied something else",
+     {"cell.000001.trace": ONE, "cell.journal": front(2, 12, 2, "client s1 ann 1\n" + KEPT.replace("done", "refused no"))},
+     "cell epoch 2 does not follow: clients", ""),
+    ("a kept call that is given to another client",
+     {"cell.000001.trace": front(1, 12, 1, BOTH + KEPT), "cell.journal": front(2, 12, 1, BOTH + KEPT.replace("s1", "s2"))},
+     "cell epoch 2 does not follow: clients", ""),
+    ("a kept call that stays that of its client",
+     {"cell.000001.trace": front(1, 12, 1, BOTH + KEPT), "cell.journal": front(2, 12, 1, BOTH + KEPT)}, "cell epochs 2 entries 0 whole", ""),
+    ("a client that is forgotten", {"cell.000001.trace": ONE, "cell.journal": front(2, 12, 2)}, "cell epochs 2 entries 2 whole", ""),
+    ("a number that was told before the epoch began",
+     {"cell.000001.trace": ONE, "cell.journal": front(2, 12, 1, "carried 1 2 s2 put 8\n")}, "cell epochs 2 entries 2 whole", ""),
+    ("carried calls are counted from 1", {"cell.journal": front(1, 0, 1, "carried 2 2 s2 put 8\n")}, "cell epoch 1 line 5 contradicts", ""),
+]
+
+# At most two calls of `put` are ahead of those of `get`.
+SLOT = """object slot;
+  path 2:(put; get) end; path 1:(put, get) end;
+  var v : array [1] of integer;
+  entry procedure put(x : integer); begin if x = 9 then refuse('nine'); v[0] := v[0] + x end;
+  entry function get : integer; begin get := v[0]; v[0] := 0 end;
+end;
+"""
+
+
+def slot(epoch, value, lines, source="50ad5f2d36404ef1"):
+    """The text of an epoch of that object: its value, and the lines behind that."""
+    return f"object slot epoch {epoch}\nsource {source}\npart v 02010001{value:08x}\n{lines}"
+
+
+# Two calls of `put` ended before, a third waits, and two clients have names; the last call behind that has not ended.
+BEGUN = """past put 2
+base 10
+carried 1 7 s2 put 1
+client s1 ann 1
+client s2 bob 3
+kept s1 1 9 done put 5
+kept s2 2 3 refused nine put 9
+kept s2 3 5 cancelled put 4
+"""
+HEARD = """start 2 s1 get
+end 2 done 100
+start 1 s2 put 1
+end 1 done
+cancel 3 s1 put 8
+name s3 cat
+start 4 s3 get
+"""
+ANN = ("client s1 ann 3\n", "kept s1 1 9 done put 5\nkept s1 2 12 done 100 get\nkept s1 3 13 cancelled put 8\n")
+BOB = ("client s2 bob 4\n", "kept s2 2 3 refused nine put 9\nkept s2 3 5 cancelled put 4\nkept s2 4 7 done put 1\n")
+PAST_PUT = "past put 1\n"
+PUT = "start 1 s1 put 3\nend 1 done\n"
+
+# What stands behind the value of 100 of epoch 4, and what is said of it behind `slot epoch 4 `.
+ALONE = [
+    ("past put 2\nbase 10\ncarried 2 7 s2 put 1\n", "line 6 contradicts"),
+    ("base 10\nclient s1 ann 1\nclient s1 bob 1\n", "line 6 contradicts"),
+    ("base 10\nclient s1 ann 1\nclient s2 ann 1\n", "line 6 contradicts"),
+    ("base 10\nclient s1 ann 0\nkept s1 1 9 done put 5\n", "line 5 contradicts"),
+    ("base 10\nclient s1 ann 2\nkept s1 1 9 done put 5\n", "line 6 contradicts"),
+    ("base 10\nclient s1 ann 2\nclient s2 bob 1\nkept s2 1 9 done put 5\nkept s1 2 9 done put 5\n", "line 8 contradicts"),
+    ("past put 2\npast get 3\nbase 10\n", "past does not fit"),
+    ("base 10\n" + PUT + "start 2 s1 get\nend 2 done 100\n", "line 8 wrong reply"),
+    ("base 10\nstart 1 s1 get\nend 1 done 100\n", "line 5 breaks path 1"),
+    ("base 10\nstart 1 s1 put 3\nstart 2 s2 put 3\n", "line 6 bad"),
+    ("base 10\nend 1 done\n", "line 5 not running"),
+    ("base 10\nclient s1 ann 1\nname s2 bob\nname s1 cat\n", "line 7 contradicts"),
+    ("base 18446744073709551615\nclient s1 ann 1\n" + PUT, "line 7 contradicts"),
+    ("base 10\nclient s1 ann 18446744073709551614\n" + PUT, "line 7 contradicts"),
+]
+
+# No session is above 65,535, so the line is no line of a front.
+TOO_HIGH = "base 10\nclient s65536 ann 1\nclient s2 bob 1\n"
+
+# The number and value of the epoch behind 4 with all that was heard, the lines behind its value, and what is not as it was left; or
+# nothing where it may follow.
+FOLLOWS = [
+    (5, 1, "past put 2\nbase 13\n", ""),
+    (5, 1, "past put 2\nbase 12\ncarried 1 14 s1 put 3\n" + "".join(BOB), ""),
+    (5, 1, "past put 2\nbase 13\n" + ANN[0] + BOB[0] + "client s3 cat 0\n" + ANN[1] + BOB[1], ""),
+    (5, 1, "past put 2\nbase 65549\nclient s3 cat 0\n", ""),
+    (6, 1, "past put 2\nbase 13\n", "epoch"),
+    (5, 2, "past put 2\nbase 13\n", "values"),
+    (5, 1, "past put 1\nbase 13\n", "past"),
+    (5, 1, "past put 2\nbase 12\n", "numbers"),
+    (5, 1, "past put 2\nbase 65550\n", "numbers"),
+    (5, 1, "past put 2\nbase 13\nclient s3 dan 0\n", "clients"),
+    (5, 1, "past put 2\nbase 13\nclient s3 cat 1\n", "clients"),
+    (5, 1, "past put 2\nbase 13\nclient s2 bob 4\nkept s2 3 5 cancelled put 4\nkept s2 4 7 done put 1\n", "clients"),
+    (5, 1, "past put 2\nbase 13\n" + "".join(BOB).replace("4 7 done", "4 8 done"), "clients"),
+]
+
+
+def slots():
+    """The rows of the other object, as ROWS has those of the cell."""
+    for lines, said in ALONE:
+        yield f"alone: {lines!r}", {"slot.journal": slot(4, 100, lines)}, f"slot epoch 4 {said}", ""
+    yield "a session above the most", {"slot.journal": slot(4, 100, TOO_HIGH)}, "slot slot.journal line 5 bad", ""
+    for epoch, value, lines, what in FOLLOWS:
+        files = {f"slot.{epoch - 1:06}.trace": slot(4, 100, BEGUN + HEARD), "slot.journal": slot(epoch, value, lines)}
+        said = f"slot epoch {epoch} does not follow: {what}" if what else "slot epochs 2 entries 2 whole"
+        yield f"behind epoch 4: {epoch} {value} {lines!r}", files, said, ""
+    for cut, value, ended in ((PUT + "\0\0end 7 done\n\0", 103, 1), (PUT[:-1], 100, 0)):
+        files = {"slot.000004.trace": slot(4, 100, "base 10\n" + cut), "slot.journal": slot(5, value, f"{ended * PAST_PUT}base 11\n")}
+        note = "slot.000004.trace: 11 bytes behind the first byte 0 are not 0" if "\0" in cut else ""
+        yield f"cut: {cut!r}", files, f"slot epochs 2 entries {ended} whole", note
+
+
+def audited(source, files):
+    """The status of an audit of these files, and what standard output and standard error got."""
+    with tempfile.TemporaryDirectory(prefix="epochs-") as folder:
+        for name, text in files.items():
+            (pathlib.Path(folder) / name).write_bytes(text.encode())
+        ran = subprocess.run([program(), "audit", "--no-explain", source, folder], capture_output=True, check=False)
+        return ran.returncode, ran.stdout.decode(), ran.stderr.decode().replace(folder + "/", "")
+
+
+def two_objects():
+    """A file of two objects: each has a line, in order, and one that is refused does not keep the other from being told."""
+    with tempfile.TemporaryDirectory(prefix="epochs-") as folder:
+        source = pathlib.Path(folder) / "two.pp"
+        source.write_text(CELL.read_text() + CELL.read_text().replace("object cell", "object other"))
+        status, output, error = audited(source, {"cell.journal": ONE})
+        return (status, output, error) == (1, "cell epochs 1 entries 2 whole\nother no journal\n", "")
+
+
+def unreadable():
+    """A journal that is a folder cannot be read."""
+    with tempfile.TemporaryDirectory(prefix="epochs-") as folder:
+        (pathlib.Path(folder) / "cell.journal").mkdir()
+        ran = subprocess.run([program(), "audit", "--no-explain", CELL, folder], capture_output=True, check=False)
+        error = ran.stderr.decode().replace(folder + "/", "")
+        return (ran.returncode, ran.stdout, error) == (3, b"", "cell.journal: this file cannot be read: it is a folder\nread fault\n")
+
+
+def refused_source():
+    """A file that is refused is told as `check` tells it."""
+    with tempfile.TemporaryDirectory(prefix="epochs-") as folder:
+        source = pathlib.Path(folder) / "bad.pp"
+        source.write_text("object a\n")
+        status, output, error = audited(source, {})
+        return status == 1 and output.startswith("decl ") and error == ""
+
+
+def main():
+    given_words()
+    passed = failed = 0
+    with tempfile.TemporaryDirectory(prefix="epochs-") as folder:
+        source = pathlib.Path(folder) / "slot.pp"
+        source.write_text(SLOT)
+        said = [(row, audited(at, row[1])) for at, rows in ((CELL, ROWS), (source, slots())) for row in rows]
+    for (title, _, output, error), found in said:
+        wanted = (0 if output.endswith(" whole") else 1, output + "\n", error + "\n" if error else "")
+        if found == wanted:
+            passed += 1
+        else:
+            failed += 1
+            print(f"{title}: {found}, not {wanted}")
+    for look in (two_objects, unreadable, refused_source):
+        if look():
+            passed += 1
+        else:
+            failed += 1
+            print(f"{look.__doc__} It is not so.")
+    print(f"try_epochs: {passed} passed, {failed} failed")
+    return 0 if passed and not failed else 1
+
+
+load_tests = whole(main)

@@ -1,0 +1,578 @@
+"""Lets clients of `pathserve keep` die, and looks whether what they held is given back, once, and to nobody twice.
+
+usage: gate/try_holds [--program FILE] [--seconds S] [WORDS OF A TITLE ..]
+
+Clients die at drawn moments for S seconds (10), their connections are cut at each byte of a call and of its answer, the
+server is killed between, and clients with names come back before and after `--away`. An object counts itself how many are
+inside, and how often each job is finished: a client cannot know that of the others.
+
+The program is the one that ./pathserve runs, or FILE. The last line is `try_holds: N passed, M failed`; the exit status
+is 0 where M is 0 and N is not.
+"""
+import contextlib
+import random
+import re
+import socket
+import threading
+import time
+
+from gate import kept
+from gate.cutter import Cutter
+from gate.kept import Server, Talk
+from gate.tried import TOP, check, given_words, holds, loads, until
+
+SLOTS = """object slots;
+  const most = 3;
+  path most:(grab; free) end;
+  path 1:(grab, free, [greatest, inside]) end;
+  var n, top : array [1] of integer;
+  entry procedure grab;
+  begin n[0] := n[0] + 1; if n[0] > top[0] then top[0] := n[0] end;
+  entry procedure free; begin n[0] := n[0] - 1 end;
+  entry function greatest : integer; begin greatest := top[0] end;
+  entry function inside : integer; begin inside := n[0] end;
+  hold grab until free;
+end;
+"""
+JOBS = """object jobs;
+  const most = 60000;
+  path most:((submit, give_back); claim) end;
+  path 1:(submit, claim, finish, give_back, [done, waiting]) end;
+  var free : queue of text;
+      taken, finished : table of integer;
+  entry procedure submit(job : text); begin append(free, job) end;
+  entry function claim : text;
+  begin claim := first(free); store(taken, first(free), 1); take(free) end;
+  entry procedure finish(job : text);
+  begin
+    erase(taken, job);
+    if has(finished, job) then store(finished, job, lookup(finished, job) + 1) else store(finished, job, 1)
+  end;
+  entry procedure give_back(job : text); begin erase(taken, job); append(free, job) end;
+  entry function done(job : text) : integer;
+  begin if has(finished, job) then done := lookup(finished, job) else done := 0 end;
+  entry function waiting : integer; begin waiting := count(free) end;
+  hold claim until give_back, finish;
+end;
+"""
+LEADER = """object lead;
+  path 1:(lead; resign) end;
+  path 1:(lead, resign, [term]) end;
+  var terms : array [1] of integer;
+  entry function lead : integer; begin terms[0] := terms[0] + 1; lead := terms[0] end;
+  entry procedure resign; begin end;
+  entry function term : integer; begin term := terms[0] end;
+  hold lead until resign;
+end;
+"""
+CLOCK = """object clock;
+  path 1:(tick, [now]) end;
+  var n : array [1] of integer;
+  entry procedure tick; begin n[0] := n[0] + 1 end;
+  entry function now : integer; begin now := n[0] end;
+  every 1 call tick;
+end;
+"""
+FROZEN = """object frozen;
+  path 1:(grab; free) end;
+  path 1:(free, (freeze; thaw)) end;
+  entry procedure grab; begin end;
+  entry procedure free; begin end;
+  entry procedure freeze; begin end;
+  entry procedure thaw; begin end;
+  hold grab until free;
+end;
+"""
+SEATS = """object seats;
+  const seats = 120;
+  path 1:(book, cancel, pay, [who]) end;
+  var holders : array [seats] of text;
+  entry procedure book(seat : integer; name : text);
+  begin if holders[seat] <> '' then refuse('taken'); holders[seat] := name end;
+  entry procedure cancel(seat : integer; name : text);
+  begin if holders[seat] <> name then refuse('other'); holders[seat] := '' end;
+  entry procedure pay(seat : integer; name : text);
+  begin if holders[seat] <> name then refuse('other') end;
+  entry function who(seat : integer) : text; begin who := holders[seat] end;
+  hold book until cancel, pay;
+end;
+"""
+
+
+def started(folder, source, *words):
+    server = Server(folder, source, *words)
+    server.start()
+    return server
+
+
+def ended(server, *names):
+    """The server ends well, and its folder is legal."""
+    check(server.end()[1], 0, "the status")
+    server.is_whole(*names)
+
+
+def number(server, name, call):
+    """The integer that a call replies."""
+    return int(server.replies(name, call)[0].split(" ")[1])
+
+
+# Each rule by itself.
+
+
+def a_dead_worker_gives_its_slot_back(folder, seconds):
+    """Five die, and the sixth goes on; who dies while its call waits holds nothing."""
+    server = started(folder, SLOTS)
+    first = [Talk(server, "open slots", "opened slots") for _ in range(3)]
+    for it in first:
+        check(it.calls("grab"), ["done"])
+    waits = Talk(server, "open slots", "opened slots")
+    waits.say("call grab")
+    waits.hears("accepted 4")
+    late = Talk(server, "open slots", "opened slots")
+    late.say("call grab")
+    late.hears("accepted 5")
+    waits.close()
+    for it in first:
+        it.close()
+    late.hears("done 5")
+    until(lambda: number(server, "slots", "inside") == 1, "slots are lost", 10)
+    check(late.calls("free"), ["done"])
+    check(number(server, "slots", "greatest"), 3)
+    ended(server, "slots")
+
+
+def nobody_gives_back_what_he_does_not_hold(folder, seconds):
+    """Also under a key, of which a repeat is answered as ever; bad arguments are told before."""
+    server = started(folder, SLOTS)
+    with Talk(server, "open slots", "opened slots") as it:
+        it.say("call free", "call free 1", "call grab", "call free", "call free")
+        it.hears("no NotHeld", "no BadArgs", "accepted 1", "done 1", "accepted 2", "done 2", "no NotHeld")
+    with Talk(server, "open slots as ann", "opened slots next 1") as it:
+        it.say("call #1 free", "call #1 grab", "call #2 free", "call #2 free", "call #3 free", "call #9 free")
+        it.hears("no NotHeld", "accepted 3", "done 3", "accepted 4", "done 4", "repeat done 4", "no NotHeld", "no BadKey")
+    ended(server, "slots")
+
+
+def a_name_has_time_to_come_back(folder, seconds):
+    """Just before the time is over it goes on; just after it, the next one leads."""
+    server = started(folder, LEADER, "--away", "1")
+    ann = Talk(server, "open lead as ann", "opened lead next 1")
+    ann.say("call #1 lead")
+    ann.hears("accepted 1", "done 1 1")
+    bob = Talk(server, "open lead as bob", "opened lead next 1")
+    bob.say("call #1 lead")
+    bob.hears("accepted 2")
+    for _ in range(2):
+        ann.close()
+        time.sleep(0.9)
+        ann = Talk(server, "open lead as ann", "opened lead next 2")
+        ann.say("call #1 lead")
+        ann.hears("repeat done 1 1")
+    ann.close()
+    begun = time.monotonic()
+    bob.hears("done 2 2")
+    holds(1 <= time.monotonic() - begun < 10, f"after {time.monotonic() - begun:.2f} s")
+    with Talk(server, "open lead as ann", "opened lead next 3") as it:
+        it.say("call #2 resign", "call #3 resign")
+        it.hears("repeat done 3", "no NotHeld")
+    bob.close()
+    ended(server, "lead")
+
+
+def an_undo_that_waits_is_made_again(folder, seconds):
+    """It may be cancelled, and its name is in use meanwhile."""
+    server = started(folder, FROZEN, "--away", "0")
+    holder = Talk(server, "open frozen as ann", "opened frozen next 1")
+    check(holder.calls("grab"), ["done"])
+    other = Talk(server, "open frozen", "opened frozen")
+    check(other.calls("freeze"), ["done"])
+    holder.close()
+    third = Talk(server, "open frozen", "opened frozen")
+    time.sleep(0.2)
+    third.say("call grab")
+    third.hears("accepted 4")
+    with Talk(server) as it:
+        it.say("open frozen as ann")
+        it.hears("no InUse")
+    other.say("cancel 3")
+    other.hears("cancel 3 Cancelled")
+    time.sleep(2.2)
+    other.say("cancel 5")
+    other.hears("cancel 5 Cancelled")
+    check(other.calls("thaw"), ["done"])
+    third.hears("done 4")
+    third.close()
+    other.close()
+    ended(server, "frozen")
+
+
+def a_seat_that_is_paid_stays(folder, seconds):
+    """The arguments of what was held are those of its undo; a refused call holds nothing."""
+    server = started(folder, SEATS)
+    ann = Talk(server, "open seats", "opened seats")
+    check(ann.calls("book 7 'ann'", "book 8 'ann'", "book 8 'ann'", "book 9 'ann'", "pay 9 'ann'", "cancel 7 'ann'"),
+          ["done", "done", "refused taken", "done", "done", "done"])
+    ann.say("call cancel 9 'ann'", "call pay 8 'bob'")
+    ann.hears("no NotHeld", "no NotHeld")
+    ann.close()
+    until(lambda: server.replies("seats", "who 8") == ["done ''"], "8 is not free", 10)
+    check(server.replies("seats", "who 9", "who 7"), ["done 'ann'", "done ''"])
+    ended(server, "seats")
+
+
+def asked(it, line="who"):
+    """What a client hears that asks who is there, without how long."""
+    it.say(line)
+    first = it.hear()
+    return [first, *(re.sub(r" for \d+", " for T", it.hear()) for _ in range(int(first.split(" ")[1])))]
+
+
+def who_tells_what_is_held(folder, seconds):
+    """Behind the calls that wait, the oldest first; also of who is gone, and of the sessions that are asked for alone."""
+    server = started(folder, SLOTS, "--away", "60")
+    with Talk(server, "open slots as ann", "opened slots next 1") as ann:
+        check(asked(ann), ["who 1", "session s1 for T calls 0 name ann"], "who, before anything is held")
+        ann.say("call #1 grab")
+        ann.hears("accepted 1", "done 1")
+    bob = Talk(server, "open slots", "opened slots")
+    check(bob.calls("grab", "inside", "grab"), ["done", "done 2", "done"])
+    late = Talk(server, "open slots", "opened slots")
+    late.say("call grab")
+    late.hears("accepted 5")
+    until(lambda: "name ann" not in str(asked(bob)), "ann is not gone", 10)
+    first, second, waits = "session s2 for T calls 3", "session s3 for T calls 1", "waits 5 s3 grab for T path 1 node 0 full"
+    check(asked(bob), ["who 6", first, second, waits, "holds 1 s1 grab", "holds 2 s2 grab", "holds 4 s2 grab"], "who")
+    check(asked(bob, "who 2"), ["who 5", first, second, waits, "holds 2 s2 grab", "holds 4 s2 grab"], "who 2")
+    check(asked(bob, "who 3"), ["who 2", second, waits], "who 3")
+    check(asked(bob, "who 4"), ["who 0"], "who 4")
+    check(bob.calls("free"), ["done"])
+    late.hears("done 5")
+    check(asked(bob)[3:], ["holds 1 s1 grab", "holds 2 s2 grab", "holds 5 s3 grab"], "who, behind free")
+    bob.close()
+    late.close()
+    server.kill()
+    server.start()
+    with Talk(server, "open slots", "opened slots") as it:
+        until(lambda: asked(it) == ["who 1", "holds 1 s1 grab"], "ann alone does not hold", 10)
+    ended(server, "slots")
+
+
+def who_tells_256_of_what_is_held(folder, seconds):
+    """The oldest; the next ones are told when those are given back."""
+    server = started(folder, JOBS)
+    with Talk(server, "open jobs", "opened jobs") as it:
+        it.calls(*(f"submit '{job}'" for job in range(300)))
+        it.calls(*["claim"] * 300)
+        for gone in range(0, 90, 30):
+            found = asked(it)
+            check(found[0], f"who {1 + min(256, 300 - gone)}")
+            check(found[2:], [f"holds {301 + job} s1 claim" for job in range(gone, 300)][:256], "what is held")
+            it.calls(*(f"finish '{job}'" for job in range(gone, gone + 30)))
+    ended(server, "jobs")
+
+
+def the_clock_goes_by_itself(folder, seconds):
+    """Once a second, and once at a start; after a crash too."""
+    server = started(folder, CLOCK)
+    until(lambda: number(server, "clock", "now") >= 1, "no tick at the start", 10)
+    time.sleep(1.2)
+    found = number(server, "clock", "now")
+    holds(1 < found < 5, f"{found} ticks")
+    server.kill()
+    server.start()
+    until(lambda: number(server, "clock", "now") > found, "no tick behind a crash", 10)
+    ended(server, "clock")
+
+
+def a_lease_and_a_reservation_end_by_their_time(folder, seconds):
+    """Of examples/objects, in two seconds each: while who has them is there, and does nothing. And at once, where he is gone."""
+    texts = [(TOP / "examples" / "objects" / f"{it}.pp").read_text(encoding="ascii") for it in ("lease", "stock")]
+    server = started(folder, "".join(re.sub(r"const ttl = \d+", "const ttl = 2", it) for it in texts))
+    one, two = [Talk(server, "open lease", "opened lease") for _ in range(2)]
+    begun = time.monotonic()
+    check(one.calls("lead 'one'", "leader", "renew 1"), ["done 1", "done 'one'", "done"])
+    until(lambda: two.calls("lead 'two'") == ["done 2"], "the lease does not end", 30)
+    holds(time.monotonic() - begun >= 1, f"after {time.monotonic() - begun:.2f} s")
+    check(one.calls("renew 1", "resign 'one' 1", "resign 'two' 2", "term"), ["refused over", "done", "no", "done 2"])
+    two.close()
+    until(lambda: one.calls("leader") == ["done ''"], "who is gone leads", 30)
+    shop = Talk(server, "open stock", "opened stock")
+    calls = ("restock 'chair' 5", "reserve 'a' 'chair' 2", "reserve 'b' 'chair' 1", "confirm 'b' 'chair' 1", "reserve 'a' 'chair' 1")
+    check(shop.calls(*calls), ["done"] * 4 + ["refused known"])
+    left = lambda: number(server, "stock", "available 'chair'")  # noqa: E731
+    until(lambda: left() == 4, "the reservation does not end", 30)
+    check(shop.calls("confirm 'a' 'chair' 2", "is_open 'a'", "reserve 'c' 'chair' 3"), ["refused over", "done 'no'", "done"])
+    check(server.says("open stock", "call release 'c' 'chair' 3")[1], "no NotHeld")
+    shop.close()
+    until(lambda: left() == 4, "what the shop had put aside is lost", 30)
+    one.close()
+    ended(server, "lease", "stock")
+
+
+# Crashes and epochs.
+
+
+def a_crash_takes_nothing_and_gives_nothing_twice(folder, seconds):
+    """Who has no name is gone at the start; a name has its time anew."""
+    server = started(folder, SLOTS, "--away", "1")
+    ann = Talk(server, "open slots as ann", "opened slots next 1")
+    check(ann.calls("grab"), ["done"])
+    bare = [Talk(server, "open slots", "opened slots") for _ in range(2)]
+    for it in bare:
+        check(it.calls("grab"), ["done"])
+    for _ in range(2):
+        server.kill()
+        server.start()
+        until(lambda: number(server, "slots", "inside") == 1, "the two without a name hold still", 10)
+        time.sleep(0.2)
+        check(number(server, "slots", "inside"), 1)
+    with Talk(server, "open slots as ann", "opened slots next 2") as it:
+        time.sleep(1.2)
+        check(number(server, "slots", "inside"), 1)
+        check(it.calls("free", "grab"), ["done", "done"])
+    until(lambda: number(server, "slots", "inside") == 0, "ann holds still", 10)
+    ended(server, "slots")
+
+
+def what_is_held_goes_over_epochs(folder, seconds):
+    """The front of the next one has it, by the number that was told."""
+    server = started(folder, SLOTS, "--sync", "1000")
+    ann = Talk(server, "open slots as ann", "opened slots next 1")
+    check(ann.calls("inside", "grab"), ["done 0", "done"])
+    bare = Talk(server, "open slots", "opened slots")
+    check(bare.calls("grab"), ["done"])
+    with Talk(server, "open slots", "opened slots") as it:
+        for _ in range(62):
+            check(set(it.calls(*["inside"] * 1000)), {"done 2"})
+    journal = server.folder / "slots.journal"
+    until(lambda: b" epoch 2\n" in journal.read_bytes()[:200], "no epoch 2", 30)
+    lines = [it for it in journal.read_bytes().split(b"\n") if it.startswith(b"held ")]
+    check(lines, [b"held s1 2 grab", b"held s2 3 grab"], "the front")
+    server.kill()
+    server.start()
+    until(lambda: number(server, "slots", "inside") == 1, "it is not as it was", 10)
+    with Talk(server) as it:
+        it.say("open slots as ann", "call free", "call free")
+        line = it.hear()
+        holds(line.startswith("opened slots next "), line)
+        holds(it.hear().startswith("accepted ") and it.hear().startswith("done "), "ann holds nothing")
+        check(it.hear(), "no NotHeld")
+    check(number(server, "slots", "inside"), 0)
+    bare.close()
+    ended(server, "slots")
+
+
+def a_file_without_holds_waits_until_nothing_is_held(folder, seconds):
+    """What is held is not lost by it; behind its end, and a start of the old FILE, it is taken."""
+    plain = SLOTS.replace("  hold grab until free;\n", "")
+    server = started(folder, SLOTS)
+    with Talk(server, "open slots as ann", "opened slots next 1") as it:
+        check(it.calls("grab"), ["done"])
+    server.kill()
+    server.start()
+    server.kill()
+    journal = (server.folder / "slots.journal").read_bytes()
+    holds(b"\nheld s1 1 grab\n" in journal, "nothing is held in the front")
+    # (nor is it taken by a FILE of which something else is held, or that has only what is called by the clock)
+    for rules in ("", "  hold free until grab;\n", "  every 5 call free;\n"):
+        server.file.write_text(SLOTS.replace("  hold grab until free;\n", rules), encoding="ascii")
+        check(server.refused(), ("object slots was changed: start the old FILE once\n", 1), f"another FILE, with {rules!r},")
+        check((server.folder / "slots.journal").read_bytes() == journal, True, "that the journal is as it was")
+        check(server.audit(), ("slots epoch 2 was changed\n", 1), f"the audit by another FILE, with {rules!r},")
+    server.file.write_text(SLOTS, encoding="ascii")
+    check(server.audit()[1], 0, "the audit by the FILE")
+    server.start()
+    with Talk(server, "open slots as ann", "opened slots next 2") as it:
+        check(it.calls("free", "free"), ["done", "no"])
+    for source in (SLOTS, plain):
+        ended(server, "slots")
+        server.file.write_text(source, encoding="ascii")
+        server.start()
+    with Talk(server, "open slots", "opened slots") as it:
+        check(it.calls("grab"), ["done"])
+    check(server.replies("slots", "inside", "free", "inside"), ["done 1", "done", "done 0"])
+    # (an epoch that began with what was held is one by the FILE with holds)
+    server.file.write_text(SLOTS, encoding="ascii")
+    ended(server, "slots")
+
+
+def an_object_without_holds_has_the_journal_that_it_had(folder, seconds):
+    """Its bytes are those that it has where another object of the file has holds, and where none has."""
+    plain = SLOTS.replace("  hold grab until free;\n", "")
+    found = []
+    for at, source in enumerate((plain, plain + LEADER)):
+        room = folder / str(at)
+        room.mkdir()
+        server = started(room, source)
+        with Talk(server, "open slots as ann", "opened slots next 1") as it:
+            check(it.calls("grab", "free", "grab", "inside"), ["done", "done", "done", "done 1"])
+        server.kill()
+        found.append((server.folder / "slots.journal").read_bytes().rstrip(b"\0"))
+    check(found[0], found[1], "a journal")
+
+
+# Cuts.
+
+
+def connections_are_cut_at_each_byte(folder, seconds):
+    """Of the call and of its answer: the slot is free behind each."""
+    server = started(folder, SLOTS)
+    for way, text, resets in [("up", "call grab\n", False), ("down", "accepted 10\ndone 10\n", True)]:
+        for count in range(1, len(text) + 1):
+            cutter = Cutter(int(server.place))
+            with contextlib.suppress(OSError), socket.create_connection(("127.0.0.1", cutter.port)) as it, it.makefile("rb") as stream:
+                it.settimeout(5)
+                it.sendall(b"open slots\n")
+                check(stream.readline(), b"opened slots\n")
+                cutter.cut(way, count, resets)
+                it.sendall(b"call grab\n")
+                with contextlib.suppress(OSError):
+                    while stream.readline():
+                        pass
+            until(lambda: number(server, "slots", "inside") == 0, f"{way} {count}: a slot is lost", 10)
+    check(number(server, "slots", "greatest"), 1)
+    ended(server, "slots")
+
+
+# Drawn.
+
+
+class Gone(Exception):
+    pass
+
+
+class Worker(threading.Thread):
+    """A client that dies at drawn moments, and comes again; half of them have names. It knows of a job that it finished only
+    where it was told so."""
+
+    def __init__(self, server, at, seed, end):
+        super().__init__(daemon=True)
+        self.server, self.at, self.chance, self.end = server, at, random.Random(seed), end
+        self.name = f"c{at}" if at % 2 else ""
+        self.deaths, self.told, self.wrong = 0, [], None
+
+    def run(self):
+        while time.monotonic() < self.end and not self.wrong:
+            with contextlib.suppress(OSError, Gone, AttributeError):
+                self.live()
+            time.sleep(0.002)
+
+    def open(self, name):
+        made = Talk(self.server, seconds=5)
+        try:
+            made.say(f"open {name} as {self.name}" if self.name else f"open {name}")
+            line = made.hear()
+            if not line.startswith("opened"):
+                raise Gone
+        except (OSError, Gone):
+            made.close()
+            raise
+        return made
+
+    def dies(self, share):
+        if self.chance.random() < share:
+            self.deaths += 1
+            raise Gone
+
+    def last(self, it, call):
+        it.say(f"call {call}")
+        line = it.hear()
+        while line.startswith("accepted "):
+            self.dies(0.05)
+            line = it.hear()
+        if not line:
+            raise Gone
+        return line
+
+    def live(self):
+        if self.chance.random() < 0.5:
+            with self.open("slots") as it:
+                # What it held under its name it still holds, if it is back in time.
+                while self.name and self.last(it, "free").startswith("done"):
+                    pass
+                for _ in range(20):
+                    if not self.last(it, "grab").startswith("done"):
+                        return
+                    self.dies(0.2)
+                    line = self.last(it, "free")
+                    if line.startswith("no "):
+                        self.wrong = f"free: {line}"
+                    self.dies(0.1)
+            return
+        with self.open("jobs") as it:
+            for _ in range(20):
+                it.socket.settimeout(0.5)
+                line = self.last(it, "claim")
+                if not line.startswith("done"):
+                    return
+                job = line.split(" ", 2)[2]
+                self.dies(0.2)
+                line = self.last(it, f"finish {job}")
+                if line.startswith("done"):
+                    self.told.append(job)
+                elif line.startswith("no "):
+                    self.wrong = f"finish: {line}"
+                self.dies(0.1)
+
+
+def clients_die_and_the_server_is_killed(folder, seconds):
+    """Never more are inside than may, all slots are free at the end, each job is finished once, and none is lost."""
+    seed = random.randrange(1 << 30)
+    server = started(folder, SLOTS + JOBS, "--away", "1")
+    end = time.monotonic() + seconds
+    crew = [Worker(server, at, seed + at, end) for at in range(12)]
+    for it in crew:
+        it.start()
+    chance, given, kills, next_kill = random.Random(seed), [], 0, time.monotonic() + 2
+    while time.monotonic() < end:
+        with contextlib.suppress(OSError, IndexError):
+            # (a table has at most 1,024 keys)
+            names = [f"'j{at}'" for at in range(len(given), min(len(given) + 5, 1000))]
+            heard = server.says("open jobs", *(f"call submit {it}" for it in names))
+            check(sum(it.startswith("done ") for it in heard), len(names), heard)
+            given += names
+        time.sleep(0.05)
+        if time.monotonic() > next_kill:
+            server.kill()
+            kills += 1
+            server.start()
+            next_kill = time.monotonic() + 1 + chance.random()
+    for it in crew:
+        it.join()
+    wrong = [it.wrong for it in crew if it.wrong]
+    holds(not wrong, f"seed {seed}: {wrong}")
+    until(lambda: number(server, "slots", "inside") == 0, f"seed {seed}: slots are lost", 10)
+    holds(number(server, "slots", "greatest") <= 3, f"seed {seed}: too many inside")
+    # (the jobs of names are there again now)
+    time.sleep(2.5)
+    with Talk(server, "open jobs", "opened jobs") as it:
+        while number(server, "jobs", "waiting"):
+            job = it.calls("claim")[0].split(" ", 1)[1]
+            check(it.calls(f"finish {job}"), ["done"])
+        counts = [it.calls(f"done {name}")[0] for name in given]
+    told = [job for it in crew for job in it.told]
+    check(len(set(told)), len(told), f"seed {seed}: told twice")
+    wrong = {name: count for name, count in zip(given, counts) if count != "done 1"}
+    check(wrong, {}, f"seed {seed}: jobs that are lost, or done twice")
+    deaths = sum(it.deaths for it in crew)
+    print(f"  {deaths} deaths, {kills} kills, {len(told)} jobs told finished of {len(given)}")
+    holds(deaths > 20 and kills > 1, f"{deaths} deaths, {kills} kills")
+    ended(server, "slots", "jobs")
+
+
+TRIALS = [
+    a_dead_worker_gives_its_slot_back, nobody_gives_back_what_he_does_not_hold, a_name_has_time_to_come_back,
+    an_undo_that_waits_is_made_again, a_seat_that_is_paid_stays, who_tells_what_is_held, who_tells_256_of_what_is_held,
+    the_clock_goes_by_itself, a_lease_and_a_reservation_end_by_their_time,
+    a_crash_takes_nothing_and_gives_nothing_twice, what_is_held_goes_over_epochs,
+    a_file_without_holds_waits_until_nothing_is_held, an_object_without_holds_has_the_journal_that_it_had,
+    connections_are_cut_at_each_byte, clients_die_and_the_server_is_killed,
+]
+
+
+def main():
+    given, words = kept.options(given_words(), seconds=10)
+    return kept.run("try_holds", TRIALS, words, **given)
+
+
+load_tests = loads(lambda: kept.trials_of("try_holds", TRIALS, seconds=10))

@@ -1,0 +1,361 @@
+"""Makes a release of the program at hand (tools/release), installs it where nothing else is, and uses it.
+
+usage: gate/try_release [--program FILE] [WORD ..]
+
+The archive is unpacked, and run from its folder. Debian's package is installed by `dpkg` in a root that has only the
+programs which its scripts need, with the files that `ldd` names; the command of its unit is started as systemd would, a
+client calls, the server is killed by SIGKILL and started anew, the values are there, and the package is removed. What
+the Dockerfile says is done in another such root, as the first process of a new table of processes. It is run as root;
+what wants a tool that is not there is not run. With words only the trials are run whose titles have them.
+
+The program is the one that ./pathserve runs, or FILE. The last line is `try_release: N passed, M failed`; the exit
+status is 0 where M is 0 and N is not.
+"""
+import contextlib
+import hashlib
+import json
+import os
+import pathlib
+import re
+import resource
+import shlex
+import shutil
+import signal
+import stat
+import subprocess
+import sys
+import tarfile
+import tempfile
+
+from clients.python.pathclient import Object
+from gate import kept
+from gate.tried import TOP, Wrong, check, given_words, holds, lacks, program, until, whole
+
+SECONDS = 60
+# What a root has before a package is installed: what `dpkg`, the package's scripts and `pathserve` itself call, and `sh`.
+PROGRAMS = (
+    "bash", "cat", "diff", "dpkg", "dpkg-deb", "dpkg-split", "env", "getent", "groupadd", "install", "ldconfig", "ln", "mv", "readlink", "rm",
+    "sh", "start-stop-daemon", "tar", "useradd",
+)
+DPKG = ("var/lib/dpkg/info", "var/lib/dpkg/updates", "var/lib/dpkg/triggers")
+PATH = {"PATH": "/usr/sbin:/usr/bin"}
+NOT_PROVED = "proved: not proved"
+
+
+def said(*words, status=0, **more):
+    """What a command says that has to end so."""
+    more = {"cwd": "/", "stdin": subprocess.DEVNULL, **more}
+    ran = subprocess.run([str(it) for it in words], stdout=subprocess.PIPE, stderr=subprocess.STDOUT, text=True, timeout=SECONDS, **more)
+    if ran.returncode != status:
+        raise Wrong(f"{' '.join(map(str, words))} ended with status {ran.returncode}: {ran.stdout[-600:]!r}")
+    return ran.stdout
+
+
+def made(folder):
+    """A release of the program, in this folder: its archive, its package, and the file of an image."""
+    said(TOP / "tools" / "release", "--unproved", "--program", program(), folder)
+    files = [next(folder.glob(it), None) for it in ("*.tar.gz", "*.deb", "Dockerfile")]
+    holds(files[0] and files[2], f"the release has {sorted(it.name for it in folder.iterdir())}")
+    said("sha256sum", "--quiet", "-c", "SHA256SUMS", cwd=folder)
+    return files
+
+
+def children(process):
+    text = pathlib.Path(f"/proc/{process}/task/{process}/children").read_text()
+    return [int(it) for it in text.split()]
+
+
+class Root:
+    """A root folder in which commands are run, with `proc` and as little else as they need."""
+
+    def __init__(self, folder):
+        self.top = folder
+        for it in ("bin", "sbin", "lib", "lib64"):
+            (self.top / "usr" / it).mkdir(parents=True)
+            (self.top / it).symlink_to(f"usr/{it}")
+        for it in ("usr/local/bin", "proc", "dev", "etc", "run", "tmp", "var/log", *DPKG):
+            (self.top / it).mkdir(parents=True, exist_ok=True)
+        (self.top / "dev" / "fd").symlink_to("/proc/self/fd")
+        (self.top / "dev" / "null").touch()
+        for it, text in (("passwd", "root:x:0:0::/:/bin/sh\nnobody:x:65534:65534::/:/bin/sh\n"), ("group", "root:x:0:\nnogroup:x:65534:\n")):
+            (self.top / "etc" / it).write_text(text)
+        for it in PROGRAMS:
+            self.give(pathlib.Path(shutil.which(it)))
+        self.give(program(), as_libraries_alone=True)
+
+    def give(self, file, as_libraries_alone=False):
+        """Copies a program, and the files that `ldd` names."""
+        if not as_libraries_alone:
+            shutil.copy2(file.resolve(), self.top / "usr" / ("sbin" if "sbin" in str(file) else "bin") / file.name)
+        told = subprocess.run(["ldd", file], capture_output=True, text=True).stdout
+        for name in re.findall(r"(/\S+) \(0x", told):
+            place = self.top / name.lstrip("/")
+            if not place.exists():
+                place.parent.mkdir(parents=True, exist_ok=True)
+                shutil.copy2(pathlib.Path(name).resolve(), place)
+
+    def words(self, *words, user=None, is_first=False):
+        """The command that runs these words in the root, as this user, or as the first process of a new table of processes."""
+        mounts = f"mount --bind /dev/null {self.top}/dev/null && mount "
+        mounts += f"-t proc proc {self.top}/proc" if is_first else f"--rbind /proc {self.top}/proc"
+        spec = [f"--userspec={':'.join(self.ids(user))}"] if user else []
+        more = ["--pid", "--fork", "--kill-child"] if is_first else []
+        return ["unshare", "--mount", *more, "sh", "-c", f'{mounts} && exec "$@"', "sh", "chroot", *spec, str(self.top), *map(str, words)]
+
+    def ids(self, user):
+        """The numbers of a user and of its group, as the root's own files have them."""
+        rows = dict(it.split(":", 1) for it in (self.top / "etc" / "passwd").read_text().splitlines())
+        holds(user in rows, f"there is no user {user}")
+        return rows[user].split(":")[1:3]
+
+    def run(self, *words, user=None, **more):
+        return said(*self.words(*words, user=user), env=PATH, **more)
+
+    def at(self, path):
+        return self.top / path.lstrip("/")
+
+
+class Started:
+    """A server that was started in a root: the process that holds its input, and its own."""
+
+    def __init__(self, root, words, place, user, is_first=False, files=None):
+        limit = (lambda: resource.setrlimit(resource.RLIMIT_NOFILE, (files, files))) if files else None
+        pipe = subprocess.PIPE
+        self.ran = subprocess.Popen(
+            root.words(*words, user=user, is_first=is_first), cwd="/", env=PATH, stdin=subprocess.DEVNULL, stdout=pipe,
+            stderr=subprocess.STDOUT, text=True, start_new_session=True, preexec_fn=limit,
+        )
+        self.heard = [self.ran.stdout.readline() for _ in range(2)]
+        check(self.heard, ["pathserve: not proved\n", f"listening {place}\n"], "what the server says first")
+        self.holder = children(self.ran.pid)[0] if is_first else self.ran.pid
+        until(lambda: children(self.holder), "the server runs")
+        self.server, self.place, self.root = children(self.holder)[0], place, root
+
+    def __enter__(self):
+        return self
+
+    def __exit__(self, *_):
+        with contextlib.suppress(ProcessLookupError):
+            os.killpg(self.ran.pid, signal.SIGKILL)
+        self.ran.communicate()
+
+    def is_of(self, user):
+        owner = pathlib.Path(f"/proc/{self.server}").stat().st_uid
+        check(owner, int(self.root.ids(user)[0]), "the user of the server")
+
+    def client(self):
+        return Object(f"/proc/{self.server}/root{self.place}", "bounded_buffer", client="ann")
+
+    def end(self, number, *processes):
+        """Sends this signal: what it says behind, and its status."""
+        for it in processes:
+            os.kill(it, number)
+        said, _ = self.ran.communicate(timeout=SECONDS)
+        return said, self.ran.returncode
+
+
+class Keys(dict):
+    """The keys of a unit and what they say."""
+
+    def __missing__(self, key):
+        raise Wrong(f"the unit says nothing of {key}")
+
+
+class Unit:
+    """The unit of systemd for this name, and what systemd would do of it."""
+
+    def __init__(self, root, name):
+        self.root, self.name = root, name
+        text = root.at("/usr/lib/systemd/system/pathserve@.service").read_text().replace("%i", name)
+        rows = [it.split("=", 1) for it in text.splitlines() if "=" in it and not it.startswith("#")]
+        self.keys = Keys()
+        for key, value in rows:
+            holds(key not in self.keys, f"{key} stands twice in the unit")
+            self.keys[key] = value
+
+    def start(self):
+        keys, user = self.keys, self.keys["User"]
+        numbers = [int(it) for it in self.root.ids(user)]
+        for base, kind in (("/var/lib", "State"), ("/run", "Runtime")):
+            made = self.root.at(f"{base}/{keys[f'{kind}Directory']}")
+            made.mkdir(parents=True, exist_ok=True)
+            os.chown(made, *numbers)
+            made.chmod(int(keys[f"{kind}DirectoryMode"], 8))
+        file = self.root.at(keys["EnvironmentFile"].removeprefix("-"))
+        given = dict(it.split("=", 1) for it in file.read_text().splitlines()) if file.exists() else {}
+        words = []
+        for it in shlex.split(keys["ExecStart"]):
+            words += given.get(it[1:], "").split() if it.startswith("$") else [it]
+        holds(words[2].endswith(keys["AssertPathExists"]), "the file of the objects is another one than the unit looks for")
+        return Started(self.root, words, words[4], user, files=int(keys["LimitNOFILE"]))
+
+    def verify(self):
+        """Has systemd read it, beside its own units, where it is there."""
+        own = pathlib.Path("/usr/lib/systemd/system")
+        if not own.is_dir() or lacks("systemd-analyze"):
+            return
+        top = self.root.top.parent / "verified"
+        shutil.copytree(own, top / "usr/lib/systemd/system", symlinks=True)
+        for it in ("usr/bin/pathserve", "usr/lib/pathserve/pathserve", "usr/lib/systemd/system/pathserve@.service"):
+            (top / it).parent.mkdir(parents=True, exist_ok=True)
+            shutil.copy2(self.root.at(it), top / it)
+        words = ["systemd-analyze", "verify", f"--root={top}", "--man=no", f"pathserve@{self.name}.service"]
+        told = subprocess.run(words, cwd=top, capture_output=True, text=True, timeout=SECONDS).stderr
+        check([it for it in told.splitlines() if "pathserve" in it], [], "what systemd says of the unit")
+
+    def starts_again(self, status):
+        """Whether systemd starts it again after this status."""
+        return self.keys["Restart"] == "always" and str(status) not in self.keys["RestartPreventExitStatus"].split()
+
+
+def is_missing():
+    """Whether what installs in a root of its own cannot be run."""
+    if os.geteuid():
+        print("not run: root")
+        return True
+    return any([lacks(it) for it in ("unshare", "chroot", "mount", "ldd", *PROGRAMS)])
+
+
+def archive(folder, release):
+    """It is what its sums say, runs where no kit is, and is the same when it is made again."""
+    first, again = release, made(folder / "again")
+    for it, other in zip(first, again):
+        check(it and hashlib.sha256(it.read_bytes()).hexdigest(), other and hashlib.sha256(other.read_bytes()).hexdigest(), it and it.name)
+    with tarfile.open(first[0]) as tar:
+        holds(all(it.uid == it.gid == 0 and it.isfile() and ".." not in it.name for it in tar), "a file of the archive has another owner")
+        tar.extractall(folder / "there")
+    top = next((folder / "there").iterdir())
+    check(f"{top.name}.tar.gz", first[0].name, "the folder of the archive")
+    said("sha256sum", "--quiet", "-c", "SHA256SUMS", cwd=top)
+    sums = [it.split("  ")[1] for it in (top / "SHA256SUMS").read_text().splitlines()]
+    found = sorted(str(it.relative_to(top)) for it in top.rglob("*") if it.is_file() and it.name != "SHA256SUMS")
+    check(sorted(sums), found, "the files of SHA256SUMS")
+    release = (top / "RELEASE").read_text().splitlines()
+    holds(NOT_PROVED in release, f"RELEASE says {release}")
+    holds(f"program: {hashlib.sha256(program().read_bytes()).hexdigest()}" in release, "RELEASE has another program")
+    commit = said("git", "log", "-1", "--format=%H", cwd=TOP).strip()
+    holds(any(it.startswith(f"commit: {commit}") for it in release), "RELEASE has another commit")
+    bare = {"PATH": "/usr/bin:/bin"}
+    words = ("run", "examples/objects/bounded_buffer.pp", "examples/scripts/bounded_buffer.script")
+    wanted = subprocess.run([program(), *words], cwd=TOP, capture_output=True, text=True, timeout=SECONDS)
+    ran = subprocess.run(["./pathserve", *words], cwd=top, env=bare, capture_output=True, text=True, timeout=SECONDS)
+    check((ran.stdout, ran.stderr, ran.returncode), (wanted.stdout, "pathserve: not proved\n", 0), "a run")
+    (folder / "bin").mkdir()
+    (folder / "bin" / "pathserve").symlink_to(top / "pathserve")
+    check(said("pathserve", "--version", env={"PATH": f"{folder}/bin:/usr/bin:/bin"}).splitlines()[0], "pathserve: not proved", "by a link")
+    shutil.copy(TOP / "examples/traces/ledger.trace", folder / "it.trace")
+    said(top / "tools/timeline", folder / "it.trace")
+    holds((folder / "it.svg").exists(), "tools/timeline draws nothing")
+    for it in ("LICENSE", "LICENSES", "docs/pathserve.1", "docs/GUIDE.md", "clients/python/pyproject.toml"):
+        holds((top / it).is_file(), f"there is no {it}")
+
+
+def is_status(root, name):
+    return said("dpkg-query", f"--admindir={root.top}/var/lib/dpkg", "-W", "-f", "${Status}", name)
+
+
+def installed(folder, package):
+    """A clean root in which the package is installed, and the paths of its files."""
+    root = Root(folder / "root")
+    # The package may stand on these, as this machine has them.
+    needs = re.findall(r"[a-z0-9]+", re.sub(r"\(.*?\)", "", said("dpkg-deb", "-f", package, "Depends")))
+    root.at("/var/lib/dpkg/status").write_text("".join(said("dpkg", "-s", it) + "\n" for it in needs))
+    root.at("/var/lib/dpkg/available").touch()
+    shutil.copy(package, root.at("/tmp/it.deb"))
+    root.run("dpkg", "--force-unsafe-io", "-i", "/tmp/it.deb")
+    check(is_status(root, "pathserve"), "install ok installed", "the status of the package")
+    rows = [it.split(None, 5)[5].split(" -> ")[0] for it in said("dpkg-deb", "-c", package).splitlines()]
+    return root, [it.removeprefix(".") for it in rows if not it.endswith("/")]
+
+
+def package(folder, release):
+    """It is installed, serves, is killed, serves again, and is removed; what it kept stays."""
+    root, files = installed(folder, release[1])
+    check([it for it in files if not root.at(it).exists() and not root.at(it).is_symlink()], [], "files that are not there")
+    holds(NOT_PROVED in root.at("/usr/share/doc/pathserve/RELEASE").read_text(), "RELEASE does not say that it is not proved")
+    version = root.run("pathserve", "--version", user="nobody").splitlines()[-1]
+    holds(re.fullmatch(r"pathserve \d+\.\d+\.\d+", version), f"it says {version!r}")
+    holds(root.at("/usr/share/man/man1/pathserve.1.gz").is_file(), "there is no manual page")
+    shutil.copy(root.at("/usr/share/doc/pathserve/examples/objects/bounded_buffer.pp"), root.at("/etc/pathserve/buffer.pp"))
+    unit = Unit(root, "buffer")
+    unit.verify()
+    check(unit.keys["KillMode"], "mixed", "who gets the signal")
+    with unit.start() as server, server.client() as it:
+        owner, place = int(root.ids("pathserve")[0]), root.at(server.place)
+        states = [one.stat() for one in (place, place.parent, root.at("/var/lib/pathserve/buffer"))]
+        modes = [(oct(stat.S_IMODE(one.st_mode)), one.st_uid) for one in states]
+        check(modes, [("0o660", owner), ("0o750", owner), ("0o750", owner)], "modes and owners of the socket and the folders")
+        server.is_of("pathserve")
+        check([it.put("bread"), it.put("milk"), it.get()], [None, None, "bread"], "replies")
+        status = server.end(signal.SIGKILL, server.server)[1]
+    holds(status == 137 and unit.starts_again(status), f"the end by SIGKILL has the status {status}")
+    root.at("/etc/pathserve/buffer.conf").write_text("OPTIONS=--traces 10 --at-once 4\n")
+    with unit.start() as server, server.client() as it:
+        check([it.key, it.call("get", key=3), it.waiting(), it.get(), it.put("tea")], [4, "bread", 1, "milk", None], "replies")
+        holds(b"\0--at-once\0004\0" in pathlib.Path(f"/proc/{server.server}/cmdline").read_bytes(), "the options are not heeded")
+        check(server.end(signal.SIGKILL, -server.ran.pid), ("", -signal.SIGKILL), "the end of both by SIGKILL")
+    root.at("/etc/pathserve/buffer.conf").unlink()
+    with unit.start() as server:
+        with server.client() as it:
+            check([it.waiting(), it.get()], [1, "tea"], "replies")
+        check(server.end(signal.SIGTERM, server.holder), ("bounded_buffer entries 2\n", 0), "the end by SIGTERM")
+    holds(root.at("/var/lib/pathserve/buffer/bounded_buffer.items.part").exists(), "the parts are not saved")
+    audited = root.run("pathserve", "audit", "/etc/pathserve/buffer.pp", "/var/lib/pathserve/buffer", user="pathserve")
+    holds(audited.splitlines()[-1].endswith(" whole"), f"audit says {audited!r}")
+    # Installed once more, as by an upgrade, it has the same user, and what was kept.
+    root.run("dpkg", "--force-unsafe-io", "-i", "/tmp/it.deb")
+    for word in ("-r", "-P"):
+        root.run("dpkg", "--force-unsafe-io", word, "pathserve")
+        check([it for it in files if root.at(it).exists() or root.at(it).is_symlink()], [], f"files that are there behind dpkg {word}")
+        for it in ("/var/lib/pathserve/buffer/bounded_buffer.journal", "/etc/pathserve/buffer.pp"):
+            holds(root.at(it).exists(), f"{it} is gone behind dpkg {word}")
+        holds(not root.at("/usr/lib/pathserve").exists() and not root.at("/usr/share/doc/pathserve").exists(), "a folder is left")
+
+
+def image(folder, release):
+    """What the Dockerfile says, done in a clean root, of the archive alone."""
+    root = Root(folder / "root")
+    archive, _, file = release
+    rows = re.sub(r"\\\n", " ", file.read_text()).splitlines()
+    done, user = {}, None
+    for word, rest in (it.split(" ", 1) for it in rows if it and not it.startswith("#")):
+        if word == "FROM":
+            holds(not done and rest.startswith("debian:"), f"the image is made of {rest}")
+        elif word == "ADD":
+            pattern, place = rest.split()
+            holds(archive.match(pattern), f"{archive.name} is not what the Dockerfile adds")
+            with tarfile.open(archive) as tar:
+                tar.extractall(root.at(place))
+        elif word == "RUN":
+            root.run("sh", "-ec", rest)
+        elif word == "USER":
+            user = rest
+        elif word in ("ENTRYPOINT", "CMD", "VOLUME"):
+            done[word] = json.loads(rest)
+        else:
+            raise Wrong(f"the Dockerfile says {word}")
+        done.setdefault(word, rest)
+    root.at("/etc/pathserve").mkdir()
+    shutil.copy(TOP / "examples/objects/bounded_buffer.pp", root.at("/etc/pathserve/objects.pp"))
+    words = [*done["ENTRYPOINT"], *done["CMD"]]
+    check([it for it in done["VOLUME"] if not any(one.startswith(it) for one in words[3:])], [], "folders that are not used")
+    for turn in (1, 2):
+        with Started(root, words, words[4], user, is_first=True) as server:
+            with server.client() as it:
+                check([it.put("bread"), it.waiting()], [None, turn], "replies")
+            server.is_of("pathserve")
+            # (the first process of a table of processes heeds only the signals for which it has something to do)
+            check(server.end(signal.SIGTERM, server.holder), ("bounded_buffer entries 2\n", 0), "the end by SIGTERM")
+
+
+def main():
+    words = given_words()
+    if any(it.startswith("-") for it in words):
+        print(__doc__, file=sys.stderr)
+        return 2
+    trials = (archive,) if is_missing() else (archive, package, image)
+    with tempfile.TemporaryDirectory(prefix="try_release-") as folder:
+        return kept.run("try_release", trials, words, release=made(pathlib.Path(folder)))
+
+
+load_tests = whole(main)

@@ -1,0 +1,373 @@
+"""Lets a second host go on where the first one is gone: on the folder of the first (a shared disk), and on a copy of it.
+
+usage: gate/try_standby [--program FILE] [WORD ..]
+
+Each host is a network of its own (`unshare --net`) with a server that hears 127.0.0.1 there, and a router before it; the
+clients, which have names, are in a third one, and know one address, which one of the hosts has. A host is gone when its
+server is killed by SIGKILL and its cable is cut, so that no client hears of it. Then the other one starts its server and
+takes the address. On the same folder each call that was answered is there, once; on a copy those are there that were
+answered before the last copy began, and how many were lost is said. docs/SCALING.md tells what that means. `rsync` makes
+the copies where it is there, else `cp`. The file for Kubernetes is looked at beside the image's, and the one of
+examples/router is run where `haproxy` is there.
+
+It is run as root. The program is the one that ./pathserve runs, or FILE. The last line is `try_standby: N passed, M
+failed`; the exit status is 0 where M is 0 and N is not.
+"""
+import contextlib
+import ctypes
+import os
+import re
+import shutil
+import socket
+import subprocess
+import sys
+import threading
+import time
+
+from clients.python.pathclient import CallError, Expired, Lost, NoServer, Object, Rejected
+from gate import kept
+from gate.served import free_port
+from gate.tried import TOP, Wrong, check, given_words, holds, lacks, program, until, whole
+
+SECONDS, CLIENTS = 60, 4
+# The address that the clients know, and the ports of routers and of servers.
+ADDRESS, PORT, OWN = "10.77.0.10", 7000, 7101
+METER = """object meter;
+  path 1:(add, [total]) end;
+  var v : array [1] of integer;
+  entry function add : integer; begin v[0] := v[0] + 1; add := v[0] end;
+  entry function total : integer; begin total := v[0] end;
+end;
+"""
+NEW_NETWORK = 0x40000000  # CLONE_NEWNET
+
+
+class Network:
+    """A network of its own, which stays while its process does."""
+
+    def __init__(self):
+        self.keeper = subprocess.Popen(["unshare", "--net", "cat"], stdin=subprocess.PIPE, stdout=subprocess.DEVNULL)
+        self.file = f"/proc/{self.keeper.pid}/ns/net"
+        until(lambda: os.readlink(self.file) != os.readlink("/proc/self/ns/net"), "a network of its own", 10)
+        self.ip("link", "set", "lo", "up")
+
+    def words(self, *words):
+        return ["nsenter", f"--net={self.file}", *map(str, words)]
+
+    def ip(self, *words):
+        ran = subprocess.run(self.words("ip", *words), capture_output=True, text=True, timeout=SECONDS)
+        holds(ran.returncode == 0, f"ip {' '.join(map(str, words))}: {ran.stderr.strip()}")
+
+    def enter(self):
+        """The thread that calls this is in this network from now on."""
+        with open(self.file) as it:
+            if ctypes.CDLL(None, use_errno=True).setns(it.fileno(), NEW_NETWORK):
+                raise OSError(ctypes.get_errno(), "setns")
+
+    def end(self):
+        self.keeper.kill()
+        self.keeper.communicate()
+
+
+class Host(Network):
+    """A host with a server over a folder, and a router before it."""
+
+    def __init__(self, switch, name, number):
+        super().__init__()
+        self.switch, self.name, self.ran = switch, name, None
+        switch.ip("link", "add", "name", name, "type", "veth", "peer", "name", "eth0", "netns", self.keeper.pid)
+        switch.ip("link", "set", name, "master", "switch", "up")
+        self.ip("address", "add", f"10.77.0.{number}/24", "dev", "eth0")
+        self.ip("link", "set", "eth0", "up")
+        ready = threading.Event()
+        threading.Thread(target=self.route, args=(ready,), daemon=True).start()
+        ready.wait(SECONDS)
+
+    def route(self, ready):
+        """Hands on what comes to the address of this host."""
+        self.enter()
+        taker = socket.create_server(("0.0.0.0", PORT))
+        ready.set()
+        while True:
+            client = taker.accept()[0]
+            try:
+                server = socket.create_connection(("127.0.0.1", OWN))
+            except OSError:
+                client.close()
+                continue
+            for one, other in ((client, server), (server, client)):
+                one.setsockopt(socket.IPPROTO_TCP, socket.TCP_NODELAY, 1)
+                threading.Thread(target=hand_on, args=(one, other), daemon=True).start()
+
+    def start(self, source, folder):
+        """Starts a server here, and takes the address."""
+        words = [program(), "keep", source, folder, str(OWN), "--stop-with-input"]
+        pipe = subprocess.PIPE
+        self.ran = subprocess.Popen(self.words(*words), stdin=pipe, stdout=pipe, stderr=pipe, text=True)
+        line = self.ran.stdout.readline()
+        if line != f"listening {OWN}\n":
+            raise Wrong(f"the server on {self.name} says {line + self.ran.stderr.read()!r}, status {self.ran.wait()}")
+        self.ip("address", "add", f"{ADDRESS}/24", "dev", "eth0")
+        # (what a host says to all when it takes an address)
+        self.switch.ip("neighbour", "flush", "all")
+
+    def is_gone(self):
+        self.ran.kill()
+        self.switch.ip("link", "set", self.name, "down")
+        self.ran.communicate()
+
+    def end(self):
+        if self.ran:
+            self.ran.kill()
+            self.ran.communicate()
+        super().end()
+
+
+def hand_on(one, other):
+    with contextlib.suppress(OSError):
+        while piece := one.recv(1 << 16):
+            other.sendall(piece)
+    for it in (one, other):
+        with contextlib.suppress(OSError):
+            it.shutdown(socket.SHUT_RDWR)
+
+
+class Hosts:
+    """Two hosts, and the network of the clients between them."""
+
+    def __enter__(self):
+        self.stack = contextlib.ExitStack()
+        self.switch = Network()
+        self.stack.callback(self.switch.end)
+        self.switch.ip("link", "add", "name", "switch", "type", "bridge")
+        self.switch.ip("address", "add", "10.77.0.1/24", "dev", "switch")
+        self.switch.ip("link", "set", "switch", "up")
+        self.one, self.two = (Host(self.switch, *it) for it in (("one", 2), ("two", 3)))
+        for it in (self.one, self.two):
+            self.stack.callback(it.end)
+        return self
+
+    def __exit__(self, *_):
+        self.stack.close()
+
+
+class Client(threading.Thread):
+    """Adds one after the other by a name, as a program has to that wants each to be done once: what is lost is asked again under its
+    key, until it is known, or the session is not as it was left."""
+
+    def __init__(self, network, name):
+        super().__init__(daemon=True)
+        self.network, self.name = network, name
+        self.replies, self.gap, self.wrong, self.last, self.stops = [], 0.0, None, None, threading.Event()
+        self.start()
+
+    def run(self):
+        try:
+            self.network.enter()
+            it = self.opened()
+            while not self.stops.is_set():
+                begun, key = time.monotonic(), it.key
+                self.replies.append(self.added(it, key))
+                self.gap = max(self.gap, time.monotonic() - begun)
+            it.close()
+        except (CallError, OSError) as error:
+            self.wrong = error
+
+    def opened(self):
+        end = time.monotonic() + SECONDS
+        while True:
+            try:
+                return Object(PORT, "meter", ADDRESS, 2, self.name)
+            except NoServer:
+                # (the address may have been taken a moment ago)
+                if time.monotonic() > end:
+                    raise
+
+    def added(self, it, key):
+        while True:
+            try:
+                return it.call("add", within=0.3, key=key)
+            except Expired:
+                raise
+            except (Lost, NoServer):
+                pass
+
+
+def in_network(network, work):
+    """What this comes to in that network."""
+    found = []
+
+    def run():
+        network.enter()
+        found.append(work())
+
+    thread = threading.Thread(target=run)
+    thread.start()
+    thread.join(SECONDS)
+    holds(found, "nothing came of it")
+    return found[0]
+
+
+def total(network):
+    with contextlib.closing(Object(PORT, "meter", ADDRESS, 10)) as it:
+        return it.total()
+
+
+def prepared(folder):
+    (folder / "meter.pp").write_text(METER)
+    for it in ("one", "two"):
+        (folder / it).mkdir()
+    return folder / "meter.pp", folder / "one", folder / "two"
+
+
+def is_whole(source, folder):
+    ran = subprocess.run([program(), "audit", source, folder], capture_output=True, text=True, timeout=SECONDS)
+    holds(ran.returncode == 0 and ran.stdout.endswith(" whole\n"), f"audit says {ran.stdout!r}")
+
+
+def a_shared_folder(folder):
+    """Nothing that was answered is lost, and nothing is done twice."""
+    source, data, _ = prepared(folder)
+    with Hosts() as hosts:
+        hosts.one.start(source, data)
+        clients = [Client(hosts.switch, f"client_{it}") for it in range(CLIENTS)]
+        time.sleep(1.5)
+        before = sum(len(it.replies) for it in clients)
+        hosts.one.is_gone()
+        begun = time.monotonic()
+        # (one answer of the first host may be on its way to each client)
+        had = [len(it.replies) + 1 for it in clients]
+        hosts.two.start(source, data)
+        started = time.monotonic() - begun
+        until(lambda: all(it.wrong or len(it.replies) > one for it, one in zip(clients, had)), "the clients come back", SECONDS)
+        for it in clients:
+            it.stops.set()
+        for it in clients:
+            it.join(SECONDS)
+        check([it.wrong for it in clients], [None] * CLIENTS, "what clients say")
+        replies = sorted(one for it in clients for one in it.replies)
+        check(replies == list(range(1, len(replies) + 1)), True, "whether each call was done once")
+        check(in_network(hosts.switch, lambda: total(hosts.switch)), len(replies), "the total")
+        holds(0 < before < len(replies), "the second host has answered nothing")
+        is_whole(source, data)
+        print(f"  {before} answered by the first host, {len(replies) - before} by the second one, none lost; it listens {started:.2f} s")
+        print(f"  behind the end of the first one, and the clients had no answer for {max(it.gap for it in clients):.1f} s")
+
+
+def a_copied_folder(folder):
+    """What was answered before the last copy began is there; what came behind it is lost, and its clients are told so."""
+    source, data, copy = prepared(folder)
+    with Hosts() as hosts:
+        hosts.one.start(source, data)
+        clients = [Client(hosts.switch, f"client_{it}") for it in range(CLIENTS)]
+        end, copies, known = time.monotonic() + 3, 0, 0
+        while time.monotonic() < end:
+            answered = sum(len(it.replies) for it in clients)
+            if copied(data, copy):
+                copies, known = copies + 1, answered
+            time.sleep(0.3)
+        hosts.one.is_gone()
+        answered = sum(len(it.replies) for it in clients)
+        is_whole(source, copy)
+        hosts.two.start(source, copy)
+        for it in clients:
+            it.join(SECONDS)
+        told = [it.wrong for it in clients]
+        holds(all(isinstance(it, Expired) or isinstance(it, Rejected) and it.word == "BadKey" for it in told), f"clients are told {told}")
+        found = in_network(hosts.switch, lambda: total(hosts.switch))
+        holds(copies > 1 and 0 < known <= found, f"{known} were answered when the last of {copies} copies began, and {found} are there")
+        holds(found <= answered + CLIENTS, f"{found} are there, and {answered} were answered")
+        print(f"  {copies} copies in 3 s; {answered} answered, {answered - min(found, answered)} of these lost")
+        print(f"  (since the last copy began {answered - known} were answered)")
+
+
+def copied(data, copy):
+    """Copies a folder as it is, while its server runs."""
+    if shutil.which("rsync"):
+        return subprocess.run(["rsync", "-a", "--delete", f"{data}/", f"{copy}/"], timeout=SECONDS).returncode in (0, 24)
+    new = copy.with_name("new")
+    shutil.rmtree(new, ignore_errors=True)
+    if subprocess.run(["cp", "-r", data, new], timeout=SECONDS).returncode:
+        return False
+    shutil.rmtree(copy)
+    new.rename(copy)
+    return True
+
+
+def two_servers(folder):
+    """On one machine a folder has one server; the second one starts when the first one is gone."""
+    source, data, _ = prepared(folder)
+    with Hosts() as hosts:
+        hosts.one.start(source, data)
+        try:
+            hosts.two.start(source, data)
+            raise ValueError("two servers have one folder")
+        except Wrong as why:
+            holds("status 3" in str(why), str(why))
+        hosts.one.is_gone()
+        hosts.two.start(source, data)
+
+
+def a_manifest(folder):
+    """The file for Kubernetes: its objects are accepted, and the folders of the image are those that it mounts."""
+    text = (TOP / "examples" / "kubernetes.yaml").read_text()
+    parts = {name: re.sub(r"(?m)^ {4}", "", part) for name, part in re.findall(r"(?m)^  ([\w.]+): \|\n((?: {4}.*\n)+)", text)}
+    check(sorted(parts), ["haproxy.cfg", "objects.pp"], "the files")
+    for name, part in parts.items():
+        (folder / name).write_text(part)
+    said = subprocess.run([program(), "check", folder / "objects.pp"], capture_output=True, text=True, timeout=SECONDS)
+    check((said.returncode, said.stdout.splitlines()[-1]), (0, "1 objects, 0 refused"), "what is said of the objects")
+    image = (TOP / "tools" / "package" / "Dockerfile").read_text()
+    command = re.search(r"(?m)^CMD (.*)$", image)[1]
+    mounts = re.findall(r"mountPath: (\S+)\}", text)
+    for it in re.findall(r'"(/[^"]+)"', command):
+        holds(any(it.startswith(one) for one in mounts), f"{it} is in no folder that is mounted")
+    holds(re.search(r'server \S+ unix@(\S+)', parts["haproxy.cfg"])[1] in command, "the router goes to another socket")
+    numbers = set(re.findall(r"(?:runAsUser|runAsGroup|fsGroup): (\d+)", text)) | set(re.findall(r"--[gu]id (\d+)", image))
+    check(len(numbers), 1, "how many users and groups there are")
+    if shutil.which("haproxy"):
+        said = subprocess.run(["haproxy", "-c", "-f", folder / "haproxy.cfg"], capture_output=True, text=True, timeout=SECONDS)
+        check(said.returncode, 0, said.stderr)
+
+
+def a_router(folder):
+    """HAProxy, by the file of examples/router: each object by its port, and by the name that a client opens."""
+    text = (TOP / "examples" / "router" / "haproxy.cfg").read_text()
+    ports = {it: str(free_port()) for it in sorted(set(re.findall(r"127\.0\.0\.1:(\d+)", text)))}
+    for old, new in ports.items():
+        text = text.replace(f"127.0.0.1:{old}", f"127.0.0.1:{new}")
+    (folder / "haproxy.cfg").write_text(text)
+    with contextlib.ExitStack() as stack:
+        for name, port in (("cell", ports["7101"]), ("bounded_buffer", ports["7102"])):
+            (folder / name).mkdir()
+            words = [program(), "keep", TOP / "examples" / "objects" / f"{name}.pp", folder / name, port, "--stop-with-input"]
+            ran = subprocess.Popen(words, stdin=subprocess.PIPE, stdout=subprocess.PIPE, text=True)
+            stack.callback(ran.communicate)
+            stack.callback(ran.kill)
+            check(ran.stdout.readline(), f"listening {port}\n", "the server")
+        router = subprocess.Popen(["haproxy", "-f", folder / "haproxy.cfg"], stdout=subprocess.DEVNULL, stderr=subprocess.PIPE, text=True)
+        stack.callback(router.communicate)
+        stack.callback(router.kill)
+        for port in ("7001", "7000"):
+            with Object(int(ports[port]), "cell", client="ann") as it:
+                check((it.put(int(port)), it.get()), (None, int(port)), "a cell")
+        for port in ("7002", "7000"):
+            with Object(int(ports[port]), "bounded_buffer", client="ann") as it:
+                check((it.put("bread"), it.get()), (None, "bread"), "a buffer")
+
+
+def main():
+    words = given_words()
+    if any(it.startswith("-") for it in words):
+        print(__doc__, file=sys.stderr)
+        return 2
+    if os.geteuid():
+        print("not run: root")
+        return 0
+    if any([lacks(it) for it in ("unshare", "nsenter", "ip")]):
+        return 0
+    trials = [a_shared_folder, a_copied_folder, two_servers, a_manifest, *([] if lacks("haproxy") else [a_router])]
+    return kept.run("try_standby", trials, words)
+
+
+load_tests = whole(main)

@@ -1,0 +1,383 @@
+"""Five tasks of a new user over `pathserve keep`, whose server is killed by `kill -9` meanwhile: a semaphore and a
+limiter, an inventory with reservations, a queue of jobs with leases, a leader with a fencing token, and a ledger.
+
+usage: gate/try_tasks [--program FILE] [--kills N] [--seed N] [WORDS OF A TITLE ..]
+
+The objects are those of gate/tasks, the clients use clients/python, with names. The server is killed N
+times (4 where no number is given) at drawn moments. Then no more than five are inside the semaphore at a time, nothing
+of the inventory is lost, each job is done, there is one leader for a token, and each answered transfer is in the
+ledger.
+
+The program is the one that ./pathserve runs, or FILE. The last line is `try_tasks: N passed, M failed`; the exit status
+is 0 where M is 0 and N is not.
+"""
+import collections
+import contextlib
+import random
+import threading
+import time
+
+from clients.python.pathclient import CallError, Cancelled, Lost, NoServer, Object, Refused
+from gate import kept
+from gate.kept import Server
+from gate.tried import TOP, Wrong, check, given_words, holds, loads, until
+
+
+class Task:
+    """A server on the objects of a task, with clients in threads."""
+
+    def __init__(self, folder, name, seed):
+        self.server = Server(folder, (TOP / "gate" / "tasks" / f"{name}.pp").read_text(), at_path=True)
+        self.random, self.faults, self.threads, self.stops = random.Random(seed), [], [], False
+        self.server.start()
+
+    def object(self, name, client):
+        return Patient(self, name, client)
+
+    def run(self, work, *words):
+        """Has a client work in a thread of its own."""
+
+        def body():
+            try:
+                work(*words)
+            except (CallError, Wrong, OSError, ValueError) as fault:
+                self.faults.append(f"{work.__name__}{words}: {type(fault).__name__} {fault}")
+
+        self.threads.append(threading.Thread(target=body, daemon=True))
+        self.threads[-1].start()
+
+    def kill(self, times):
+        for _ in range(times):
+            time.sleep(self.random.uniform(0.05, 0.4))
+            self.server.kill()
+            self.server.start()
+
+    def join(self, seconds=60):
+        end = time.monotonic() + seconds
+        for it in self.threads:
+            it.join(max(0.0, end - time.monotonic()))
+        holds(not any(it.is_alive() for it in self.threads), "clients do not end")
+        self.threads = []
+        holds(not self.faults, f"{len(self.faults)} faults: {self.faults[:3]}")
+
+    def end(self, *names):
+        check(self.server.end()[1], 0, "the status")
+        self.server.is_whole(*names)
+
+
+class Patient:
+    """A client with a name, which comes back however often its server dies. The library does not ask again for a first
+    call, since it cannot tell `keep` from `serve`, nor behind the time that a call may take: that is done here. A call
+    that was cancelled since the connection broke is made anew."""
+
+    def __init__(self, task, name, client):
+        self.task, self.name, self.client, self.it = task, name, client, None
+
+    def connected(self):
+        while self.it is None:
+            with contextlib.suppress(NoServer, Lost):
+                self.it = Object(self.task.server.place, self.name, client=self.client, wait=20)
+        return self.it
+
+    def __call__(self, operation, *arguments, within=None):
+        while True:
+            it = self.connected()
+            key = it.key
+            try:
+                return it.call(operation, *arguments, within=within)
+            except Cancelled:
+                if within is not None:
+                    raise
+            except Lost:
+                # (its time was over, or it was the first call)
+                it.close()
+                self.it = None
+                if (it := self.connected()).key == key + 1:
+                    with contextlib.suppress(Cancelled):
+                        return it.call(operation, *arguments, key=key)
+
+    def close(self):
+        if self.it:
+            self.it.close()
+
+
+# Tasks.
+
+
+def a_semaphore_of_five(folder, kills, seed):
+    """Twelve workers go in and out; never more than five are inside, and at the end all slots are free."""
+    task, inside, most, lock = Task(folder, "limits", seed), set(), [0], threading.Lock()
+
+    def work(name):
+        sem = task.object("sem", name)
+        sem("held")
+        for _ in range(12):
+            sem("enter", name, int(time.time()))
+            with lock:
+                inside.add(name)
+                most[0] = max(most[0], len(inside))
+            time.sleep(0.002)
+            with lock:
+                inside.remove(name)
+            sem("drop", name)
+            sem("leave")
+        sem.close()
+
+    for at in range(12):
+        task.run(work, f"w{at}")
+    task.kill(kills)
+    task.join()
+    check(most[0], 5, "the most that were inside")
+    sem = task.object("sem", "late")
+    check(sem("held"), 0, "those that are held")
+    for at in range(5):
+        sem("enter", f"x{at}", 0)
+    try:
+        sem("enter", "sixth", 0, within=0.2)
+        raise Wrong("a sixth one came in")
+    except Cancelled:
+        pass
+    sem.close()
+    task.end("sem", "bucket", "window")
+
+
+def a_limiter(folder, kills, seed):
+    """As many things are done as tokens were given, whatever dies meanwhile."""
+    task, given, used = Task(folder, "limits", seed), [0], [0, 0, 0]
+
+    def tick():
+        bucket = task.object("bucket", "ticker")
+        while given[0] < 120:
+            bucket("refill")
+            given[0] += 1
+            time.sleep(0.001)
+        bucket.close()
+
+    def grab(at):
+        bucket = task.object("bucket", f"g{at}")
+        for _ in range(40):
+            bucket("grab")
+            used[at] += 1
+        bucket.close()
+
+    task.run(tick)
+    for at in range(3):
+        task.run(grab, at)
+    task.kill(kills)
+    task.join()
+    check((given[0], used), (120, [40, 40, 40]), "tokens")
+    bucket = task.object("bucket", "late")
+    try:
+        bucket("grab", within=0.2)
+        raise Wrong("a token is left")
+    except Cancelled:
+        pass
+    bucket.close()
+    task.end("sem", "bucket", "window")
+
+
+def an_inventory(folder, kills, seed):
+    """What was restocked is there, is reserved, or was sold; a reservation ends once."""
+    task, sold, ended, lock = Task(folder, "inventory", seed), [], [], threading.Lock()
+    total, now = 400, [1]
+    first = task.object("inventory", "owner")
+    first("open_reservations")
+    first("restock", "lamp", total)
+    first("tick", 1)
+
+    def shop(name, draw):
+        it = task.object("inventory", name)
+        it("open_reservations")
+        for turn in range(25):
+            number, amount = f"{name}.{turn}", 1 + draw.randrange(3)
+            with contextlib.suppress(Refused):
+                it("reserve", number, "lamp", amount)
+                how = draw.randrange(3)
+                if how == 0:
+                    it("confirm", number)
+                    with lock:
+                        sold.append(amount)
+                elif how == 1:
+                    it("release", number)
+                # else it ends by itself
+        it.close()
+
+    def sweep():
+        it = task.object("inventory", "sweeper")
+        it("open_reservations")
+        while not task.stops or it("open_reservations"):
+            now[0] += 1
+            it("tick", now[0])
+            with contextlib.suppress(Refused):
+                while True:
+                    if gone := it("expire"):
+                        ended.append(gone)
+            time.sleep(0.005)
+        it.close()
+
+    task.run(sweep)
+    shops = [random.Random(f"{seed}.{at}") for at in range(4)]
+    for at, draw in enumerate(shops):
+        task.run(shop, f"s{at}", draw)
+    task.kill(kills)
+    until(lambda: sum(it.is_alive() for it in task.threads) == 1, f"the shops do not end: {task.faults[:3]}")
+    task.stops = True
+    task.join()
+    holds(len(set(ended)) == len(ended), "a reservation ended twice")
+    found = first("available", "lamp") + sum(sold), first("open_reservations")
+    check(found, (total, 0), "what is there and was sold")
+    first.close()
+    task.end("inventory")
+
+
+def a_queue_of_jobs(folder, kills, seed):
+    """Each job is done, by one worker but where its lease ran out; urgent ones come first."""
+    task, done, lock = Task(folder, "work", seed), collections.Counter(), threading.Lock()
+    jobs, now = [f"j{at}" for at in range(60)], [10]
+    first = task.object("work", "owner")
+    first("waiting")
+    first("tick", now[0])
+
+    def submit(mine):
+        it = task.object("work", f"submit{mine[0]}")
+        it("waiting")
+        for job in mine:
+            it("submit_urgent" if job.endswith("3") else "submit", job)
+        it.close()
+
+    def work(name, draw):
+        it = task.object("work", name)
+        it("waiting")
+        while not task.stops:
+            try:
+                job = it("claim", within=0.3)
+            except (Cancelled, Refused):
+                continue
+            if draw.random() < 0.15:
+                continue  # it dies with the job in its hands
+            with contextlib.suppress(Refused):
+                it("finish", job)
+                with lock:
+                    done[job] += 1
+        it.close()
+
+    def tick():
+        it = task.object("work", "ticker")
+        it("waiting")
+        while not task.stops:
+            now[0] += 1
+            it("tick", now[0])
+            while (what := it("due")) and not task.stops:
+                it("skip" if what == 1 else "redeliver")
+            time.sleep(0.03)
+        it.close()
+
+    for at in range(3):
+        task.run(submit, jobs[at::3])
+    for at in range(4):
+        task.run(work, f"w{at}", random.Random(f"{seed}.{at}"))
+    task.run(tick)
+    task.kill(kills)
+    end = time.monotonic() + 30
+    while len(done) < len(jobs) and time.monotonic() < end:
+        time.sleep(0.02)
+    task.stops = True
+    task.join()
+    check(sorted(done.elements()), sorted(jobs), "the jobs that were done")
+    check((first("waiting"), first("leased")), (0, 0), "the jobs that are left")
+    first.close()
+    task.end("work")
+
+
+def a_leader(folder, kills, seed):
+    """For a token there is one leader, and a lease outlives the server."""
+    task, terms, now, lock = Task(folder, "lease", seed), [], [100], threading.Lock()
+
+    def candidate(name, draw):
+        it, token = task.object("lease", name), None
+        it("token")
+        while not task.stops:
+            with lock:
+                now[0] += 1
+                moment = now[0]
+            try:
+                found = it("acquire", name, moment, 12)
+                if found != token:
+                    with lock:
+                        terms.append((found, name))
+                token = found
+            except Refused as why:
+                holds(why.word == "taken", why.word)
+                token = None
+            # (some rest so long that their lease ends)
+            time.sleep(0.1 if draw.random() < 0.1 else 0.003)
+        it.close()
+
+    ann = task.object("lease", "boss")
+    ann("token")
+    check(ann("acquire", "boss", 100, 20), 1)
+    for at in range(4):
+        task.run(candidate, f"c{at}", random.Random(f"{seed}.{at}"))
+    task.kill(kills)
+    until(lambda: len(terms) > 3 or task.faults, "the leader stays the same", 20)
+    task.stops = True
+    task.join()
+    tokens = [it for it, _ in terms]
+    holds(len(set(tokens)) == len(tokens), f"two leaders have one token: {sorted(terms)[:6]}")
+    holds(len(tokens) > 1 and min(tokens) == 2, f"tokens {sorted(tokens)[:6]}")
+    # A lease that has not ended holds behind a crash.
+    check(ann("acquire", "boss", 1_000_000, 60), ann("token"))
+    task.server.kill()
+    task.server.start()
+    bob = task.object("lease", "bob")
+    bob("token")
+    try:
+        bob("acquire", "bob", 1_000_010, 60)
+        raise Wrong("there are two leaders")
+    except Refused as why:
+        check(why.word, "taken")
+    ann.close()
+    bob.close()
+    task.end("lease")
+
+
+def a_ledger(folder, kills, seed):
+    """Each transfer that was answered is in the ledger, once."""
+    task, answered = Task(folder, "bank", seed), collections.Counter()
+    first = task.object("bank", "owner")
+    first("done_ids")
+    first("enter", "a", 1_000_000)
+    first("enter", "b", 0)
+
+    def transfer(name):
+        it = task.object("bank", name)
+        it("done_ids")
+        turn = 0
+        while not task.stops:
+            turn += 1
+            it("transfer", f"{name}.{turn}", "a", "b", 1)
+            answered[name] += 1
+        it.close()
+
+    for at in range(6):
+        task.run(transfer, f"t{at}")
+    task.kill(kills)
+    time.sleep(0.2)
+    task.stops = True
+    task.join()
+    total = sum(answered.values())
+    check((first("balance", "b"), first("balance", "a")), (total, 1_000_000 - total), "what was transferred")
+    holds(total > 0, "nothing was transferred")
+    first.close()
+    task.end("bank")
+
+
+TRIALS = (a_semaphore_of_five, a_limiter, an_inventory, a_queue_of_jobs, a_leader, a_ledger)
+
+
+def main():
+    given, words = kept.options(given_words(), kills=4, seed=1)
+    return kept.run("try_tasks", TRIALS, words, **given)
+
+
+load_tests = loads(lambda: kept.trials_of("try_tasks", TRIALS, kills=4, seed=1))

@@ -1,0 +1,55 @@
+"""Looks at the Python of gate/, tools/, bench/ and clients/python as it stands: its types by mypy, and by ruff what its
+default rules find.
+
+usage: gate/try_types [WORD ..]
+
+gate/mypy.ini says how strictly each module is looked at; the modules that it names last are not clean yet, and may only
+go from there. Each file that has no fault passes; of the others the faults are said that have one of the words in them. What
+is not there, mypy or ruff, is not run, and fails nothing. The last line is `try_types: N passed, M failed`; the exit status
+is 0 where M is 0 and N is not.
+"""
+import os
+import pathlib
+import re
+import subprocess
+
+from gate.tried import TOP, given_words, lacks, whole
+
+PARTS = ("gate", "tools", "bench", "clients/python/pathclient")
+SECONDS = 600
+FAULT = re.compile(r"([\w./]+\.py):\d+")
+
+
+def files() -> list[str]:
+    return sorted(str(it.relative_to(TOP)) for part in PARTS for it in (TOP / part).rglob("*.py"))
+
+
+def said(*words: str) -> list[str]:
+    """The faults that a tool tells, a line each, by the file that each line begins with."""
+    ran = subprocess.run(words, cwd=TOP, stdin=subprocess.DEVNULL, capture_output=True, text=True, timeout=SECONDS)
+    lines = [it for it in ran.stdout.splitlines() if FAULT.match(it)]
+    if ran.returncode and not lines:
+        return [f"{words[0]} ended with status {ran.returncode}: {(ran.stderr or ran.stdout)[-500:]}"]
+    return lines
+
+
+def main() -> int:
+    words, found = given_words(), []
+    has_ruff, has_mypy = not lacks("ruff"), not lacks("mypy")
+    if not has_ruff and not has_mypy:
+        return 0
+    if has_mypy:
+        cache = pathlib.Path(os.environ.get("XDG_CACHE_HOME", pathlib.Path.home() / ".cache")) / "pathserve-mypy"
+        found += said("mypy", "--config-file", "gate/mypy.ini", "--cache-dir", str(cache), "--no-error-summary", "--hide-error-context")
+    if has_ruff:
+        found += said("ruff", "check", "--no-cache", "--output-format", "concise", *PARTS)
+    found = [it for it in found if ": note:" not in it]
+    for line in (it for it in found if all(word in it for word in words)):
+        print(line)
+    wrong = {it[1] for line in found if (it := FAULT.match(line))}
+    failed = len(wrong) + sum(not FAULT.match(it) for it in found)
+    print(f"try_types: {len(set(files()) - wrong)} passed, {failed} failed")
+    return 1 if failed else 0
+
+
+load_tests = whole(main)

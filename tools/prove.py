@@ -1,0 +1,104 @@
+"""Proves all that the program pathserve stands on, and builds it: from then on ./pathserve runs the proved program.
+
+usage: tools/prove
+
+`rt ci` proves a copy of the crates, those of tests aside, so sources may be edited meanwhile: then it proves them once
+more. What passes the kit keeps on this machine: a run after one that was ended goes on from there. Standard error has a
+line for each crate that is proved, and one where a minute passes without any. out/prove.times holds the seconds that
+each took, for the next run to say how long it may take. The exit status is 0, or 70 where not all is proved or built,
+and then one line says why; no half of a result stays.
+"""
+import os
+import re
+import selectors
+import subprocess
+import sys
+import time
+
+from tools import progress, ready, repository
+
+# Seconds after which a line is due.
+SILENCE = 60
+
+
+def heard_out(words, folder, run):
+    """Runs `rt ci` in this folder, tells how far it is, and returns its exit status and all that it said."""
+    said, rest = [], b""
+    with subprocess.Popen(
+        words, cwd=folder, stdin=subprocess.DEVNULL, stdout=subprocess.PIPE, stderr=subprocess.STDOUT
+    ) as ran, selectors.DefaultSelector() as waits:
+        waits.register(ran.stdout, selectors.EVENT_READ)
+        try:
+            due = time.monotonic() + SILENCE
+            while True:
+                if not waits.select(max(0, due - time.monotonic())):
+                    ready.say(run.silent(time.monotonic()))
+                    due = time.monotonic() + SILENCE
+                    continue
+                piece = os.read(ran.stdout.fileno(), 1 << 16)
+                *lines, rest = (rest + piece).split(b"\n")
+                for line in (it.decode(errors="replace") for it in (lines if piece else [rest])):
+                    said.append(line)
+                    told = run.heard(line, time.monotonic())
+                    if told:
+                        ready.say(told)
+                        due = time.monotonic() + SILENCE
+                if not piece:
+                    break
+        except BaseException:
+            # What it started ends with it, and what it leaves lies in this folder and where the next `rt` removes it.
+            ran.kill()
+            raise
+    return ran.returncode, "\n".join(said)
+
+
+def reason(status, said):
+    """What failed: the first crate that is not proved, and why."""
+    crate = re.search(r"^rt: (\w+)(?:: its tests are)? NOT PROVED", said, re.M)
+    if not crate or "the disk is full" in ready.reason(status, said):
+        return ready.reason(status, said)
+    block = said[: crate.start()].rpartition(f"== {crate[1]}")[2]
+    return f"{crate[1]}: {ready.reason(status, block)}"
+
+
+def prove():
+    """Proves and builds the sources as they are now."""
+    kit = ready.kit()
+    ready.needed(kit, "toolchain/bin/clang", "bin/rattle-link")
+    with ready.room(ready.PROVED) as folder:
+        top = folder / "repo"
+        ready.copy_sources(top)
+        of_sources = ready.digest(top, kit)
+        # So that it is the top of a repository, in which `rt ci` keeps what it sets aside.
+        (top / ".git").mkdir()
+        run = progress.Progress(repository.crates(top), time.monotonic())
+        left = run.left(time.monotonic())
+        last = "" if left is None else f", {progress.minutes(left)} by the last run where none of it is kept"
+        ready.say(f"proving {len(run.below)} crates{last}")
+        try:
+            status, said = heard_out([kit / "bin" / "rt", "ci"], top, run)
+        finally:
+            run.keep()
+        program = top / "crates" / ready.PROGRAM / "out" / ready.PROGRAM
+        if status or not program.exists():
+            raise ready.Stop(f"not proved: {reason(status, said)}{ready.keep_log(ready.PROVED, said)}")
+        ready.put(ready.PROVED, program, of_sources)
+        ready.say(f"proved and built, {progress.minutes(time.monotonic() - run.begun)}")
+
+
+def work():
+    with ready.turn(ready.PROVED):
+        if ready.choose() == ready.PROVED:
+            ready.say("these sources are proved")
+            return
+        prove()
+        while ready.choose() != ready.PROVED:
+            ready.say("a source was edited meanwhile: proving it again")
+            prove()
+
+
+def main():
+    if sys.argv[1:]:
+        print(__doc__, file=sys.stderr)
+        return 2
+    return ready.ran(work)
