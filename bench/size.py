@@ -1,14 +1,15 @@
 """Measures what a call takes by how many entries its part has, and how long they are.
 
-usage: bench/size [--program FILE] [--only WORD] [--ways WORD,..] [--bytes N,..] [--sizes N,..] [--calls N] [--instructions]
+usage: bench/size [--program FILE] [--only WORD] [--ways WORD,..] [--bytes N,..] [--sizes N,..] [--calls N] [--rounds N] [--instructions]
 
 Of a queue of texts, a table of integers, a table of texts and an array of texts, with 1, 10, 100 and 1,000 entries of 10 and of
 200 bytes (the keys of a table of integers are as long; other keys have 8): microseconds of a processor a call for each form of
 body, in `run`, `serve`, `keep` and `audit`, and beside it those of Redis for the like call, of which it keeps nothing on a
 disk. A part is filled, and then N calls (1,000; in an audit 20 times as many) are made. Of `run` and `audit` the process is
 taken, less that of a script or a trace without the N calls; of a server its threads, from the first of the N calls to the
-answer to the last one, sent in lots. Each answer is looked at, and the least of three runs counts. The last column is the
-figure of the most entries over that of the fewest, and behind it stands the same of the steps of a call, as `run` tells them.
+answer to the last one, sent in lots. Each answer is looked at. All of a way is measured in rounds, three where it is not given, so
+that the runs of one figure lie apart, and the least counts. The last column is the figure of the most entries over that of the
+fewest, and behind it stands the same of the steps of a call, as `run` tells them.
 
 --ways has those of run, serve, keep, audit and redis that are wanted. With --instructions it is `run` alone, and what is
 counted is instructions of the program, by valgrind's callgrind: on a busy machine that tells more. The program is the one that
@@ -69,7 +70,7 @@ end;
 SIZES = (1, 10, 100, 1_000)
 BYTES = (10, 200)
 WAYS = ("run", "serve", "keep", "audit", "redis")
-RUNS = 3
+ROUNDS = 3
 LOT = 16
 ENDED = re.compile(rb"(?:done|refused) \d+ ?(.*)")
 
@@ -88,8 +89,8 @@ class Row:
 
 def asked(*words):
     """A request of Redis."""
-    words = [str(it) for it in words]
-    return f"*{len(words)}\r\n".encode() + b"".join(f"${len(it)}\r\n{it}\r\n".encode() for it in words)
+    texts = [str(it) for it in words]
+    return f"*{len(texts)}\r\n".encode() + b"".join(f"${len(it)}\r\n{it}\r\n".encode() for it in texts)
 
 
 def told(value):
@@ -154,7 +155,7 @@ class Running:
     """The program on scripts."""
 
     def __init__(self, folder, options):
-        self.folder, self.options, self.steps = folder, options, {}
+        self.folder, self.options, self.steps, self.filling = folder, options, {}, {}
 
     def used(self, row, count):
         """What a script of so many calls on a part that was filled takes: seconds of a processor, or instructions."""
@@ -177,9 +178,11 @@ class Running:
         return int(re.search(rb"Collected : (\d+)", notes.read_bytes())[1]) if tool else usage.ru_utime + usage.ru_stime
 
     def measure(self, row, calls):
-        runs = 1 if self.options.instructions else RUNS
-        least = [min(self.used(row, it) for _ in range(runs)) for it in (calls, 0)]
-        return (least[0] - least[1]) / calls * (1 if self.options.instructions else 1e6)
+        # (a part is filled alike for all forms of body on its object)
+        if row.name not in self.filling:
+            self.filling[row.name] = self.used(row, 0)
+        unit = 1 if self.options.instructions else 1e6
+        return self.used(row, calls) / calls * unit, self.filling[row.name] / calls * unit
 
 
 def spelled(words):
@@ -223,8 +226,7 @@ class Auditing:
     def measure(self, row, calls):
         # (a call of an audit takes little beside the start of a process)
         calls *= 20
-        least = [min(self.used(row, it) for _ in range(RUNS)) for it in (calls, 0)]
-        return (least[0] - least[1]) / calls * 1e6
+        return tuple(self.used(row, it) / calls * 1e6 for it in (calls, 0))
 
 
 class Server:
@@ -292,7 +294,7 @@ class Serving:
     def __init__(self, folder, way):
         self.folder, self.way = folder, way
 
-    def once(self, row, calls):
+    def measure(self, row, calls):
         with tempfile.TemporaryDirectory(dir=self.folder) as place:
             port = keys.free_port()
             more = ["--sync", "1000"] if self.way == "keep" else ["--sessions", "1"]
@@ -303,10 +305,7 @@ class Serving:
                 used = it.used()
                 if it.call([row.call(n)[0] for n in range(calls)]) != [row.call(n)[1] for n in range(calls)]:
                     raise SystemExit(f"another answer to {row.title}")
-                return (it.used() - used) / calls
-
-    def measure(self, row, calls):
-        return min(self.once(row, calls) for _ in range(RUNS))
+                return (it.used() - used) / calls, 0
 
 
 class Beside:
@@ -315,26 +314,31 @@ class Beside:
     def __init__(self, folder):
         self.folder = folder
 
-    def once(self, row, calls):
+    def measure(self, row, calls):
+        if not row.request:
+            return None
         port = keys.free_port()
         words = ["redis-server", "--port", str(port), "--save", "", "--appendonly", "no", "--dir", self.folder]
         with begun(words, port, b"eady to accept connections") as it:
             it.ask(row.filling)
             used = it.used()
             it.ask([row.request(n) for n in range(calls)])
-            return (it.used() - used) / calls
-
-    def measure(self, row, calls):
-        return min(self.once(row, calls) for _ in range(RUNS)) if row.request else None
+            return (it.used() - used) / calls, 0
 
 
-def measured(way, size, length, options):
-    """Of each form of body its figure by this way, and the steps of its last calls where it is `run`."""
+def once(way, size, length, options):
+    """Of each form of body what its calls take by this way, and what of that is taken without them, a call; and the steps of its
+    last calls where it is `run`."""
     with tempfile.TemporaryDirectory(prefix="size-") as made:
         folder = pathlib.Path(made)
         (folder / "objects").write_text(OBJECTS.replace("SIZE", str(size)), encoding="ascii")
-        ways = {"run": lambda: Running(folder, options), "audit": lambda: Auditing(folder, size, length), "redis": lambda: Beside(folder)}
-        by = ways.get(way, lambda: Serving(folder, way))()
+        by: Running | Auditing | Beside | Serving
+        if way == "run":
+            by = Running(folder, options)
+        elif way == "audit":
+            by = Auditing(folder, size, length)
+        else:
+            by = Beside(folder) if way == "redis" else Serving(folder, way)
         found = {}
         for row in rows(size, length):
             if options.only in f"{row.name}: {row.title}":
@@ -342,8 +346,22 @@ def measured(way, size, length, options):
         return found
 
 
+def measured(way, length, options):
+    """Of each size, and of each form of body, its figure by this way, the least of all rounds, and its steps."""
+    rounds = 1 if options.instructions else options.rounds
+    found = [[once(way, it, length, options) for it in options.sizes] for _ in range(rounds)]
+    least = []
+    for of_size in zip(*found):
+        least.append({})
+        for title, (figures, steps) in of_size[0].items():
+            if figures is not None:
+                best = [min(it[title][0][at] for it in of_size) for at in (0, 1)]
+                least[-1][title] = best[0] - best[1], steps
+    return least
+
+
 def shown(figure):
-    return "" if figure is None else f"{figure:,.1f}" if figure < 1_000 else f"{figure:,.0f}"
+    return f"{figure:,.1f}" if figure < 1_000 else f"{figure:,.0f}"
 
 
 def main():
@@ -355,18 +373,17 @@ def main():
     parser.add_argument("--bytes", type=numbers, default=BYTES)
     parser.add_argument("--sizes", type=numbers, default=SIZES)
     parser.add_argument("--calls", type=int, default=1_000)
+    parser.add_argument("--rounds", type=int, default=ROUNDS)
     parser.add_argument("--instructions", action="store_true")
     options = parser.parse_args(words)
     ways = ["run"] if options.instructions else [it for it in options.ways.split(",") if it != "redis" or shutil.which("redis-server")]
     for length in options.bytes:
         for way in ways:
             print(f"{way}, entries of {length} bytes, {'instructions' if options.instructions else 'microseconds'} a call")
-            found = [measured(way, it, length, options) for it in options.sizes]
+            found = measured(way, length, options)
             print("| Body | " + " | ".join(f"{it:,}" for it in options.sizes) + " | Ratio |\n" + "|---" * (2 + len(options.sizes)) + "|")
             for title in found[0]:
                 row = [it[title][0] for it in found]
-                if row[0] is None:
-                    continue
                 steps = [sum(it[title][1]) for it in found] if way == "run" else []
                 ratio = (f"{row[-1] / row[0]:.2f}" if row[0] > 0 else "") + (f" (steps {steps[-1] / steps[0]:.2f})" if steps else "")
                 print(f"| {title} | " + " | ".join(shown(it) for it in row) + f" | {ratio} |", flush=True)

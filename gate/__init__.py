@@ -1,5 +1,5 @@
 """The parts of tools/test, and what they share: gate/README.md tells of each. `python3 -m unittest gate` runs them all,
-on the program that ./pathserve runs, and `python3 -m unittest gate.try_keep` one."""
+on the program that ./pathserve runs or PATHSERVE_PROGRAM names, and `python3 -m unittest gate.try_keep` one."""
 import unittest
 from typing import Optional
 

@@ -8,27 +8,23 @@ Writes a program into a temporary copy of the repository and runs it there by `r
 proved. So the figures say how one grows with the other, more than how fast a desk is. It is no part of the gate.
 """
 import os
-import pathlib
-import shutil
-import subprocess
-import tempfile
 
-from gate.tried import TOP
+from gate.benched import copy_crates, run
+from gate.tried import TOP, new_folder
 
-SECONDS = 300
 USES = (
-    "value_core decl_core decl_read hand_core device_core exclude_core page_core apply_core "
-    "judge_core call_core run_core board_core ask_core desk_core"
+    "value_core decl_core decl_read device_core page_core apply_core "
+    "run_core board_core desk_core"
 )
 MAIN = r'''//! Times of a desk, and the memory that it takes.
 #![tactic(auto)]
 
 use decl_read::read::read_objects;
-use ask_core::answer::{Cancelled, Collected};
+use board_core::answer::{Cancelled, Collected};
 use desk_core::desk::Desk;
-use exclude_core::analyse::{Accepted, analyse};
+use decl_core::analyse::{Accepted, analyse};
 use device_core::memory::MemHand;
-use hand_core::whole::put;
+use device_core::whole::put;
 use page_core::page_list::PageList;
 use page_core::pins::Pins;
 use run_core::perform::perform;
@@ -188,25 +184,10 @@ const ONLY_FILES: bool = false;
 '''
 
 
-def run(top, text):
-    """Runs a program over the crates, and gives what it prints."""
-    source = top / "crates" / "bench" / "src"
-    source.mkdir(parents=True, exist_ok=True)
-    (source / "main.rt").write_text(text)
-    words = ["rt", "try", "--seconds", str(SECONDS)]
-    ran = subprocess.run(words, cwd=top / "crates" / "bench", capture_output=True, text=True)
-    told = ran.stdout if not ran.returncode else ran.stdout + ran.stderr
-    print(told, end="", flush=True)
-    return ran.returncode
-
-
 def main():
     os.chdir(TOP)
-    with tempfile.TemporaryDirectory() as name:
-        top = pathlib.Path(name)
-        shutil.copytree(TOP / "crates", top / "crates", ignore=shutil.ignore_patterns("out", "wrong-bodies"))
-        (top / "crates.txt").write_text((TOP / "crates.txt").read_text() + f"bench: {USES}\n")
-        shutil.copy(TOP / "HANDLES", top)
+    with new_folder() as top:
+        copy_crates(top, USES)
         status = run(top, MAIN)
         # Memory is counted in a process of its own.
         return status or run(top, MAIN.replace("ONLY_FILES: bool = false", "ONLY_FILES: bool = true"))

@@ -8,32 +8,31 @@ builds the program, and runs it. It is no part of the gate.
 """
 import os
 import pathlib
-import shutil
 import subprocess
 import sys
-import tempfile
 
-from gate.tried import TOP
+from gate.benched import copy_crates, write
+from gate.tried import TOP, new_folder
 from tools import make_ready
 
 USES = (
-    "path_tree value_core text_core decl_core decl_read past_core live_core guest_core front_core journal_core hosted_core recover_core recover_text"
+    "path_tree value_core text_core decl_core decl_read path_count live_core guest_core post_core hosted_core recover_core "
 )
 MAIN = r'''//! Times of a kept object.
 #![tactic(auto)]
 
 use decl_core::object::Object;
 use decl_read::read::read_objects;
-use front_core::source::source_of;
+use live_core::source::source_of;
 use guest_core::guests::Guests;
 use hosted_core::hosted::{Begun, Hosted};
-use journal_core::folder::FolderFile;
-use journal_core::journal::Journal;
+use post_core::folder::FolderFile;
+use post_core::journal::Journal;
 use live_core::call::Limits;
 use live_core::lines::push_all;
 use live_core::live::Live;
 use recover_core::recover::House;
-use recover_text::recover::recover;
+use recover_core::text_recover::recover;
 use std::alloc::Global;
 use std::process::ExitCode;
 use std::time::Instant;
@@ -214,13 +213,8 @@ fn main(rt: HostRuntime) -> ExitCode {
 def main():
     os.chdir(TOP)
     where = pathlib.Path(sys.argv[1] if len(sys.argv) > 1 else ".").absolute()
-    with tempfile.TemporaryDirectory(dir=where) as name:
-        folder = pathlib.Path(name)
-        top = folder / "repo"
-        shutil.copytree(TOP / "crates", top / "crates", ignore=shutil.ignore_patterns("out", "wrong-bodies"))
-        (top / "crates.txt").write_text((TOP / "crates.txt").read_text() + f"bench: {USES}\n")
-        source = top / "crates" / "bench" / "src"
-        source.mkdir(parents=True)
-        (source / "main.rt").write_text(MAIN)
+    with new_folder(room=where) as folder:
+        copy_crates(folder / "repo", USES)
+        write(folder / "repo", MAIN)
         program = make_ready.built(folder, "bench")
         return subprocess.run([program], cwd=folder).returncode

@@ -244,8 +244,8 @@ class Reader:
     """Makes the cases of one block."""
 
     # The sections that may stand in a case beside its inputs, and those of which one has to be there.
-    NAMES = ("rows", "output", "error", "reads", "faults", "output, one more", "fronts", "growths")
-    KINDS = ("output", "reads", "faults")
+    NAMES: tuple[str, ...] = ("rows", "output", "error", "reads", "faults", "output, one more", "fronts", "growths")
+    KINDS: tuple[str, ...] = ("output", "reads", "faults")
 
     def __init__(self, file, header, block):
         self.file, self.block = file, block

@@ -9,6 +9,7 @@ import time
 
 from gate.cases import TOP, read_text
 from gate.served import Told
+from gate.sessions import Step
 from gate.tried import Wrong
 
 # How long a client that must hear nothing listens, and how long one that sends what is taken waits for the server to take
@@ -22,8 +23,19 @@ MOST_BYTES = 1 << 20
 class Client:
     """What is heard of a client, line by line, up to a time."""
 
-    def __init__(self):
-        self.rest, self.is_over, self.skips, self.end = b"", False, False, 0
+    def __init__(self) -> None:
+        self.rest, self.is_over, self.skips, self.end = b"", False, False, 0.0
+
+    def fileno(self) -> int:
+        raise NotImplementedError
+
+    def read(self) -> bytes:
+        """What has come; nothing at the end."""
+        raise NotImplementedError
+
+    def act(self, step: Step, piece: int) -> None:
+        """Does a step that is none of hearing."""
+        raise NotImplementedError
 
     def await_more(self, seconds):
         """Whether something comes within so many seconds. It is kept; at the end of all that comes `is_over` is set."""

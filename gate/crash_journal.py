@@ -17,7 +17,6 @@ whole history, over all epochs, satisfies every path, and each reply is the sequ
 
 The last line is `crash_journal: N passed, M failed`; the exit status is 0 where M is 0 and N is not.
 """
-import contextlib
 import pathlib
 import subprocess
 import sys
@@ -25,10 +24,10 @@ import tempfile
 
 from gate.cases import TOP
 from gate.drawn_objects import OBJECTS
-from gate.drawn_scripts import Drawer
+from gate.seeds import Drawer
 from gate.slow_audit import bare, datum, ending_of, value_of, words_of
 from gate.slow_world import written
-from gate.tried import Wrong, whole
+from gate.tried import Wrong, new_folder, whole
 from tools import make_ready, ready
 
 TRIAL = TOP / "crates" / "crash_trial"
@@ -280,23 +279,19 @@ def kept():
 
 def main():
     words = sys.argv[1:]
-    with contextlib.ExitStack() as stack:
-        if words[:1] == ["--draw"] and len(words) > 2:
-            folder = pathlib.Path(stack.enter_context(tempfile.TemporaryDirectory()))
-            ready.copy_sources(folder / "repo", TRIAL.name)
-            file = make_ready.built(folder, TRIAL.name)
-            runs = [(f"seed {it}", lambda it=it: tried(file, int(words[1]), int(it))) for it in words[2:]]
-        elif not words:
-            runs = [("the scenario of the gate", kept)]
-        else:
-            sys.exit(__doc__)
-        return told(runs)
+    if not words:
+        return told([("the scenario of the gate", kept())])
+    if words[0] != "--draw" or len(words) < 3:
+        sys.exit(__doc__)
+    with new_folder() as folder:
+        ready.copy_sources(folder / "repo", TRIAL.name)
+        file = make_ready.built(folder, TRIAL.name)
+        return told((f"seed {it}", tried(file, int(words[1]), int(it))) for it in words[2:])
 
 
 def told(runs):
     passed = failed = crashes = 0
-    for name, run in runs:
-        faults, printed = run()
+    for name, (faults, printed) in runs:
         crashes += printed.crashes
         failed += bool(faults)
         passed += 0 if faults else len(printed.states)

@@ -51,16 +51,19 @@ class Client:
     """A client with a name. Its calls have keys; it says some ahead, and asks again for those that have no last line
     where its connection breaks."""
 
-    def __init__(self, name, draw):
+    # The object that it calls.
+    object: str
+
+    def __init__(self, name, draw, numbers, may_lose, kills):
         self.name, self.draw, self.ahead = name, draw, draw.choice(AHEAD)
         # The calls that have no last line yet, the first of which has this key; how many of them were said on this
         # connection; and when each key was first said.
         self.key, self.calls, self.said, self.since = 1, [], 0, {}
         self.done, self.number, self.cancelled = [], None, 0
         self.it, self.rest, self.owes, self.is_open = None, b"", b"", False
-        # The server may lose what was answered so late, in seconds; and it makes so many calls at most, where that is
-        # said.
-        self.may_lose, self.kills, self.most, self.lacked = None, [], None, 0
+        # The numbers that all were told. The server may lose what was answered so late, in seconds, before it was
+        # killed; and it makes so many calls at most, where that is said.
+        self.numbers, self.may_lose, self.kills, self.most, self.lacked = numbers, may_lose, kills, None, 0
 
     def next_call(self):
         raise NotImplementedError
@@ -198,11 +201,9 @@ class Crowd:
     """All clients, and the moments at which something comes."""
 
     def __init__(self, server, count, draw, may_lose=None):
-        self.server, self.draw, self.numbers = server, draw, Numbers()
-        self.clients = [KINDS[at % len(KINDS)](f"c{at}", draw) for at in range(count)]
-        self.selector, self.goes_on, self.kills = selectors.DefaultSelector(), True, []
-        for it in self.clients:
-            it.numbers, it.may_lose, it.kills = self.numbers, may_lose, self.kills
+        self.server, self.draw, self.goes_on, self.kills = server, draw, True, []
+        self.selector, numbers = selectors.DefaultSelector(), Numbers()
+        self.clients = [KINDS[at % len(KINDS)](f"c{at}", draw, numbers, may_lose, self.kills) for at in range(count)]
 
     def connect(self, client):
         """A connection that is not waited for."""

@@ -12,22 +12,19 @@ values of the first; files with other names stay.
 The program is the one that ./pathserve runs, or FILE. The last line is `cut_connections: N passed, M failed`; the exit status is 0
 where M is 0 and N is not.
 """
-import pathlib
 import random
 import select
 import socket
 import struct
-import subprocess
 import sys
-import tempfile
 import threading
 import time
 
 from gate import returning
 from gate.drawn_objects import OBJECTS
-from gate.served import Told, free_port, traced_wrongly
+from gate.served import Server, Told, traced_wrongly
 from gate.slow_world import written
-from gate.tried import given_words, program, whole
+from gate.tried import Wrong, given_words, new_folder, whole
 
 SEEDS = (1, 2)
 CONNECTIONS = 64
@@ -74,8 +71,8 @@ class Connection(threading.Thread):
             if not piece:
                 raise EOFError
             self.rest += piece
-        line, _, self.rest = self.rest.partition(b"\n")
-        line = line.decode("ascii")
+        text, _, self.rest = self.rest.partition(b"\n")
+        line = text.decode("ascii")
         self.told.hear(line)
         return line
 
@@ -187,50 +184,37 @@ def ended_wrongly(out, objects, place, all_told):
 def second_start(objects, place):
     """What is wrong with a server on the folder of one that has ended."""
     before = {it.name: it.read_bytes() for it in place.glob("*.part")}
-    port = free_port()
-    words = [program(), "serve", objects, place, str(port), "--sessions", "1"]
-    with subprocess.Popen(words, stdout=subprocess.PIPE, text=True) as server:
-        server.stdout.readline()
-        with socket.create_connection(("127.0.0.1", port), timeout=LASTS) as it:
-            it.sendall(b"quit\n")
-            it.recv(100)
-        server.communicate(timeout=ENDS)
+    with Server("serve", objects, place, "--sessions", 1) as server:
+        server.says()
+        status = server.ended(ENDS).status
     after = {it.name: it.read_bytes() for it in place.glob("*.part")}
     said = []
-    if server.returncode or after != before or not before:
-        said.append(f"a second start: status {server.returncode}, {len(before)} parts before, the same after: {after == before}")
+    if status or after != before or not before:
+        said.append(f"a second start: status {status}, {len(before)} parts before, the same after: {after == before}")
     return said
 
 
 def tried(seed):
     """What is wrong after one server, and how many calls were told."""
-    with tempfile.TemporaryDirectory(prefix="cut-") as folder:
-        folder = pathlib.Path(folder)
+    with new_folder("cut-") as folder:
         objects, place = folder / "objects", folder / "place"
         place.mkdir()
         for name in (f"{KILLED}.val", *OTHERS):
             (place / name).write_text("left", encoding="ascii")
         objects.write_text("".join(it.text for it in OBJECTS), encoding="ascii")
-        port = free_port()
-        words = [program(), "serve", objects, place, str(port), "--sessions", str(CONNECTIONS)]
-        with subprocess.Popen(words, stdout=subprocess.PIPE, stderr=subprocess.PIPE, text=True) as server:
-            first = server.stdout.readline()
-            if first != f"listening {port}\n":
-                server.kill()
-                return [f"seed {seed}: the server said {first!r} {server.stderr.read()!r}"], 0
-            connections = [Connection(seed, number, port) for number in range(CONNECTIONS)]
-            for it in connections:
-                it.start()
-            for it in connections:
-                it.join()
-            try:
-                out, error = server.communicate(timeout=ENDS)
-            except subprocess.TimeoutExpired:
-                server.kill()
-                return [f"seed {seed}: the server did not end in {ENDS} seconds"], 0
+        try:
+            with Server("serve", objects, place, "--sessions", CONNECTIONS) as server:
+                connections = [Connection(seed, number, server.port) for number in range(CONNECTIONS)]
+                for it in connections:
+                    it.start()
+                for it in connections:
+                    it.join()
+                out, status, error = server.ended(ENDS)
+        except Wrong as wrong:
+            return [f"seed {seed}: {wrong}"], 0
         said = [f"{it.kind}: {wrong}" for it in connections for wrong in it.told.wrong]
-        if server.returncode or error != f"moved to left/1: {KILLED}.val\n":
-            said.append(f"status {server.returncode}, standard error {error!r}")
+        if status or error != f"moved to left/1: {KILLED}.val\n":
+            said.append(f"status {status}, standard error {error!r}")
         said += ended_wrongly(out, objects, place, [it.told for it in connections])
         said += second_start(objects, place)
         if values := value_numbers(place):

@@ -16,20 +16,19 @@ Without seeds also the scripts of cases/run are run, with a line `trace` at thei
 The program is the one that ./pathserve runs, or FILE. The last line is `draw_audits: N passed, M failed`; the exit status is 0
 where M is 0 and N is not.
 """
-import concurrent.futures
 import dataclasses
-import os
 import pathlib
 import subprocess
-import sys
 import tempfile
 
+from gate import seeds
 from gate.cases import TOP, Placed, cases_of, files
 from gate.drawn_objects import OBJECTS
-from gate.drawn_scripts import Drawer, Script
+from gate.drawn_scripts import Script
+from gate.seeds import Drawer
 from gate.slow_audit import answer
 from gate.slow_world import FORMATS, LONGEST, WRITTEN, Sequence
-from gate.tried import given_words, program, whole
+from gate.tried import program, whole
 
 SEEDS = range(1, 61)
 SECONDS = 60
@@ -216,28 +215,17 @@ def left(case):
     return f"the trace of {case.name()}: {wrong}" if wrong else None
 
 
-def print_trace(seed):
+def shown_trace(seed):
     trace = Trace(seed)
-    for number, line in enumerate(trace.lines, 1):
-        print(f"{number:4} {shown(line)}")
-    print(f"\n==== {title(trace)}")
-    for what, text, _ in trace.texts():
-        print(f"{what}: {answer(OBJECTS, text)[0]}")
+    lines = [f"{number:4} {shown(line)}" for number, line in enumerate(trace.lines, 1)]
+    lines += [f"\n==== {title(trace)}", *(f"{what}: {answer(OBJECTS, text)[0]}" for what, text, _ in trace.texts())]
+    return "".join(f"{it}\n" for it in lines)
 
 
 def main():
-    words = given_words()
-    if len(words) == 2 and words[0] == "--trace" and words[1].isdigit():
-        print_trace(int(words[1]))
-        return 0
-    if not all(it.isdigit() for it in words):
-        print(__doc__, file=sys.stderr)
-        return 2
-    # Once, before the processes begin.
-    program()
-    with concurrent.futures.ProcessPoolExecutor(len(os.sched_getaffinity(0))) as pool:
-        found = list(pool.map(tried, [int(it) for it in words] or SEEDS))
-        traces = [] if words else list(pool.map(left, scripts(), chunksize=8))
+    named = seeds.asked(__doc__, "--trace", shown_trace)
+    found = seeds.each(tried, named or SEEDS, 1)
+    traces = [] if named else seeds.each(left, scripts(), 8)
     unlawful = [it for it in traces if it]
     failed = [it for _, said in found for it in said]
     for line in unlawful:

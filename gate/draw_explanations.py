@@ -10,17 +10,15 @@ those of gate/draw_objects, and follow from their seeds.
 The program is the one that ./pathserve runs, or FILE. The last line is `draw_explanations: N passed, M failed`: sources. The exit
 status is 0 where M is 0 and N is not.
 """
-import concurrent.futures
-import os
 import pathlib
 import random
 import re
 import subprocess
-import sys
 import tempfile
 
+from gate import seeds
 from gate.draw_objects import source_of
-from gate.tried import given_words, program, whole
+from gate.tried import program, whole
 
 SEEDS = range(1, 626)
 SECONDS = 60
@@ -123,14 +121,7 @@ def tried(seed):
 
 
 def main():
-    words = given_words()
-    if not all(it.isdigit() for it in words):
-        print(__doc__, file=sys.stderr)
-        return 2
-    # Once, before the processes begin.
-    program()
-    with concurrent.futures.ProcessPoolExecutor(len(os.sched_getaffinity(0))) as pool:
-        found = list(pool.map(tried, [int(it) for it in words] or SEEDS, chunksize=4))
+    found = seeds.each(tried, seeds.asked(__doc__) or SEEDS)
     failed = [line for _, said in found for line in said]
     for line in failed[:8]:
         print(line)

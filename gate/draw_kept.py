@@ -24,8 +24,8 @@ import sys
 import tempfile
 
 from gate.drawn_objects import OBJECTS
-from gate.drawn_scripts import Drawer
 from gate.kept import ROOMS, Server, options
+from gate.seeds import Drawer
 from gate.slow_kept import LONGEST, UNTOLD, Number, OneOf, Slow, Speaker
 from gate.slow_world import written
 from gate.tried import Wrong, check, given_words, holds, program, whole
@@ -115,8 +115,7 @@ class World:
     def __init__(self, room, seed):
         self.draw = Drawer(seed)
         count = 1 + self.draw.below(3)
-        self.objects = sorted({self.draw.below(len(OBJECTS)): None for _ in range(count)})
-        self.objects = [OBJECTS[it] for it in self.objects]
+        self.objects = [OBJECTS[it] for it in sorted({self.draw.below(len(OBJECTS)) for _ in range(count)})]
         sync = self.draw.of(("always", "always", "1", "60000"))
         source = "".join(it.text for it in self.objects)
         self.server = Server(room, source, "--sync", sync, at_path=True)
@@ -330,12 +329,12 @@ class World:
         text = (self.server.folder / f"{hall.made.name}.journal").read_bytes().partition(b"\0")[0].decode()
         lines = [it.split(" ", 2) for it in text.splitlines()]
         values = {it[1]: it[2] for it in lines if it[0] == "part"}
-        wanted = {name: kind.bytes_of(hall.contents[name]).hex() for name, kind in hall.made.parts.items()}
-        check(values, wanted, f"the values of {hall.made.name}")
+        saved = {name: kind.bytes_of(hall.contents[name]).hex() for name, kind in hall.made.parts.items()}
+        check(values, saved, f"the values of {hall.made.name}")
         clients = {it[1]: it[2].split(" ")[0] for it in lines if it[0] == "client"}
         used = {clients[it[1]]: int(it[2].split(" ")[1]) for it in lines if it[0] == "client"}
-        wanted = {name: guest.used for name, guest in hall.guests.items()}
-        check(used, wanted, f"the keys of the clients of {hall.made.name}")
+        keys = {name: guest.used for name, guest in hall.guests.items()}
+        check(used, keys, f"the keys of the clients of {hall.made.name}")
         kept = sorted((clients[it[1]], *it[2].split(" ", 2)) for it in lines if it[0] == "kept")
         known = [(name, *row) for name, guest in hall.guests.items() for row in guest.kept]
         wanted = sorted((name, str(key), *kept_words(call, ending)) for name, key, call, ending in known)
@@ -363,8 +362,7 @@ def tried(seed, count, tells):
             world.compare()
         except (Wrong, OSError, AssertionError, IndexError, KeyError, ValueError) as wrong:
             told = [(voice.name, text_of(it)[:100]) for voice in world.voices for it in voice.speaker.told[-12:]]
-            told = [f"{name} is to hear {line}" for name, line in told]
-            lines = "\n  ".join([*world.steps[-tells:], *told])
+            lines = "\n  ".join([*world.steps[-tells:], *(f"{name} is to hear {line}" for name, line in told)])
             names = [it.name for it in world.objects]
             return f"{type(wrong).__name__} {wrong}, in conversation {at + 1} over {names}:\n  {lines}"
         finally:

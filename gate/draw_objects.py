@@ -11,14 +11,12 @@ The program is the one that ./pathserve runs, or FILE. The last line is `draw_ob
 where M is 0 and N is not.
 """
 import collections
-import concurrent.futures
-import os
 import pathlib
 import subprocess
-import sys
 import tempfile
 
-from gate.tried import given_words, program, whole
+from gate import seeds
+from gate.tried import program, whole
 
 SEEDS = range(1, 626)
 # So many objects stand in a source, and so often has each kind of answer to come up over all seeds.
@@ -47,26 +45,6 @@ Node = collections.namedtuple("Node", "depth names form")
 # What a text touches: the parts that it names, and those of them that it changes.
 Touched = collections.namedtuple("Touched", "names changes")
 Drawn = collections.namedtuple("Drawn", "name text parts operations paths")
-
-
-class Draw:
-    """Numbers that follow from a seed alone."""
-
-    def __init__(self, seed):
-        self.state = seed
-        for _ in range(4):
-            self.below(2)
-
-    def below(self, limit):
-        self.state = (self.state * 6364136223846793005 + 1442695040888963407) % (1 << 64)
-        return (self.state >> 33) % limit
-
-    def one_in(self, count):
-        return self.below(count) == 0
-
-    def some_of(self, names):
-        """Some of these, one at least."""
-        return [it for it in names if self.one_in(2)] or list(names[:1])
 
 
 FORMS = {"one": ("1:(", ")"), "more": ("2:(", ")"), "burst": ("[", "]")}
@@ -211,7 +189,7 @@ def report_of(drawn, tally):
 
 def source_of(seed):
     """The source of a seed, its report, and how often each kind of answer came up in it."""
-    draw, tally = Draw(seed), collections.Counter()
+    draw, tally = seeds.Drawer(seed), collections.Counter()
     objects = [object_of(draw, f"o{it}") for it in range(OBJECTS)]
     lines = [line for it in objects for line in report_of(it, tally)]
     report = [*lines, f"{OBJECTS} objects, {tally['refused']} refused"]
@@ -234,33 +212,13 @@ def tried(seed):
     return f"seed {seed}: of\n{text}expected status {status} and\n{report}ended with {ran.returncode} and\n{answer}{ran.stderr!r}", tally
 
 
+def shown_source(seed):
+    text, report, _ = source_of(seed)
+    return f"{text}\n{report}"
+
+
 def main():
-    words = given_words()
-    if len(words) == 2 and words[0] == "--source" and words[1].isdigit():
-        text, report, _ = source_of(int(words[1]))
-        print(f"{text}\n{report}", end="")
-        return 0
-    if not all(it.isdigit() for it in words):
-        print(__doc__, file=sys.stderr)
-        return 2
-    # Once, before the processes begin.
-    program()
-    with concurrent.futures.ProcessPoolExecutor(len(os.sched_getaffinity(0))) as pool:
-        said = list(pool.map(tried, [int(it) for it in words] or SEEDS, chunksize=4))
-    failed = [it for it, _ in said if it]
-    for it in failed[:1]:
-        print(it)
-    for it in failed[1:]:
-        print(it.partition("\n")[0])
-    passed = len(said) - len(failed)
-    if not words:
-        tally = sum((it for _, it in said), collections.Counter())
-        for kind in KINDS:
-            if tally[kind] < OFTEN:
-                print(f"draw_objects: {kind}: {tally[kind]} times alone")
-                failed.append(kind)
-    print(f"draw_objects: {passed} passed, {len(failed)} failed")
-    return 1 if failed or not passed else 0
+    return seeds.run("draw_objects", seeds.asked(__doc__, "--source", shown_source), tried, SEEDS, KINDS, OFTEN)
 
 
 load_tests = whole(main)

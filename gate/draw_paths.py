@@ -11,14 +11,12 @@ The program is the one that ./pathserve runs, or FILE. The last line is `draw_pa
 where M is 0 and N is not.
 """
 import collections
-import concurrent.futures
-import os
 import subprocess
-import sys
 
-from gate.drawn_scripts import Drawer
+from gate import seeds
+from gate.seeds import Drawer
 from gate.slow_world import Any, Bound, Burst, Name, Sequence
-from gate.tried import given_words, program, whole
+from gate.tried import program, whole
 
 SEEDS = range(1, 501)
 SECONDS = 60
@@ -115,33 +113,13 @@ def tried(seed):
     return f"seed {seed}: of\n{lines}expected\n{answers}ended with {ran.returncode} and\n{found}{ran.stderr!r}", tally
 
 
+def shown_lines(seed):
+    lines, answers, _ = drawn(seed)
+    return f"{lines}\n{answers}"
+
+
 def main():
-    words = given_words()
-    if len(words) == 2 and words[0] == "--lines" and words[1].isdigit():
-        lines, answers, _ = drawn(int(words[1]))
-        print(f"{lines}\n{answers}", end="")
-        return 0
-    if not all(it.isdigit() for it in words):
-        print(__doc__, file=sys.stderr)
-        return 2
-    # Once, before the processes begin.
-    program()
-    with concurrent.futures.ProcessPoolExecutor(len(os.sched_getaffinity(0))) as pool:
-        said = list(pool.map(tried, [int(it) for it in words] or SEEDS, chunksize=4))
-    failed = [it for it, _ in said if it]
-    for it in failed[:1]:
-        print(it)
-    for it in failed[1:]:
-        print(it.partition("\n")[0])
-    passed = len(said) - len(failed)
-    if not words:
-        tally = sum((it for _, it in said), collections.Counter())
-        for kind in KINDS:
-            if tally[kind] < OFTEN:
-                print(f"draw_paths: {kind}: {tally[kind]} times alone")
-                failed.append(kind)
-    print(f"draw_paths: {passed} passed, {len(failed)} failed")
-    return 1 if failed or not passed else 0
+    return seeds.run("draw_paths", seeds.asked(__doc__, "--lines", shown_lines), tried, SEEDS, KINDS, OFTEN)
 
 
 load_tests = whole(main)

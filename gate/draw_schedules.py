@@ -26,15 +26,16 @@ import pathlib
 import subprocess
 import sys
 import tempfile
+from collections.abc import Mapping
 
 from gate.cases import TOP
 from gate.crash_journal import Epoch, Wrong
 from gate.draw_kept import World, text_of
 from gate.drawn_objects import OBJECTS
-from gate.drawn_scripts import Drawer
+from gate.seeds import Drawer
 from gate.slow_kept import LONGEST, Hall, Slow, Speaker
 from gate.slow_world import Sequence
-from gate.tried import whole
+from gate.tried import new_folder, whole
 from tools import make_ready, ready
 
 TRIAL = TOP / "crates" / "schedule_trial"
@@ -181,6 +182,8 @@ class Found(Hall):
 
 class Heard(Slow):
     """A slow server that hears a schedule as the loop did."""
+
+    halls: Mapping[str, Found]
 
     def __init__(self, objects):
         super().__init__(objects)
@@ -493,8 +496,7 @@ def draw_all(program, count, seed):
 
 
 def built_and_drawn(count, seed):
-    with tempfile.TemporaryDirectory() as folder:
-        folder = pathlib.Path(folder)
+    with new_folder() as folder:
         ready.copy_sources(folder / "repo", TRIAL.name)
         return draw_all(make_ready.built(folder, TRIAL.name), count, seed)
 

@@ -13,14 +13,12 @@ The program is the one that ./pathserve runs, or FILE. The last line is `draw_sc
 where M is 0 and N is not.
 """
 import collections
-import concurrent.futures
 import difflib
-import os
 import pathlib
 import subprocess
-import sys
 import tempfile
 
+from gate import seeds
 from gate.drawn_scripts import FIRST_HOLD, script_of, source_of
 from gate.slow_world import Disagreement
 from gate.tried import given_words, program, whole
@@ -86,38 +84,28 @@ def tried(script):
     return "\n".join([*said, "  the script:", *script_lines])
 
 
+def shown_script(seed):
+    script = script_of(seed)
+    text = script.text().decode("ascii")
+    return f"{text}\n==== {title(script)}: status {script.status}, and\n{script.wanted()}"
+
+
 def main():
-    words = given_words()
-    if words == ["--objects"]:
+    if given_words() == ["--objects"]:
         print(source_of(FIRST_HOLD), end="")
         return 0
-    if len(words) == 2 and words[0] == "--script" and words[1].isdigit():
-        script = script_of(int(words[1]))
-        sys.stdout.write(script.text().decode("ascii"))
-        print(f"\n==== {title(script)}: status {script.status}, and")
-        print(script.wanted(), end="")
-        return 0
-    if not all(it.isdigit() for it in words):
-        print(__doc__, file=sys.stderr)
-        return 2
-    # Once, before the processes begin.
-    program()
-    with concurrent.futures.ProcessPoolExecutor(len(os.sched_getaffinity(0))) as pool:
-        found = list(pool.map(counted, [int(it) for it in words] or SEEDS, chunksize=4))
-    said = [it[0] for it in found]
-    counts = sum((collections.Counter(it[1]) for it in found), collections.Counter())
+    named = seeds.asked(__doc__, "--script", shown_script)
+    found = seeds.each(counted, named or SEEDS)
+    counts = sum((collections.Counter(it) for _, it in found), collections.Counter())
     print(", ".join(f"{it} {counts[it]}" for it in ANSWERS))
-    failed = [it for it in said if it]
-    if failed:
-        print(failed[0])
-    for line in failed[1:]:
-        print(line.partition("\n")[0])
-    if not words and (seldom := [it for it in ANSWERS if counts[it] < TIMES]):
+    failed = [it for it, _ in found if it]
+    seeds.tell(failed)
+    passed = len(found) - len(failed)
+    if not named and (seldom := [it for it in ANSWERS if counts[it] < TIMES]):
         failed.append(f"these come less than {TIMES} times: " + ", ".join(seldom))
-        said.append(failed[-1])
         print(failed[-1])
-    print(f"draw_scripts: {len(said) - len(failed)} passed, {len(failed)} failed")
-    return 0 if said and not failed else 1
+    print(f"draw_scripts: {passed} passed, {len(failed)} failed")
+    return 0 if found and not failed else 1
 
 
 load_tests = whole(main)

@@ -13,19 +13,16 @@ The program is the one that ./pathserve runs, or FILE. The last line is `draw_se
 where M is 0 and N is not.
 """
 import collections
-import pathlib
 import random
 import socket
-import subprocess
 import sys
-import tempfile
 import threading
 import time
 
 from gate.drawn_objects import OBJECTS
-from gate.served import Told, free_port, traced_wrongly
+from gate.served import Server, Told, traced_wrongly
 from gate.slow_world import written
-from gate.tried import given_words, program, whole
+from gate.tried import Wrong, given_words, new_folder, whole
 
 SEEDS = (1, 2, 3)
 CLIENTS, LINES = 32, 40
@@ -240,24 +237,19 @@ def talk(seed, port):
 
 def tried(seed):
     """What is wrong with what the clients of one server heard, how many lines they heard, and how many of each kind they said."""
-    with tempfile.TemporaryDirectory(prefix="draw-") as folder:
-        folder = pathlib.Path(folder)
-        objects, place, port = folder / "objects", folder / "place", free_port()
+    with new_folder("draw-") as folder:
+        objects, place = folder / "objects", folder / "place"
         place.mkdir()
         objects.write_text("".join(it.text for it in OBJECTS), encoding="ascii")
         sessions = CLIENTS + CLIENTS // 2 + len(OBJECTS)
-        words = [program(), "serve", objects, place, str(port), "--sessions", str(sessions)]
-        with subprocess.Popen(words, stdout=subprocess.PIPE, stderr=subprocess.PIPE, text=True) as server:
-            try:
-                server.stdout.readline()
-                speakers, said = talk(seed, port)
-                out, error = server.communicate(timeout=LASTS)
-            except (OSError, subprocess.TimeoutExpired) as fault:
-                return [str(fault)], 0, {}
-            finally:
-                server.kill()
-        if server.returncode or error:
-            said.append(f"status {server.returncode}, standard error {error!r}")
+        try:
+            with Server("serve", objects, place, "--sessions", sessions) as server:
+                speakers, said = talk(seed, server.port)
+                out, status, error = server.ended(LASTS)
+        except (OSError, Wrong) as fault:
+            return [str(fault)], 0, {}
+        if status or error:
+            said.append(f"status {status}, standard error {error!r}")
         for name, _, count in (it.partition(" entries ") for it in out.splitlines()):
             said += traced_wrongly(objects, place, name, [it.told for it in speakers], int(count)) if count.isdigit() else [f"{name!r}"]
         kinds = collections.Counter(line.kind for it in speakers for line in it.lines)

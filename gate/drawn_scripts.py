@@ -1,61 +1,38 @@
 """The scripts that are drawn from seeds, each with what it has to answer. A script follows from its seed, so each run draws
 the same ones."""
 from gate.drawn_objects import HOLDING, OBJECTS
+from gate.seeds import Drawer
 from gate.slow_holds import HeldWorld
-from gate.slow_world import MOST, World, finish_line, shown_lines, written
+from gate.slow_world import MOST, Object, World, finish_line, shown_lines, written
 
 # Lines that say nothing.
-BAD_LINES = ("begin", "show 1", "step 1", "call s1", "call 1 x", "steps x", "finish", "cancel s1", "drop 1", "Show", "object two")
+BAD_LINES: tuple[str, ...] = ("begin", "show 1", "step 1", "call s1", "call 1 x", "steps x", "finish", "cancel s1", "drop 1", "Show", "object two")
 SESSIONS = (0, 1, 2, 3, 4, 5, 6, 1024, 1025, 2000)
 UNKNOWN = ("pop", "v", "cell", "end", "get_", "path", "x1")
 REMARKS = ("#", "# it's a remark", "#call s1 get", "  # show", "# 'open")
 BLANKS = ("", " ", "     ")
 # Lines that say nothing, and look like those of sessions that come back.
-BAD_RETURNS = ("resume", "resume 1", "resume s1 2", "Resume s1", "resume s1 #1", "call s1 #", "call s1 # get", "call s1 #x get",
+BAD_RETURNS: tuple[str, ...] = ("resume", "resume 1", "resume s1 2", "Resume s1", "resume s1 #1", "call s1 #", "call s1 # get", "call s1 #x get",
                "call s1 #1", "call s1 #1 7", "call s1 #4294967296 get", "call s1 # 1 get", "call #1 s1 get", "call s1 get #1",
                "call s1 ##1 get", "call s1 #-1 get", "call s1 1 get", "call s1 '#1' get")
 
 
 # Lines that say nothing, and look like those of calls that are done at once.
-BAD_DOS = ("do", "do s1", "do 1 get", "do s1 1", "do s1 'get'", "do s1 get x", "do s1 #1 get", "Do s1 get", "do get s1", "done s1 get",
+BAD_DOS: tuple[str, ...] = ("do", "do s1", "do 1 get", "do s1 1", "do s1 'get'", "do s1 get x", "do s1 #1 get", "Do s1 get", "do get s1", "done s1 get",
            "do s1 get 4294967296", "do s1 g-t", "do s get")
 # Lines that say nothing, and look like those that ask.
-BAD_QUESTIONS = ("why", "why s1", "why 1 2", "why x", "why '1'", "why -1", "why 4294967296", "who 1", "who s1", "Who", "Why 1", "list 1",
+BAD_QUESTIONS: tuple[str, ...] = ("why", "why s1", "why 1 2", "why x", "why '1'", "why -1", "why 4294967296", "who 1", "who s1", "Who", "Why 1", "list 1",
                  "whys 1")
-
-
-class Drawer:
-    """Numbers that follow from a seed alone."""
-
-    def __init__(self, seed):
-        self.state = seed
-        for _ in range(4):
-            self.below(2)
-
-    def below(self, limit):
-        self.state = (self.state * 6364136223846793005 + 1442695040888963407) % (1 << 64)
-        return (self.state >> 33) % limit
-
-    def one_in(self, count):
-        return self.below(count) == 0
-
-    def of(self, choices):
-        return choices[self.below(len(choices))]
-
-    def weighted(self, weights):
-        at = self.below(sum(weights.values()))
-        for choice, weight in weights.items():
-            at -= weight
-            if at < 0:
-                return choice
-        raise AssertionError
 
 
 class Script:
     """A drawn script, as long as it grows: its lines, and what they have to answer."""
 
     # The objects, one of which it is on, and what works out its answers.
-    objects, world_of = OBJECTS, World
+    objects: tuple[Object, ...] = OBJECTS
+    world_of: type[World | HeldWorld] = World
+    # Lines that say nothing, of which one ends a script of so many.
+    bad_lines, bad_in = BAD_LINES, 12
 
     def __init__(self, seed):
         self.seed, self.draw = seed, Drawer(seed)
@@ -64,8 +41,6 @@ class Script:
         self.lines, self.answers, self.status = [], [], 0
         # How each `do` was answered: what its last line, or that before those of the calls that it started, begins with.
         self.dones = []
-        # Lines that say nothing, of which one ends a script of so many.
-        self.bad_lines, self.bad_in = BAD_LINES, 12
         # How lines end, or none where each ends as it likes; and whether the last one lacks its end.
         self.ends = self.draw.of((b"\n", b"\n", b"\r\n", None))
         self.is_open = self.draw.one_in(4)
@@ -270,9 +245,7 @@ class InTurn(Script):
 class Returning(Script):
     """A drawn script in which sessions come back, and calls have keys."""
 
-    def __init__(self, seed):
-        super().__init__(seed)
-        self.bad_lines, self.bad_in = BAD_RETURNS, 4
+    bad_lines, bad_in = BAD_RETURNS, 4
 
     def draw_line(self):
         kind = self.draw.weighted({"other": 24, "new": 12, "again": 11, "wrong": 3, "fail": 3, "drop": 4, "resume": 4})
@@ -365,9 +338,7 @@ class InTurnAgain(InTurn):
 class Doing(Returning):
     """A drawn script in which many calls are done at once."""
 
-    def __init__(self, seed):
-        super().__init__(seed)
-        self.bad_lines, self.bad_in = BAD_DOS, 4
+    bad_lines = BAD_DOS
 
     def draw_line(self):
         if not self.draw.one_in(3):
@@ -397,9 +368,7 @@ class DoingInTurn(InTurn):
 class Asking(Doing):
     """A drawn script that asks now and then why calls wait, and which do."""
 
-    def __init__(self, seed):
-        super().__init__(seed)
-        self.bad_lines, self.bad_in = BAD_QUESTIONS, 4
+    bad_lines = BAD_QUESTIONS
 
     def why_number(self):
         """Mostly that of a call that waits."""
@@ -422,6 +391,7 @@ class Holding(Asking):
     """A drawn script on an object with holds, which asks now and then who holds what."""
 
     objects, world_of = HOLDING, HeldWorld
+    world: HeldWorld
 
     def draw_line(self):
         held = self.world.held()

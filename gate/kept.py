@@ -3,165 +3,83 @@ hear lines."""
 import contextlib
 import os
 import pathlib
-import socket
 import subprocess
+from collections.abc import Callable, Iterable, Mapping, Sequence
+from typing import TypeVar
 
-from gate import tried
-from gate.served import free_port
+from gate import served, tried
 from gate.tried import SECONDS, Trial, Wrong, check, in_folder, program, title_of
 
 # Folders are made in memory, where there is such a place: what a disk does is worked out (gate/losing.py), or tried by
 # itself.
 ROOMS = "/dev/shm" if os.access("/dev/shm", os.W_OK) else None
+Self = TypeVar("Self", bound="Talk")
 
 
-class Server:
-    """`pathserve keep` over a folder `kept` in this one, at a port, or at the socket `place` where `at_path` is set.
-    What it says on standard error is in the file `error`."""
+class Server(served.Server):
+    """`pathserve keep` over a folder `kept` in this one, at a port, or at the socket `place` where `at_path` is set."""
 
-    def __init__(self, folder, source, *words, at_path=False, env=None, files=None, kept="kept"):
-        self.room, self.words, self.env, self.files = folder, words, env or {}, files
-        self.file, self.folder, self.at_path = folder / "objects.pp", folder / kept, at_path
+    def __init__(self, room: pathlib.Path, source: str, *words: str, at_path: bool = False, kept: str = "kept",
+                 env: Mapping[str, str] | None = None, files: int | None = None, survives: bool = False) -> None:
+        super().__init__("keep", room / "objects.pp", room / kept, "--stop-with-input", *words, env=env, files=files,
+                         place=room / "place" if at_path else None, errors=room / "error", survives=survives)
+        self.room = room
         self.file.write_text(source, encoding="ascii")
         self.folder.mkdir(exist_ok=True)
-        self.child, self.place = None, None
 
-    def begin(self):
-        """Starts it, and does not wait for what it says."""
-        self.place = str(self.room / "place") if self.at_path else str(free_port())
-        words = [program(), "keep", self.file, self.folder, self.place, "--stop-with-input", *self.words]
-        if self.files:
-            words = ["bash", "-c", f'ulimit -n {self.files} && exec "$@"', "bash", *words]
-        with open(self.room / "error", "wb") as error:
-            pipes = {"stdin": subprocess.PIPE, "stdout": subprocess.PIPE, "stderr": error}
-            self.child = subprocess.Popen(words, env={**os.environ, **self.env}, **pipes)
-
-    def start(self):
-        self.begin()
-        line = self.child.stdout.readline().decode()
-        if line != f"listening {self.place}\n":
-            out, status = self.end()
-            raise Wrong(f"the server said {line + out + self.error()!r}, status {status}")
-
-    def error(self):
-        return (self.room / "error").read_text(errors="replace")
-
-    def refused(self):
-        """What another start says that comes to nothing, and its status."""
-        child, place = self.child, self.place
-        self.begin()
-        try:
-            return self.end()
-        finally:
-            self.child, self.place = child, place
-
-    def kill(self):
-        self.child.kill()
-        self.child.wait()
-        self.close()
-
-    def close(self):
-        for it in (self.child.stdin, self.child.stdout):
-            with contextlib.suppress(OSError):
-                it.close()
-
-    def end(self):
+    def end(self) -> tuple[str, int]:
         """Ends its input: what it said behind its first line, and its status."""
-        try:
-            out, _ = self.child.communicate(timeout=SECONDS)
-        except subprocess.TimeoutExpired as error:
-            self.kill()
-            raise Wrong("the server does not end") from error
-        return out.decode(), self.child.returncode
+        return self.ended()[:2]
 
-    def awaited(self, seconds=SECONDS):
-        """The status with which it ends by itself, or none where it goes on for so many seconds."""
-        with contextlib.suppress(subprocess.TimeoutExpired):
-            return self.child.wait(seconds)
-        return None
-
-    def audit(self):
+    def audit(self) -> tuple[str, int]:
         ran = subprocess.run([program(), "audit", self.file, self.folder], capture_output=True, timeout=SECONDS)
         return ran.stdout.decode(), ran.returncode
 
-    def is_whole(self, *names):
+    def is_whole(self, *names: str) -> None:
         """Raises where the folder is not legal."""
         said, status = self.audit()
         found = [it.split(" ")[0] for it in said.splitlines() if it.endswith(" whole")]
         if status or len(found) != len(said.splitlines()) or names and tuple(found) != names:
             raise Wrong(f"audit says {said!r}, status {status}")
 
-    def connect(self, seconds=SECONDS):
-        if self.at_path:
-            made = socket.socket(socket.AF_UNIX)
-            made.settimeout(seconds)
-            try:
-                made.connect(self.place)
-            except OSError:
-                made.close()
-                raise
-            return made
-        made = socket.create_connection(("127.0.0.1", int(self.place)), timeout=seconds)
-        made.setsockopt(socket.IPPROTO_TCP, socket.TCP_NODELAY, 1)
-        return made
-
-    def says(self, *lines):
-        """What a client hears that says these lines and then quits."""
-        with self.connect() as it:
-            it.sendall("".join(f"{line}\n" for line in (*lines, "quit")).encode())
-            return it.makefile("rb").read().decode().split("\n")[:-1]
-
-    def replies(self, name, *calls):
+    def replies(self, name: str, *calls: str) -> list[str]:
         """The words of the last line of each of these calls, behind its number."""
         heard = self.says(f"open {name}", *(f"call {it}" for it in calls))
         ends = [it for it in heard[1:-1] if not it.startswith("accepted ")]
         return [" ".join([it.split(" ")[0], *it.split(" ", 2)[2:]]) for it in ends]
 
-    def memory(self, word="VmRSS"):
-        """So many KiB of memory it has, or had at most (`VmHWM`)."""
-        status = pathlib.Path(f"/proc/{self.child.pid}/status").read_text()
-        return int(next(it for it in status.splitlines() if it.startswith(word)).split()[1])
-
-    def processor(self):
-        """The seconds of a processor that it took."""
-        words = pathlib.Path(f"/proc/{self.child.pid}/stat").read_text().rpartition(")")[2].split()
-        return (int(words[11]) + int(words[12])) / os.sysconf("SC_CLK_TCK")
-
-    def descriptors(self):
-        return len(os.listdir(f"/proc/{self.child.pid}/fd"))
-
 
 class Talk:
     """A connection on which a client says lines and hears lines."""
 
-    def __init__(self, server, *opening, seconds=SECONDS):
+    def __init__(self, server: served.Server, *opening: str, seconds: float = SECONDS) -> None:
         self.socket = server.connect(seconds)
         self.stream = self.socket.makefile("rb")
         if opening:
             self.say(opening[0])
             self.hears(*opening[1:])
 
-    def __enter__(self):
+    def __enter__(self: Self) -> Self:
         return self
 
-    def __exit__(self, *_):
+    def __exit__(self, *_: object) -> None:
         self.close()
 
-    def say(self, *lines):
+    def say(self, *lines: str) -> None:
         self.socket.sendall("".join(f"{line}\n" for line in lines).encode())
 
-    def hear(self):
+    def hear(self) -> str:
         """The next line, or nothing at the end."""
         try:
             return self.stream.readline().decode().removesuffix("\n")
         except ConnectionResetError:
             return ""
 
-    def hears(self, *lines):
+    def hears(self, *lines: str) -> None:
         for line in lines:
             check(self.hear(), line, "a line")
 
-    def calls(self, *lines):
+    def calls(self, *lines: str) -> list[str]:
         """The last lines of these calls, each without its number."""
         self.say(*(f"call {it}" for it in lines))
         found = []
@@ -172,13 +90,13 @@ class Talk:
             found.append(" ".join([line.split(" ")[0], *line.split(" ", 2)[2:]]))
         return found
 
-    def close(self):
+    def close(self) -> None:
         with contextlib.suppress(OSError):
             self.stream.close()
         self.socket.close()
 
 
-def options(words, **given):
+def options(words: list[str], **given: int) -> tuple[dict[str, int], list[str]]:
     """Takes `--NAME NUMBER` from the front of words: the numbers by their names, and the words that are left."""
     while words[:1] and words[0].startswith("--") and words[0][2:] in given and words[1:2]:
         given[words[0][2:]] = int(words[1])
@@ -186,11 +104,11 @@ def options(words, **given):
     return given, words
 
 
-def trials_of(tool, works, **more):
+def trials_of(tool: str, works: Iterable[Callable[..., object]], **more: object) -> list[Trial]:
     """Trials of these functions, each in a folder of its own."""
-    return [Trial(title_of(it), in_folder(tool, it, room=ROOMS, **more)) for it in works]
+    return [Trial(title_of(it), in_folder(tool, it, pathlib.Path, ROOMS, **more)) for it in works]
 
 
-def run(tool, works, words, **more):
+def run(tool: str, works: Iterable[Callable[..., object]], words: Sequence[str], **more: object) -> int:
     """Runs the trials of these functions whose titles have these words, and says what came of them."""
     return tried.run(tool, trials_of(tool, works, **more), words, has_times=True)

@@ -48,9 +48,9 @@ def kinds():
     found = []
     for call in DISK:
         fault = "ENOSPC" if call in ("write", "size") else "EIO"
-        for name, error in (("EIO", errno.EIO), ("ENOSPC", errno.ENOSPC), ("EMFILE", errno.EMFILE)):
-            if name == fault or call == "write" or (call, name) == ("open", "EMFILE"):
-                found.append(Kind(f"{call} {name}", {"FAIL_CALL": call, "FAIL_ERRNO": str(error)}, (0, 3)))
+        for error in ("EIO", "ENOSPC", "EMFILE"):
+            if error == fault or call == "write" or (call, error) == ("open", "EMFILE"):
+                found.append(Kind(f"{call} {error}", {"FAIL_CALL": call, "FAIL_ERRNO": str(getattr(errno, error))}, (0, 3)))
         rest = {"FAIL_CALL": call, "FAIL_ERRNO": str(getattr(errno, fault)), "FAIL_REST": "1"}
         found.append(Kind(f"{call} {fault} for ever", rest, (0, 3)))
         found.append(Kind(f"{call} killed", {"FAIL_CALL": call, "FAIL_ERRNO": "0"}, (0, KILLED)))
@@ -116,7 +116,7 @@ class Run:
     def play(self, folder, server, clients):
         server.env = self.env(folder)
         server.begin()
-        line = server.child.stdout.readline().decode()
+        line = server.child.stdout.readline()
         eve = None
         if line:
             check(line, f"listening {server.place}\n", "the first line")

@@ -19,13 +19,12 @@ import os
 import pathlib
 import re
 import socket
-import subprocess
 import tempfile
 import time
 
 from gate.clients import Connection, Wrong
 from gate.refusing import build
-from gate.served import ended_calls, free_port, traced_wrongly
+from gate.served import Server, ended_calls, traced_wrongly
 from gate.tried import TOP, given_words, lacks, program, whole
 
 LINES = ("cancel 1", "open cell", "call put 7", "call get", "dance", "call bump 5", "cancel 1", "call get", "call put 1 2", "quit")
@@ -43,25 +42,24 @@ class Ran:
         self.folder, self.lines, self.clients = pathlib.Path(folder), [], []
         self.objects = self.folder / "objects.pp"
         self.objects.write_text(play.source, encoding="ascii")
-        self.port, self.end = free_port(), time.monotonic() + LASTS
+        self.end = time.monotonic() + LASTS
         (self.folder / "place").mkdir()
         note = self.folder / "note"
-        more = {"LD_PRELOAD": str(library), "REFUSE_NOTE": str(note), "REFUSE_GROWTH": str(number)}
-        words = [program(), "serve", self.objects, self.folder / "place", str(self.port), "--sessions", str(play.clients)]
-        pipes = {"stdout": subprocess.PIPE, "stderr": subprocess.PIPE}
-        with subprocess.Popen(words, env={**os.environ, **more}, **pipes) as server:
-            try:
-                self.output = server.stdout.readline()
-                if self.output:
-                    self.clients = [it for _ in range(play.clients) if (it := self.connection())]
-                    play.talk(self, *self.clients)
-                output, self.error = server.communicate(timeout=max(self.end - time.monotonic(), 1))
-                self.output += output
-            finally:
-                server.kill()
-                for it in self.clients:
-                    it.close()
-        self.status, self.was_refused = server.returncode, note.exists()
+        env = {"LD_PRELOAD": str(library), "REFUSE_NOTE": str(note), "REFUSE_GROWTH": str(number)}
+        server = Server("serve", self.objects, self.folder / "place", "--sessions", play.clients, env=env)
+        server.begin()
+        try:
+            self.port, self.output = server.port, server.child.stdout.readline()
+            if self.output:
+                self.clients = [it for _ in range(play.clients) if (it := self.connection())]
+                play.talk(self, *self.clients)
+            output, self.status, self.error = server.ended(max(self.end - time.monotonic(), 1))
+            self.output += output
+        finally:
+            server.kill()
+            for it in self.clients:
+                it.close()
+        self.was_refused = note.exists()
 
     def connection(self):
         """A connection, or none where the server is gone."""
@@ -75,7 +73,7 @@ class Ran:
     def faults(self, play):
         """What is wrong with it."""
         said = []
-        if self.status not in (0, 1, 4) or self.error != (b"out of memory\n" if self.status == 4 else b""):
+        if self.status not in (0, 1, 4) or self.error != ("out of memory\n" if self.status == 4 else ""):
             said.append(f"status {self.status}, {self.output!r}, {self.error[-300:]!r}")
         said += [wrong for it in self.clients for wrong in it.told.wrong]
         place = self.folder / "place"
@@ -295,7 +293,7 @@ def tried(library, play, number):
     with tempfile.TemporaryDirectory(prefix="refuse-") as folder:
         try:
             it = Ran(library, folder, play, number)
-        except (Wrong, subprocess.TimeoutExpired) as error:
+        except Wrong as error:
             return [f"it hangs: {error}"], True
         said = it.faults(play)
         if number == NONE and [client.told.ends for client in it.clients] != play.ends:

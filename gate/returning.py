@@ -1,19 +1,20 @@
 """Clients of a server that have a name, are cut, come back by it and ask again under their keys: what gate/cut_connections tries
 with them. Each trial answers what is wrong, as lines."""
+import functools
 import pathlib
 import random
 import select
 import socket
 import struct
-import subprocess
 import tempfile
 import threading
 import time
+from collections.abc import Callable
 
 from gate.drawn_objects import OBJECTS
-from gate.served import Told, free_port, traced_wrongly
+from gate.served import Server, Told, traced_wrongly
 from gate.slow_world import written
-from gate.tried import TOP, Wrong, program
+from gate.tried import TOP, Wrong
 
 # How long an answer, and the end of a server, may take, in seconds.
 SECONDS = 20
@@ -35,44 +36,33 @@ def check(found, *wanted):
         raise Wrong(f"{found!r}, not {' or '.join(map(repr, wanted))}")
 
 
-class Served:
+class Served(Server):
     """A server of a source in a folder of its own, for so many connections."""
 
     def __init__(self, source, sessions, *more):
-        self.kept = tempfile.TemporaryDirectory(prefix="return-")
-        self.place = pathlib.Path(self.kept.name) / "place"
-        self.place.mkdir()
-        self.objects = pathlib.Path(self.kept.name) / "objects"
-        self.objects.write_text(source, encoding="ascii")
-        self.port, self.all_told = free_port(), []
-        words = [program(), "serve", self.objects, self.place, str(self.port), "--sessions", str(sessions), *more]
-        pipes = {"stdin": subprocess.PIPE, "stdout": subprocess.PIPE, "stderr": subprocess.PIPE}
-        self.ran = subprocess.Popen(words, text=True, **pipes)
-        check(self.ran.stdout.readline(), f"listening {self.port}\n")
+        self.room = tempfile.TemporaryDirectory(prefix="return-")
+        objects, folder = pathlib.Path(self.room.name) / "objects", pathlib.Path(self.room.name) / "place"
+        super().__init__("serve", objects, folder, "--sessions", sessions, *more)
+        folder.mkdir()
+        objects.write_text(source, encoding="ascii")
+        self.all_told = []
 
     def client(self):
         return Named(self.port, self.all_told)
 
-    def __enter__(self):
-        return self
-
     def __exit__(self, *_):
-        self.ran.kill()
-        self.ran.communicate()
-        self.kept.cleanup()
+        self.kill()
+        self.room.cleanup()
 
     def end(self):
         """Waits for its end, which has to be in order, with whole traces. It answers how many entries each object has."""
-        try:
-            out, error = self.ran.communicate(timeout=SECONDS)
-        except subprocess.TimeoutExpired:
-            raise Wrong(f"the server has not ended after {SECONDS} seconds") from None
-        check((self.ran.returncode, error), (0, ""))
+        out, status, error = self.ended(SECONDS)
+        check((status, error), (0, ""))
         counts = {name: int(count) for name, _, count in (it.partition(" entries ") for it in out.splitlines())}
         wrong = [fault for told in self.all_told for fault in told.wrong]
         for name, count in counts.items():
-            wrong += traced_wrongly(self.objects, self.place, name, self.all_told, count)
-        if wrong or list(self.place.glob("*.val")):
+            wrong += traced_wrongly(self.file, self.folder, name, self.all_told, count)
+        if wrong or list(self.folder.glob("*.val")):
             raise Wrong("; ".join(wrong) or "a value file is left")
         return counts
 
@@ -334,8 +324,7 @@ def stopped():
         check(waiting.open("bounded_buffer", "dot"), 1)
         check(waiting.ask("call #1 get"), "accepted 7")
         check(plain.ask("open bounded_buffer"), "opened bounded_buffer")
-        server.ran.stdin.close()
-        server.ran.stdin = None
+        server.stop()
         check(waiting.line(), "cancelled 7")
         check(server.end(), {"bounded_buffer": 6})
         for it in (idle, waiting, plain):
@@ -411,11 +400,10 @@ def stopped_meanwhile():
                     return
                 time.sleep(0.02)
 
-        stop = threading.Timer(0.2, server.ran.stdin.close)
+        stop = threading.Timer(0.2, server.stop)
         stop.start()
         together(work, count)
         stop.join()
-        server.ran.stdin = None
         server.end()
 
 
@@ -501,26 +489,25 @@ def drawn(seed):
         return sum(len(it.lasts) for it in wanderers)
 
 
-TRIALS = {
-    **{f"cut at each byte of a call, which {it}": (cut_line, it) for it in CUTS},
-    **{f"cut at each byte of an open, which {it}": (cut_open, it) for it in CUTS},
-    **{f"cut at each byte of an answer, which {it}": (cut_answer, it) for it in CUTS},
-    **{f"cut while a call waits, which {it}": (cut_waiting, it) for it in CUTS},
-    "two connections with one name": (two_at_once,),
-    "32 names at once, which come back": (names_at_once,),
-    "16 clients that share a name": (one_name_for_all,),
-    "a server that is stopped while seats are parked": (stopped,),
-    "a server that is stopped while clients come back": (stopped_meanwhile,),
-    "clients by name that are cut at drawn places, seed 1": (drawn, 1),
-    "clients by name that are cut at drawn places, seed 2": (drawn, 2),
+TRIALS: dict[str, Callable[[], object]] = {
+    **{f"cut at each byte of a call, which {it}": functools.partial(cut_line, it) for it in CUTS},
+    **{f"cut at each byte of an open, which {it}": functools.partial(cut_open, it) for it in CUTS},
+    **{f"cut at each byte of an answer, which {it}": functools.partial(cut_answer, it) for it in CUTS},
+    **{f"cut while a call waits, which {it}": functools.partial(cut_waiting, it) for it in CUTS},
+    "two connections with one name": two_at_once,
+    "32 names at once, which come back": names_at_once,
+    "16 clients that share a name": one_name_for_all,
+    "a server that is stopped while seats are parked": stopped,
+    "a server that is stopped while clients come back": stopped_meanwhile,
+    "clients by name that are cut at drawn places, seed 1": functools.partial(drawn, 1),
+    "clients by name that are cut at drawn places, seed 2": functools.partial(drawn, 2),
 }
 
 
 def tried(name):
     """What is wrong in a trial, as a line, or none."""
-    function, *words = TRIALS[name]
     try:
-        function(*words)
+        TRIALS[name]()
     except (Wrong, EOFError, OSError, ValueError) as error:
         return f"{name}: {type(error).__name__} {error}"
     return None

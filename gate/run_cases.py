@@ -7,6 +7,7 @@ The program is the one that ./pathserve runs, or FILE. The last line is `run_cas
 where M is 0 and N is not.
 """
 import concurrent.futures
+import contextlib
 import fcntl
 import os
 import struct
@@ -15,6 +16,7 @@ import sys
 import tempfile
 import termios
 import time
+from typing import BinaryIO
 
 from gate.cases import TOP, BadCase, Placed, cases_of, chosen_cases
 from gate.difference import difference, shown
@@ -51,23 +53,21 @@ def answer(case, folder):
 
 def ran_in(case, folder):
     """The status of a case's run, and what it wrote to standard output and standard error."""
-    placed = Placed(case, program(), folder)
-    out = open(placed.output, "wb") if placed.output else subprocess.PIPE
-    source = os.open(placed.file, os.O_RDONLY) if placed.file else None
-    given = {"input": placed.input} if source is None else {"stdin": source}
-    try:
-        if not case.piece:
-            ran = subprocess.run(placed.words, **given, stdout=out, stderr=subprocess.PIPE, cwd=TOP, timeout=SECONDS)
-            return ran.returncode, ran.stdout or b"", ran.stderr
-        process = subprocess.Popen(placed.words, stdin=subprocess.PIPE, stdout=out, stderr=subprocess.PIPE, cwd=TOP)
-        feed(process, placed.input, case.piece)
-        output, error = process.communicate(timeout=SECONDS)
-        return process.returncode, output or b"", error
-    finally:
-        if placed.output:
-            out.close()
-        if source is not None:
-            os.close(source)
+    placed, pipe = Placed(case, program(), folder), subprocess.PIPE
+    with contextlib.ExitStack() as stack:
+        out: int | BinaryIO = stack.enter_context(open(placed.output, "wb")) if placed.output else pipe
+        if case.piece:
+            process = subprocess.Popen(placed.words, stdin=pipe, stdout=out, stderr=pipe, cwd=TOP)
+            feed(process, placed.input, case.piece)
+            output, error = process.communicate(timeout=SECONDS)
+            return process.returncode, output or b"", error
+        if placed.file:
+            source = os.open(placed.file, os.O_RDONLY)
+            stack.callback(os.close, source)
+            ran = subprocess.run(placed.words, stdin=source, stdout=out, stderr=pipe, cwd=TOP, timeout=SECONDS)
+        else:
+            ran = subprocess.run(placed.words, input=placed.input, stdout=out, stderr=pipe, cwd=TOP, timeout=SECONDS)
+        return ran.returncode, ran.stdout or b"", ran.stderr
 
 
 def report(case, fault, ran):

@@ -18,6 +18,7 @@ import subprocess
 import tempfile
 import threading
 import time
+from typing import BinaryIO
 
 from gate.cases import chosen_cases, is_like
 from gate.clients import MOST_BYTES, Connection, Program, Wrong
@@ -36,9 +37,9 @@ class Server:
     """A started server: what it writes is kept."""
 
     def __init__(self, words, folder):
-        stdin, stdout, given = subprocess.DEVNULL, subprocess.PIPE, []
-        if "--stop-with-input" in words:
-            stdin = subprocess.PIPE
+        stdin: int | BinaryIO = subprocess.PIPE if "--stop-with-input" in words else subprocess.DEVNULL
+        stdout: int | BinaryIO = subprocess.PIPE
+        given = []
         rest = iter(words)
         for word in rest:
             if word == "<":

@@ -1,32 +1,38 @@
-"""What the tools share that serve objects: a port, and what a trace says beside what clients were told."""
+"""What the tools share that serve objects: a port, a server at it, and what a trace says beside what clients were
+told."""
+import contextlib
+import os
 import pathlib
 import random
 import re
 import signal
+import socket
 import subprocess
 import threading
+from collections.abc import Iterable, Mapping, Sequence
+from typing import BinaryIO, NamedTuple, TypeVar
 
-from gate.tried import program
+from gate.tried import SECONDS, Wrong, program
 
-SECONDS = 60
 LAST_LINE = re.compile(r"(done|refused|failed|cancelled) (\d+)(?: (.*))?")
 OPENED = re.compile(r"opened (\w+)(?: next (\d+))?")
 # Ports that the system gives to no connection of its own accord, in an order of this process.
 PORTS = iter(random.sample(range(10_000, 32_000), 22_000))
 TURN = threading.Lock()
+Self = TypeVar("Self", bound="Server")
 
 
-def used_ports():
-    """The ports that a socket of this machine has. No connection is made to see that: a server of another run that serves one
-    session would take it for that session."""
+def used_ports() -> set[int]:
+    """The ports that a socket of this machine has. No connection is made to see that: a server of another run that
+    serves one session would take it for that session."""
     tables = [pathlib.Path("/proc/net/tcp"), pathlib.Path("/proc/net/tcp6")]
     rows = [row for it in tables if it.exists() for row in it.read_text(encoding="ascii").splitlines()[1:]]
     return {int(row.split()[1].rpartition(":")[2], 16) for row in rows}
 
 
-def free_port():
-    """A port that no socket has, another one each time. It is not bound to see that: a child between its fork and its exec
-    would have it bound on."""
+def free_port() -> int:
+    """A port that no socket has, another one each time. It is not bound to see that: a child between its fork and its
+    exec would have it bound on."""
     with TURN:
         used = used_ports()
         for port in PORTS:
@@ -35,15 +41,16 @@ def free_port():
     raise OSError("no port is free")
 
 
-def heed_signals():
+def heed_signals() -> None:
     """Heeds SIGINT and SIGHUP, and so do the processes that are started from now on: a job in the background, or below
     nohup, is begun with one of them ignored."""
     signal.signal(signal.SIGINT, signal.default_int_handler)
     signal.signal(signal.SIGHUP, signal.SIG_DFL)
 
 
-def has_ended(process):
-    """Whether a process has ended. One that its new parent has not waited for (as under the gate) still has its folder."""
+def has_ended(process: int) -> bool:
+    """Whether a process has ended. One that its new parent has not waited for (as under the gate) still has its
+    folder."""
     try:
         stat = pathlib.Path(f"/proc/{process}/stat").read_text(encoding="ascii", errors="replace")
     except (FileNotFoundError, ProcessLookupError):
@@ -51,14 +58,158 @@ def has_ended(process):
     return stat.rpartition(")")[2].split()[0] in "ZX"
 
 
+class Ended(NamedTuple):
+    """What a server said on standard output behind its first line, its status, and what it said on standard error."""
+
+    said: str
+    status: int
+    error: str
+
+
+class Server:
+    """`pathserve serve` or `pathserve keep` of the objects of a file over a folder. It is at the port, or the path of a
+    socket, `place`, or at another port each time that it is started.
+
+    `env` is more in its environment, `files` how many it may have open, `user` who runs it, and `by` the command that
+    is called in the place of the program. Standard error goes to the file `errors`, or to a pipe. A server that
+    `survives` is not killed by a write past a limit on the size of its files: that fails, as one on a full disk does."""
+
+    child: "subprocess.Popen[str] | None" = None
+
+    def __init__(self, command: str, file: pathlib.Path, folder: pathlib.Path, *words: object, place: object = None,
+                 env: Mapping[str, str] | None = None, files: int | None = None, user: int | None = None,
+                 by: Sequence[object] = (), errors: pathlib.Path | None = None, survives: bool = False) -> None:
+        self.command, self.file, self.folder, self.words = command, file, folder, words
+        self.has_place, self.place = place is not None, str(place)
+        self.env, self.user, self.errors, self.survives = dict(env or {}), user, errors, survives
+        limit = ["bash", "-c", f'ulimit -n {files} && exec "$@"', "bash"] if files else []
+        self.by = [*limit, *(by or [program()])]
+
+    @property
+    def port(self) -> int:
+        return int(self.place)
+
+    @property
+    def at_path(self) -> bool:
+        return self.has_place and not self.place.isdigit()
+
+    def __enter__(self: Self) -> Self:
+        self.start()
+        return self
+
+    def __exit__(self, *_: object) -> None:
+        self.kill()
+
+    def begin(self) -> None:
+        """Starts it, and does not wait for what it says."""
+        if not self.has_place:
+            self.place = str(free_port())
+        words = [*self.by, self.command, self.file, self.folder, self.place, *self.words]
+        pipe = subprocess.PIPE
+        with contextlib.ExitStack() as stack:
+            errors: int | BinaryIO = stack.enter_context(self.errors.open("wb")) if self.errors else pipe
+            self.child = subprocess.Popen(
+                [str(it) for it in words], stdin=pipe, stdout=pipe, stderr=errors, text=True,
+                env={**os.environ, **self.env}, restore_signals=not self.survives,
+                user=self.user, group=self.user, extra_groups=None if self.user is None else [],
+            )
+
+    def start(self) -> None:
+        """Starts it, and waits until it listens."""
+        self.begin()
+        line = self.child.stdout.readline()
+        if line != f"listening {self.place}\n":
+            said, status, error = self.ended()
+            raise Wrong(f"the server said {line + said + error!r}, status {status}")
+
+    def error(self) -> str:
+        """What it has said so far in the file of its standard error."""
+        return self.errors.read_text(errors="replace")
+
+    def ended(self, seconds: float = SECONDS) -> Ended:
+        """Ends its input, and waits for its end."""
+        try:
+            said, error = self.child.communicate(timeout=seconds)
+        except subprocess.TimeoutExpired:
+            self.kill()
+            raise Wrong("the server does not end") from None
+        return Ended(said, self.child.returncode, self.error() if self.errors else error)
+
+    def refused(self, seconds: float = SECONDS) -> Ended:
+        """Starts it, once more where it runs, which comes to nothing."""
+        child, place = self.child, self.place
+        self.begin()
+        try:
+            return self.ended(seconds)
+        finally:
+            self.child, self.place = child, place
+
+    def stop(self) -> None:
+        """Ends its input, and does not wait."""
+        self.child.stdin.close()
+        self.child.stdin = None
+
+    def kill(self) -> None:
+        self.child.kill()
+        self.child.wait()
+        self.close()
+
+    def close(self) -> None:
+        for it in (self.child.stdin, self.child.stdout, self.child.stderr):
+            with contextlib.suppress(OSError):
+                if it:
+                    it.close()
+
+    def awaited(self, seconds: float = SECONDS) -> int | None:
+        """The status with which it ends by itself, or none where it goes on for so many seconds."""
+        with contextlib.suppress(subprocess.TimeoutExpired):
+            return self.child.wait(seconds)
+        return None
+
+    def connect(self, seconds: float = SECONDS) -> socket.socket:
+        made = socket.socket(socket.AF_UNIX if self.at_path else socket.AF_INET)
+        made.settimeout(seconds)
+        try:
+            made.connect(self.place if self.at_path else ("127.0.0.1", self.port))
+        except OSError:
+            made.close()
+            raise
+        if not self.at_path:
+            made.setsockopt(socket.IPPROTO_TCP, socket.TCP_NODELAY, 1)
+        return made
+
+    def says(self, *lines: str) -> list[str]:
+        """What a client hears that says these lines and then quits."""
+        with self.connect() as it:
+            it.sendall("".join(f"{line}\n" for line in (*lines, "quit")).encode())
+            return it.makefile("rb").read().decode().split("\n")[:-1]
+
+    def memory(self, word: str = "VmRSS") -> int:
+        """So many KiB of memory it has, or had at most (`VmHWM`)."""
+        status = pathlib.Path(f"/proc/{self.child.pid}/status").read_text()
+        return int(next(it for it in status.splitlines() if it.startswith(word)).split()[1])
+
+    def processor(self) -> float:
+        """The seconds of a processor that it took."""
+        words = pathlib.Path(f"/proc/{self.child.pid}/stat").read_text().rpartition(")")[2].split()
+        return (int(words[11]) + int(words[12])) / os.sysconf("SC_CLK_TCK")
+
+    def descriptors(self) -> int:
+        return len(os.listdir(f"/proc/{self.child.pid}/fd"))
+
+
 class Told:
     """What one connection was told: the object that it opened and its next key there, and how each of its calls ended. A call has
     to end before the next one is accepted, or anything else is answered but a cancel; and a repeat has to say what was said before."""
 
-    def __init__(self):
-        self.object, self.key, self.ends, self.wrong, self.call = None, None, {}, [], None
+    def __init__(self) -> None:
+        self.object: str | None = None
+        self.key: int | None = None
+        self.ends: dict[int, str] = {}
+        self.wrong: list[str] = []
+        self.call: int | None = None
 
-    def hear(self, line):
+    def hear(self, line: str) -> None:
         """Keeps what a line tells."""
         if found := LAST_LINE.fullmatch(line):
             number = int(found[2])
@@ -70,7 +221,7 @@ class Told:
             if self.call:
                 self.wrong.append(f"{line!r} was told before call {self.call} ended")
             if found := OPENED.fullmatch(line):
-                self.object, self.key = found[1], found[2] and int(found[2])
+                self.object, self.key = found[1], int(found[2]) if found[2] else None
             if line.startswith("accepted "):
                 self.call = int(line.removeprefix("accepted "))
             if found := LAST_LINE.fullmatch(line.removeprefix("repeat ")):
@@ -79,7 +230,7 @@ class Told:
                     self.wrong.append(f"{line!r} was told of what was told as {self.ends[int(found[2])]!r}")
 
 
-def ended_calls(trace):
+def ended_calls(trace: str) -> dict[int, str]:
     """What a trace says of how each call ended."""
     found = {}
     for line in trace.splitlines():
@@ -89,13 +240,14 @@ def ended_calls(trace):
     return found
 
 
-def audited(objects, trace):
+def audited(objects: pathlib.Path, trace: pathlib.Path) -> str:
     """What `pathserve audit` says of a trace."""
     words = [program(), "audit", objects, trace]
     return subprocess.run(words, capture_output=True, text=True, check=False, timeout=SECONDS).stdout
 
 
-def traced_wrongly(objects, folder, name, all_told, entries):
+def traced_wrongly(objects: pathlib.Path, folder: pathlib.Path, name: str, all_told: Iterable[Told],
+                   entries: int) -> list[str]:
     """What the trace of an object in a folder has wrong: it has to be legal, with so many entries, and to end each call as it
     was told."""
     trace = folder / f"{name}.trace"

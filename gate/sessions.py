@@ -43,17 +43,17 @@ class Step:
     line: int
     form: str
     who: str
-    texts: list
+    texts: list[str]
 
 
 @dataclasses.dataclass
 class Story(Case):
     """A case of a server: what happens, and the folder before and after."""
 
-    steps: list = dataclasses.field(default_factory=list)
-    before: list = dataclasses.field(default_factory=list)
-    after: "list | None" = None
-    traces: dict = dataclasses.field(default_factory=dict)
+    steps: list[Step] = dataclasses.field(default_factory=list)
+    before: "list[tuple[str, str | bytes | None]]" = dataclasses.field(default_factory=list)
+    after: "list[tuple[str, str | bytes | None]] | None" = None
+    traces: dict[str, bytes] = dataclasses.field(default_factory=dict)
 
 
 def form_of(line):

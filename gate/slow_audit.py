@@ -125,10 +125,8 @@ def value_of(kind, spelled):
     count = int.from_bytes(whole[2:4], "big")
     if count > 1024 or isinstance(kind, Array) and count != len(kind.opening):
         raise Bad
-    if isinstance(kind, (Array, Queue)):
-        value = [element() for _ in range(count)]
-    else:
-        value = dict([(text(), element()) for _ in range(count)])
+    is_row = isinstance(kind, (Array, Queue))
+    value = [element() for _ in range(count)] if is_row else dict([(text(), element()) for _ in range(count)])
     # A value has one spelling in a format.
     if kind.bytes_of(value, format) != whole:
         raise Bad

@@ -2,6 +2,7 @@
 Paths are counted over the whole history (gate/slow_world.py), values are whole, and nothing is written anywhere."""
 import collections
 import re
+from collections.abc import Mapping
 
 from gate.slow_world import MOST, written
 
@@ -128,6 +129,8 @@ class Hall:
 
 class Slow:
     """All objects of a server, and what clients say."""
+
+    halls: Mapping[str, Hall]
 
     def __init__(self, objects):
         self.halls = {it.name: Hall(it) for it in objects}

@@ -187,7 +187,11 @@ def lookup(table, key):
 
 
 class Row:
-    """What an array and a queue share: their elements, one after another."""
+    """What an array and a queue share: their elements, one after another, written between two marks."""
+
+    form: int
+    opens: str
+    closes: str
 
     def bytes_of(self, value, format=WRITTEN):
         return head(format, self.form, value) + b"".join(bytes_of_datum(format, it) for it in value)
@@ -197,7 +201,7 @@ class Row:
 
 
 class Array(Row):
-    opens, closes = "[]"
+    opens, closes = "[", "]"
 
     def __init__(self, length, elements):
         self.opening = [0 if elements == "integer" else ""] * length
@@ -205,7 +209,7 @@ class Array(Row):
 
 
 class Queue(Row):
-    opens, closes = "<>"
+    opens, closes = "<", ">"
 
     def __init__(self, elements):
         self.opening, self.form = [], 3 if elements == "integer" else 4

@@ -58,7 +58,8 @@ class Function:
         self.last = next(it for it in range(self.first, len(lines)) if lines[it] == self.space + "}")
         if self.last < at:
             raise Unfit("the line is in no function")
-        self.owner = self.own_block = None
+        self.owner: re.Match | None = None
+        self.own_block = 0
         if self.space:
             begun = next(it for it in range(self.first, -1, -1) if re.match(r"(impl|(pub )?trait|(pub )?mod)\b", lines[it]))
             until = next(it for it in range(begun, len(lines)) if lines[it].endswith("{"))
@@ -68,13 +69,13 @@ class Function:
                 raise Unfit("the line is in a function of a trait")
         text = "\n".join(lines[self.first : self.last])[head.end() :]
         generic = text[: balanced(text, 0)] if text.startswith("<") else ""
-        given = text[len(generic) : balanced(text, len(generic))]
-        rest = text[len(generic) + len(given) :].splitlines()
+        behind = balanced(text, len(generic))
+        rest = text[behind:].splitlines()
         tail = rest[0].removesuffix("{").rstrip()
         if rest[1:] and rest[1].strip() == "where":
             bounds = itertools.takewhile(lambda it: not re.match(r" *(\{|requires|ensures|ghost|decreases)", it), rest[1:])
             tail = " ".join([tail, *(it.strip() for it in bounds)])
-        given = [it.removeprefix("mut ") for it in parted(given[1:-1])]
+        given = [it.removeprefix("mut ") for it in parted(text[len(generic) + 1 : behind - 1])]
         self.head = f"{self.space}{self.seen}fn {self.name}{generic}({', '.join(given)}){tail} {{"
         self.is_of_self = bool(given) and bool(SELF.match(given[0]))
         self.words = [it.partition(":")[0] for it in given[self.is_of_self :]]

@@ -3,7 +3,6 @@ trials, which are run, told of and counted in one way, and by `python3 -m unitte
 import pathlib
 import shutil
 import sys
-import tempfile
 import time
 import unittest
 import unittest.mock
@@ -11,10 +10,10 @@ from collections.abc import Callable, Iterable, Sequence
 from types import TracebackType
 from typing import Any, Optional, Union
 
-from tools.ready import TOP, given_words, program
+from tools.ready import TOP, given_words, new_folder, program
 
-__all__ = ["TOP", "Trial", "Wrong", "check", "given_words", "holds", "in_folder", "lacks", "loads", "program", "run", "title_of",
-           "until", "whole"]
+__all__ = ["TOP", "Trial", "Wrong", "check", "given_words", "holds", "in_folder", "lacks", "loads", "new_folder",
+           "program", "run", "title_of", "until", "whole"]
 # How long anything may take that a trial waits for, in seconds.
 SECONDS = 120
 Failure = Union[tuple[type[BaseException], BaseException, TracebackType], tuple[None, None, None]]
@@ -79,8 +78,8 @@ def in_folder(tool: str, work: Callable[..., object], make: Callable[[pathlib.Pa
     """Work that is given a new folder, or what is made in it."""
 
     def trial() -> object:
-        with tempfile.TemporaryDirectory(prefix=f"{tool}-", dir=room) as folder:
-            return work(make(pathlib.Path(folder)), **more)
+        with new_folder(f"{tool}-", room) as folder:
+            return work(make(folder), **more)
 
     return trial
 

@@ -397,20 +397,6 @@ CHANGES = (
 )
 
 
-# What was read of each crate: only the one that is changed is read again.
-READ = {}
-read_parts = repository.parts_above.__wrapped__
-
-
-def parts_above(folder):
-    if folder not in READ:
-        READ[folder] = read_parts(folder)
-    return READ[folder]
-
-
-repository.parts_above = parts_above
-
-
 def digests(top, names):
     """The digests of these crates of the repository at this folder, as it is now."""
     lines = repository.crates(top)
@@ -433,13 +419,14 @@ def faults_of_change(top, before, change):
         return [f"{what}: `{old}` stands {text.count(old)} times in {name}"]
     path.write_text(text.replace(old, new), encoding="utf-8")
     folder = next((it for it in path.parents if it.parent == top / "crates"), None)
-    kept = READ.pop(folder, None)
+    # (only the crate that is changed is read again)
+    kept = repository.READ.pop(folder, None)
     after = digests(top, before)
     path.write_text(text, encoding="utf-8")
     if kept is None:
-        READ.pop(folder, None)
+        repository.READ.pop(folder, None)
     else:
-        READ[folder] = kept
+        repository.READ[folder] = kept
     found = {it for it in before if before[it] != after[it]}
     wrong = [f"{what} ({name}): {it} is not asked again" for it in asked.split() if it not in found]
     return wrong + [f"{what} ({name}): {it} is asked again" for it in silent.split() if it in found]
@@ -541,10 +528,10 @@ class Tree:
                     clause = re.search(rf"^pub fn {item}\b[^{{}}]*?\n    ensures (?:\w+ )?\{{ ", text, re.M)
                     if clause and text.count(clause[0]) == 1:
                         met.setdefault(crate, (item, path, clause[0]))
-        for crate, (item, path, clause) in list(met.items())[:MOST_CHANGES]:
+        for crate, (item, path, asked) in list(met.items())[:MOST_CHANGES]:
             file = str(path.relative_to(TOP / "crates"))
-            yield f"{name}: a clause of {crate}::{item}", file, clause, f"{clause}(1 ≡ 1) × ", name, ""
-            head = clause.partition("\n")[0]
+            yield f"{name}: a clause of {crate}::{item}", file, asked, f"{asked}(1 ≡ 1) × ", name, ""
+            head = asked.partition("\n")[0]
             yield f"{name}: a comment of {crate}::{item}", file, head, f"// It says more. {{\n{head}", "", name
             yield f"{name}: a new function beside {crate}::{item}", file, head, f"pub fn brand_new_one() {{}}\n\n{head}", "", name
         edit = repository.files(TOP / "crates" / name / EDITS)[0]

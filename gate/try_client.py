@@ -42,12 +42,11 @@ import socket
 import struct
 import subprocess
 import sys
-import tempfile
 import threading
 import time
 
 from gate import kept
-from gate.tried import TOP, Wrong, given_words, lacks, whole
+from gate.tried import TOP, Wrong, given_words, lacks, new_folder, whole
 
 DRIVERS = TOP / "gate" / "drivers"
 # How long anything may take, and how much longer than its time a call, in seconds.
@@ -121,7 +120,7 @@ class Client:
 
 
 class Server:
-    """Takes connections, each in a thread, until it is closed."""
+    """Takes connections, each in a thread, until it is closed. What it does on each is `serve` of what it is."""
 
     name = "cell"
 
@@ -137,6 +136,9 @@ class Server:
                 it.setsockopt(socket.IPPROTO_TCP, socket.TCP_NODELAY, 1)
                 self.open.add(it)
                 threading.Thread(target=self.served, args=(it, number), daemon=True).start()
+
+    def serve(self, it, number):
+        raise NotImplementedError
 
     def served(self, it, number):
         with it, contextlib.suppress(OSError):
@@ -768,8 +770,7 @@ def main():
         if given_words():
             print(__doc__, file=sys.stderr)
             return 2
-    with tempfile.TemporaryDirectory(prefix="client-") as room:
-        room = pathlib.Path(room)
+    with new_folder("client-") as room:
         if is_own and not shutil.which(words[0]):
             print(f"not run: {words[0]}")
             return 2

@@ -154,7 +154,7 @@ def a_journal_that_was_changed_is_refused(folder, **_):
     journal = server.folder / "counter.journal"
     text = journal.read_bytes()
     journal.write_bytes(text.replace(b"end 1 done", b"end 1 dune"))
-    said, status = server.refused()
+    said, status = server.refused()[:2]
     if status != 1 or "counter.journal" not in said:
         raise Wrong(f"status {status}: {said!r}")
     check(journal.read_bytes(), text.replace(b"end 1 done", b"end 1 dune"), "the journal")
@@ -172,7 +172,7 @@ def another_object_does_not_go_on(folder, **_):
     server.kill()
     changed = SOURCE.replace("v[0] := v[0] + x", "v[0] := x")
     server.file.write_text(changed, encoding="ascii")
-    check(server.refused(), ("object counter was changed: start the old FILE once\n", 1))
+    check(server.refused()[:2], ("object counter was changed: start the old FILE once\n", 1))
     server.file.write_text(SOURCE, encoding="ascii")
     server.start()
     server.kill()
@@ -193,7 +193,7 @@ def parts_of_before_are_taken(folder, **_):
     other.mkdir()
     server = Server(other)
     (server.folder / "buffer.b.part").write_bytes(bytes([2, 4, 0, 0]))
-    check(server.refused(), ("object buffer past is not known\n", 1))
+    check(server.refused()[:2], ("object buffer past is not known\n", 1))
 
 
 def calls_wait_and_are_cancelled(folder, **_):
@@ -300,8 +300,9 @@ end;
             begun = epochs()
             while epochs() == begun:
                 check(it.calls(*[f"say '{crowd.LONG}'"] * 100), [f"done '{crowd.LONG}'"] * 100)
-        check([found for number in (0, 2, 3) if (found := it.say(f"cancel {number}") or it.hear())],
-              ["cancel 0 Unknown", "cancel 2 Cancelled", "cancel 3 Cancelled"])
+        for line, what in (("cancel 0", "Unknown"), ("cancel 2", "Cancelled"), ("cancel 3", "Cancelled")):
+            it.say(line)
+            it.hears(f"{line} {what}")
         it.say("cancel 2")
         it.hears("cancel 2 Ended")
     bob.hears("cancelled 2")
@@ -325,10 +326,10 @@ def who_does_not_read_is_not_read(folder, **_):
     server.start()
     calls, text = 12_000, "x" * 1000
     deaf, gone = Talk(server), Talk(server)
-    for it in (deaf, gone):
-        it.say("open echo")
-        it.hears("opened echo")
-    saying = [threading.Thread(target=shouting, args=(it, f"call say '{text}'", calls)) for it in (deaf, gone)]
+    for talk in (deaf, gone):
+        talk.say("open echo")
+        talk.hears("opened echo")
+    saying = [threading.Thread(target=shouting, args=(talk, f"call say '{text}'", calls)) for talk in (deaf, gone)]
     for it in saying:
         it.start()
     time.sleep(1)

@@ -11,16 +11,13 @@ within a time. The server has to end by itself with status 0, and its traces hav
 The program is the one that ./pathserve runs, or FILE. The last line is `try_deaf: N passed, M failed`; the exit status is 0
 where M is 0 and N is not.
 """
-import pathlib
 import socket
-import subprocess
 import sys
-import tempfile
 import threading
 import time
 
-from gate.served import free_port
-from gate.tried import given_words, program, whole
+from gate.served import Server, audited
+from gate.tried import Wrong, given_words, new_folder, whole
 
 SOURCE = f"""object hold;
   path a; b end;
@@ -95,35 +92,30 @@ class Client:
         self.it.close()
 
 
-class Server:
-    """A server over a folder of its own, from its start to its end."""
+def started(folder, sessions):
+    """A server over a folder of its own."""
+    (folder / "source.pp").write_text(SOURCE)
+    (folder / "place").mkdir()
+    server = Server("serve", folder / "source.pp", folder / "place", "--sessions", sessions)
+    server.start()
+    return server
 
-    def __init__(self, folder, sessions):
-        self.source, self.place, self.port = folder / "source.pp", folder / "place", free_port()
-        self.source.write_text(SOURCE)
-        self.place.mkdir()
-        words = [program(), "serve", self.source, self.place, str(self.port), "--sessions", str(sessions)]
-        self.it = subprocess.Popen(words, stdout=subprocess.PIPE, stderr=subprocess.PIPE, text=True)
-        self.it.stdout.readline()
 
-    def end(self, what):
-        """Looks how the server ends, and at its traces. It gives the entries of each object."""
-        try:
-            out, error = self.it.communicate(timeout=ENDS)
-        except subprocess.TimeoutExpired:
-            self.it.kill()
-            self.it.communicate()
-            found(f"{what}: the server ends", False, "it does not")
-            return {}
-        found(f"{what}: the server ends", self.it.returncode == 0 and not error, f"status {self.it.returncode}, {error!r}, {out!r}")
-        for trace in sorted(self.place.glob("*.trace")):
-            audit = subprocess.run([program(), "audit", self.source, trace], capture_output=True, text=True)
-            found(f"{what}: {trace.name} is legal", audit.returncode == 0, audit.stdout)
-        return {name: int(count) for name, _, count in (it.partition(" entries ") for it in out.splitlines())}
+def look_at_end(server, what):
+    """Looks how a server ends, and at its traces."""
+    try:
+        out, status, error = server.ended(ENDS)
+    except Wrong as wrong:
+        found(f"{what}: the server ends", False, wrong)
+        return
+    found(f"{what}: the server ends", status == 0 and not error, f"status {status}, {error!r}, {out!r}")
+    for trace in sorted(server.folder.glob("*.trace")):
+        said = audited(server.file, trace)
+        found(f"{what}: {trace.name} is legal", said.startswith("legal "), said)
 
 
 def deaf(folder):
-    server = Server(folder, 3)
+    server = started(folder, 3)
     b, c, d = Client(server.port, "hold", small=True), Client(server.port, "hold"), Client(server.port, "cell")
     b.it.settimeout(0.5)
     is_full, is_gone = False, False
@@ -160,12 +152,12 @@ def deaf(folder):
     b.it.close()
     c.quit()
     d.quit()
-    server.end("deaf")
+    look_at_end(server, "deaf")
 
 
 def deaf_by_name(folder):
     """A client with a name that asks again and reads nothing, and comes back when it was let go."""
-    server = Server(folder, 4)
+    server = started(folder, 4)
     b, c, d = Client(server.port, "hold as ann", small=True), Client(server.port, "cell"), Client(server.port, "cell")
     b.send(b"call #1 name\n")
     first = [b.line(), b.line()]
@@ -179,8 +171,7 @@ def deaf_by_name(folder):
     except OSError:
         pass
     found("a deaf client by name holds up nobody", is_answered)
-    status = pathlib.Path(f"/proc/{server.it.pid}/status").read_text(encoding="ascii")
-    held = int(status.partition("VmRSS:")[2].split()[0])
+    held = server.memory()
     found("what a deaf client by name has not read is not kept", held < HOLDS, f"{held} KiB")
     c.quit()
     e, said, end = Client(server.port, "hold as ann", is_open=False), "no InUse", time.monotonic() + STAYS
@@ -195,13 +186,13 @@ def deaf_by_name(folder):
     b.it.close()
     for it in (d, e):
         it.quit()
-    server.end("deaf by name")
+    look_at_end(server, "deaf by name")
 
 
 def cut(folder):
     """A client that is cut off at each byte of its last call."""
     text = b"call put 1\ncall put 777777"
-    server = Server(folder, len(text) + 2)
+    server = started(folder, len(text) + 2)
     for length in range(len(text) + 1):
         it = Client(server.port, "cell")
         it.send(text[:length])
@@ -215,15 +206,15 @@ def cut(folder):
         time.sleep(0.05)
     found("of a call that was cut off nothing is done", said[1] and said[1].split()[2] == "1", f"get tells {said}")
     it.quit()
-    server.end("cut")
-    trace = (server.place / "cell.trace").read_text()
+    look_at_end(server, "cut")
+    trace = (server.folder / "cell.trace").read_text()
     values = {line.split()[4] for line in trace.splitlines() if " put " in line}
     found("only whole calls are done", values == {"1"}, f"puts of {sorted(values)}")
 
 
 def late(folder):
     """How late the first answer to many calls comes that are sent ahead, while others take turns with them."""
-    server = Server(folder, BUSY + 1)
+    server = started(folder, BUSY + 1)
     over = threading.Event()
 
     def busy():
@@ -235,8 +226,8 @@ def late(folder):
         it.quit()
 
     threads = [threading.Thread(target=busy) for _ in range(BUSY)]
-    for it in threads:
-        it.start()
+    for one in threads:
+        one.start()
     it, times = Client(server.port, "cell"), []
     for _ in range(10):
         begin = time.monotonic()
@@ -251,7 +242,7 @@ def late(folder):
         one.join()
     times.sort()
     found("answers to calls that were sent ahead come soon", said and times[len(times) // 2] < SOON, f"after {[round(it, 3) for it in times]} seconds")
-    server.end("late")
+    look_at_end(server, "late")
 
 
 def main():
@@ -259,8 +250,8 @@ def main():
         print(__doc__, file=sys.stderr)
         return 2
     for part in (cut, late, deaf, deaf_by_name):
-        with tempfile.TemporaryDirectory(prefix="deaf-") as folder:
-            part(pathlib.Path(folder))
+        with new_folder("deaf-") as folder:
+            part(folder)
     print(f"try_deaf: {len(PASSED)} passed, {len(FAILED)} failed")
     return 1 if FAILED or not PASSED else 0
 

@@ -68,7 +68,8 @@ class Page:
     def __init__(self, path):
         self.name = str(path.relative_to(TOP))
         self.text = path.read_text(encoding="utf-8")
-        self.blocks, self.prose, opened = [], [], None
+        self.blocks, self.prose = [], []
+        opened: tuple[int, str, str, list[str]] | None = None
         for number, line in enumerate(self.text.split("\n"), 1):
             found = FENCE.match(line)
             if not found and opened is None:
@@ -476,8 +477,8 @@ def try_items(count, page):
     for line, text in page.prose:
         where = f"{page.name}:{line}"
         for crate, file, more in re.findall(r"\b([a-z_]+)/((?:specs|proofs|src)/[\w/]+\.(?:antt|rt))((?:, [A-Z]\w*\.antt)*)", text):
-            folder = pathlib.PurePath(file).parent
-            for name in [file, *(str(folder / it) for it in re.findall(r"\w+\.antt", more))]:
+            place = pathlib.PurePath(file).parent
+            for name in [file, *(str(place / it) for it in re.findall(r"\w+\.antt", more))]:
                 count.is_so((TOP / "crates" / crate / name).exists(), where, f"there is no {crate}/{name}")
         for crate, several, one in re.findall(r"`([a-z_]+)::(?:\w+::)*(?:\{([^}]*)\}|(\w+))`", text):
             folder = TOP / "crates" / crate / "src"

@@ -8,13 +8,11 @@ read by Vim, say that it is. What needs Vim is left out where there is none. The
 `try_editors: N passed, M failed`; the exit status is 0 where M is 0 and N is not.
 """
 import json
-import pathlib
 import re
 import subprocess
 import sys
-import tempfile
 
-from gate.tried import TOP, lacks, whole
+from gate.tried import TOP, lacks, new_folder, whole
 
 SECONDS = 60
 WORD = re.compile(r"[A-Za-z][A-Za-z0-9_]*")
@@ -108,12 +106,11 @@ qall!
 
 def by_vim(text):
     """The group of each character, as Vim says it."""
-    with tempfile.TemporaryDirectory(prefix="editors-") as room:
-        room = pathlib.Path(room)
+    with new_folder("editors-") as room:
         (room / "script.vim").write_text(SCRIPT)
         (room / "it.txt").write_text(text)
         env = {"EDITORS": str(TOP / "editors" / "vim"), "OUT": str(room / "out"), "HOME": str(room), "TERM": "dumb", "PATH": "/usr/bin:/bin"}
-        words = ["vim", "-u", "NONE", "-i", "NONE", "-n", "-es", "-S", room / "script.vim", room / "it.txt"]
+        words = ["vim", "-u", "NONE", "-i", "NONE", "-n", "-es", "-S", str(room / "script.vim"), str(room / "it.txt")]
         ran = subprocess.run(words, env=env, stdin=subprocess.DEVNULL, capture_output=True, timeout=SECONDS, check=False)
         if not (room / "out").exists():
             raise AssertionError(f"vim ended with status {ran.returncode}: {(ran.stdout + ran.stderr).decode(errors='replace')[:300]}")

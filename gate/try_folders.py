@@ -13,19 +13,17 @@ where M is 0 and N is not.
 """
 import contextlib
 import os
-import pathlib
 import re
 import resource
 import shutil
-import signal
 import socket
 import subprocess
 import sys
-import tempfile
 import time
 
-from gate.served import audited, free_port
-from gate.tried import Trial, Wrong, given_words, loads, program, run
+from gate import served
+from gate.served import audited
+from gate.tried import Trial, Wrong, given_words, loads, new_folder, run
 
 SOURCE = """object one;
   path 1:(put, get) end;
@@ -77,30 +75,21 @@ def check(holds, said):
         raise Wrong(said)
 
 
-class Server:
-    """A server over a folder, which stops with its input."""
+class Server(served.Server):
+    """A server over a folder, which stops with its input, and what it says first, if anything."""
 
     def __init__(self, folder, *more, other=True, files=None, env=None):
-        self.port, self.folder = free_port(), folder
-        source = folder.parent / "objects.pp"
-        words = [program(), "serve", source, folder, str(self.port), "--sessions", "8", "--stop-with-input", *more]
-        user = {"user": NOBODY, "group": NOBODY, "extra_groups": []} if other and os.geteuid() == 0 else {}
-        pipes = {"stdin": subprocess.PIPE, "stdout": subprocess.PIPE, "stderr": subprocess.PIPE}
-        # A write past a limit on the size of files is to fail, as one on a full disk does, and not to kill.
-        signal.signal(signal.SIGXFSZ, signal.SIG_IGN)
-        if files:
-            words = ["bash", "-c", f'ulimit -n {files} && exec "$@"', "bash", *words]
-        self.ran = subprocess.Popen(words, text=True, restore_signals=False, env=env, **pipes, **user)
-        self.line = self.ran.stdout.readline()
+        user = NOBODY if other and os.geteuid() == 0 else None
+        source, words = folder.parent / "objects.pp", ["--sessions", "8", "--stop-with-input", *more]
+        super().__init__("serve", source, folder, *words, env=env, files=files, user=user, survives=True)
+
+    def start(self):
+        self.begin()
+        self.line = self.child.stdout.readline()
 
     def ask(self, *lines):
         """Says lines on a connection of its own, and gives what comes."""
-        with socket.create_connection(("127.0.0.1", self.port), LASTS) as it:
-            it.sendall("".join(f"{line}\n" for line in (*lines, "quit")).encode())
-            heard = b""
-            while piece := it.recv(1 << 16):
-                heard += piece
-        return heard.decode()
+        return "".join(f"{it}\n" for it in self.says(*lines))
 
     def settle(self):
         """Has each object do a call."""
@@ -117,24 +106,14 @@ class Server:
                 last, since = now, time.monotonic()
             time.sleep(QUIET / 10)
 
-    def stop(self):
-        """Ends its input, and gives its status, what it said behind its first line, and its standard error."""
-        said, error = self.ran.communicate("", timeout=LASTS)
-        return self.ran.returncode, said, error
-
     def limit(self, size):
-        resource.prlimit(self.ran.pid, resource.RLIMIT_FSIZE, (size, size))
-
-    def kill(self):
-        self.ran.kill()
-        self.ran.communicate()
+        resource.prlimit(self.child.pid, resource.RLIMIT_FSIZE, (size, size))
 
 
 @contextlib.contextmanager
 def place():
     """A folder for a server, in one with its source, which the other user may enter."""
-    with tempfile.TemporaryDirectory(prefix="folders-") as room:
-        room = pathlib.Path(room)
+    with new_folder("folders-") as room:
         room.chmod(0o755)
         (room / "objects.pp").write_text(SOURCE, encoding="ascii")
         (room / "folder").mkdir()
@@ -146,16 +125,6 @@ def give(it):
     """Gives a file or a folder to the user who runs the program."""
     if os.geteuid() == 0:
         os.chown(it, NOBODY, NOBODY)
-
-
-@contextlib.contextmanager
-def serving(*words, **more):
-    """A server, which is gone at the end."""
-    it = Server(*words, **more)
-    try:
-        yield it
-    finally:
-        it.kill()
 
 
 def contents(folder):
@@ -211,9 +180,9 @@ def look_at_ends(folder, said, error, unsaved, before):
 def repair(folder, unsaved):
     """What docs/SERVING.md says of parts that were not saved: a start moves the value files away, a stop, and then the files of a part, one behind
     the other, are the part."""
-    with serving(folder) as server:
+    with Server(folder) as server:
         check(server.line.startswith("listening "), "the second start failed")
-        status, _, error = server.stop()
+        _, status, error = server.ended(LASTS)
     check(status == 0, f"the second run ended with {status}")
     moved = MOVED.search(error)
     check(moved, f"the second start said {error!r}")
@@ -223,9 +192,9 @@ def repair(folder, unsaved):
         check(held == VALUES[part], f"left/{moved[1]} has not the value of {part}")
         (folder / f"{part}.part").write_bytes(held)
         give(folder / f"{part}.part")
-    with serving(folder) as server:
+    with Server(folder) as server:
         check(server.ask("open one", "call get").count("done 1 7\n") == 1, "the third run has not the value")
-        status, _, error = server.stop()
+        _, status, error = server.ended(LASTS)
     check((status, error) == (0, ""), f"the third run ended with {status}, {error!r}")
     check(not value_files(folder), "value files were left though all was saved")
     for part in VALUES:
@@ -234,7 +203,7 @@ def repair(folder, unsaved):
 
 def end_badly(folder, server, before):
     """Stops a server that cannot save all, and looks at what it left."""
-    status, said, error = server.stop()
+    said, status, error = server.ended(LASTS)
     check(status == 3 and error.endswith("write fault\n"), f"status {status}, {error!r}")
     unsaved = look_for_values(folder, error)
     look_at_ends(folder, said, error, unsaved, before)
@@ -242,25 +211,28 @@ def end_badly(folder, server, before):
 
 
 def try_two_servers():
-    with place() as folder, serving(folder) as first:
+    with place() as folder, Server(folder) as first:
         first.settle()
         before = contents(folder)
         told = f"{folder}: another server has this folder\n"
         for more in (), ("--explain",):
-            with serving(folder, *more) as second:
+            with Server(folder, *more) as second:
                 check(second.line == "", "a second server serves")
-                status, said, error = second.stop()
+                said, status, error = second.ended(LASTS)
             check((status, said, error) == (3, "", f"{told}read fault\n"), f"the second one ended with {status}, {said!r}, {error!r}")
         check(contents(folder) == before, "the second server changed the folder")
         check("done 2 7\n" in first.ask("open one", "call get"), "the first server does not go on")
-        status, said, error = first.stop()
+        said, status, error = first.ended(LASTS)
         check((status, said, error) == (0, "one entries 2\ntwo entries 1\n", ""), f"the first one ended with {status}, {said!r}, {error!r}")
     # A folder is free as soon as its server has ended, however that was.
     with place() as folder:
-        for ends in Server.stop, Server.kill, Server.stop:
-            with serving(folder) as server:
+        for is_killed in (False, True, False):
+            with Server(folder) as server:
                 check(server.line.startswith("listening "), "the folder of a server that has ended is not free")
-                ends(server)
+                if is_killed:
+                    server.kill()
+                else:
+                    server.ended(LASTS)
 
 
 def try_limits():
@@ -268,7 +240,7 @@ def try_limits():
     for size in sorted({0, *(len(it) - 1 for it in VALUES.values()), max(map(len, VALUES.values()))}):
         with place() as folder:
             # The limit of another user's program is not ours to change.
-            with serving(folder, other=False) as server:
+            with Server(folder, other=False) as server:
                 server.settle()
                 server.limit(size)
                 unsaved = end_badly(folder, server, {})
@@ -280,15 +252,15 @@ def try_limits():
 def try_old_trace():
     """The trace of the last run stays where the new one cannot be written."""
     with place() as folder:
-        with serving(folder) as server:
+        with Server(folder) as server:
             server.ask("open two", "call put 1")
-            check(server.stop()[0] == 0, "the first run failed")
+            check(server.ended(LASTS).status == 0, "the first run failed")
         before = contents(folder)
-        with serving(folder, other=False) as server:
+        with Server(folder, other=False) as server:
             server.ask("open two", "call put 2")
             server.await_rest()
             server.limit(20)
-            status, said, error = server.stop()
+            said, status, error = server.ended(LASTS)
         check((status, said) == (3, ""), f"{status}, {said!r}, {error!r}")
         check("two.trace not written\n" in error and "two.v not saved" not in error, f"{error!r}")
         check((folder / "two.trace").read_bytes() == before["two.trace"], "the old trace was changed")
@@ -326,10 +298,10 @@ def try_full_disk():
         with small_disk() as folder:
             if not folder:
                 return
-            with serving(folder) as server:
+            with Server(folder) as server:
                 server.settle()
                 fill(folder, pages)
-                status, said, error = server.stop()
+                said, status, error = server.ended(LASTS)
             unsaved = look_for_values(folder, error)
             look_at_ends(folder, said, error, unsaved, {})
             if status == 0:
@@ -345,14 +317,14 @@ def try_full_disk():
 
 def try_read_only():
     with place() as folder:
-        with serving(folder) as server:
+        with Server(folder) as server:
             server.settle()
             folder.chmod(0o555)
             unsaved = end_badly(folder, server, {})
         check(set(unsaved) == set(VALUES), f"{set(unsaved)} were not saved")
         before = contents(folder)
-        with serving(folder, "--explain") as server:
-            status, said, error = server.stop()
+        with Server(folder, "--explain") as server:
+            said, status, error = server.ended(LASTS)
             last = error.splitlines(keepends=True)[-2:]
             wanted = [f"{folder}: in this folder a part cannot be read, or no file can be made\n", "read fault\n"]
             check((server.line, status, said, last) == ("", 3, "", wanted), f"a start in a read-only folder: {status}, {said!r}, {error!r}")
@@ -360,32 +332,32 @@ def try_read_only():
         folder.chmod(0o755)
         repair(folder, unsaved)
     # Read-only for a while only.
-    with place() as folder, serving(folder) as server:
+    with place() as folder, Server(folder) as server:
         server.settle()
         folder.chmod(0o555)
         heard = server.ask("open two", "call put 5")
         check("failed 2 device\n" in heard, f"the client heard {heard!r}")
         folder.chmod(0o755)
-        check(server.stop()[0] == 0, "the end failed")
+        check(server.ended(LASTS).status == 0, "the end failed")
         look_for_values(folder, "")
 
 
 def try_kill():
     with place() as folder:
-        with serving(folder) as server:
+        with Server(folder) as server:
             server.settle()
-            check(server.stop()[0] == 0, "the first run failed")
+            check(server.ended(LASTS).status == 0, "the first run failed")
         saved = contents(folder)
         check(not value_files(folder), "value files were left though all was saved")
         for turn in 1, 2:
-            with serving(folder) as server:
+            with Server(folder) as server:
                 server.ask("open two", f"call put {turn + 20}")
                 server.await_rest()
                 before = {it: (folder / it).read_bytes() for it in value_files(folder)}
                 server.kill()
             check(before and bytes.fromhex(f"02010001{turn + 20:08x}") in before.values(), "the value is in no file")
-            with serving(folder) as server:
-                status, _, error = server.stop()
+            with Server(folder) as server:
+                _, status, error = server.ended(LASTS)
             moved = MOVED.fullmatch(error)
             check(status == 0 and moved and moved[1] == str(turn), f"the next start ended with {status}, {error!r}")
             for name, held in before.items():
@@ -402,19 +374,19 @@ def try_before():
             for part, held in BEFORE.items():
                 (folder / f"{part}.part").write_bytes(held)
                 give(folder / f"{part}.part")
-            with serving(folder, other=False) as server:
+            with Server(folder, other=False) as server:
                 check("done 1 7\n" in server.ask("open one", "call get"), "the value of before is not taken up")
                 server.await_rest()
                 server.limit(size)
-                _, _, error = server.stop()
+                error = server.ended(LASTS).error
             unsaved = look_for_values(folder, error)
             wanted = {part for part, held in VALUES.items() if len(held) > size}
             check(set(unsaved) == wanted, f"{sorted(unsaved)} were not saved, and {sorted(wanted)} are longer than {size}")
             for part in unsaved:
                 check((folder / f"{part}.part").read_bytes() == BEFORE[part], f"the saved {part} was changed")
-            with serving(folder) as server:
+            with Server(folder) as server:
                 check("done 1 7\n" in server.ask("open one", "call get"), "the second run has not the value")
-                check(server.stop()[0] == 0, "the second run failed")
+                check(server.ended(LASTS).status == 0, "the second run failed")
             for part in VALUES:
                 check(is_saved(folder, part), f"{part} is lost after the second run")
 
@@ -429,38 +401,38 @@ def ask_or_not(server, *lines):
 
 def try_few_files():
     """Where too many files are open no connection can be taken: who is there goes on, and all is saved."""
-    with place() as folder, serving(folder, other=False) as server:
+    with place() as folder, Server(folder, other=False) as server:
         server.settle()
         with socket.create_connection(("127.0.0.1", server.port), LASTS) as first:
             first.sendall(b"open two\n")
             check(first.recv(64) == b"opened two\n", "the first client is not served")
-            _, most = resource.prlimit(server.ran.pid, resource.RLIMIT_NOFILE)
-            resource.prlimit(server.ran.pid, resource.RLIMIT_NOFILE, (3, most))
+            _, most = resource.prlimit(server.child.pid, resource.RLIMIT_NOFILE)
+            resource.prlimit(server.child.pid, resource.RLIMIT_NOFILE, (3, most))
             # A thread that waits for a connection has a file for it, but none for its second side.
             check(ask_or_not(server, "open one") == "", "a client is served for which there is no file")
-            resource.prlimit(server.ran.pid, resource.RLIMIT_NOFILE, (most, most))
+            resource.prlimit(server.child.pid, resource.RLIMIT_NOFILE, (most, most))
             first.sendall(b"call put 9\nquit\n")
             heard = b""
             while piece := first.recv(64):
                 heard += piece
             check(heard == b"accepted 2\ndone 2\nbye\n", f"the first client heard {heard!r}")
         check(server.ask("open one", "call get").endswith("done 2 7\nbye\n"), "a later client is not served")
-        status, said, error = server.stop()
+        said, status, error = server.ended(LASTS)
         check((status, said, error) == (3, "one entries 2\ntwo entries 2\n", "read fault\n"), f"{status}, {said!r}, {error!r}")
         look_for_values(folder, error)
 
 
 def try_fewer_files():
     """A server with so few files that it cannot start, cannot save, or takes no connection, until it has enough of them."""
-    served, values = set(), dict(VALUES)
+    ends, values = set(), dict(VALUES)
     with place() as folder:
-        with serving(folder, other=False) as server:
+        with Server(folder, other=False) as server:
             server.settle()
-            check(server.stop()[0] == 0, "the first run failed")
+            check(server.ended(LASTS).status == 0, "the first run failed")
         for files in range(4, 25):
-            with serving(folder, other=False, files=files) as server:
+            with Server(folder, other=False, files=files) as server:
                 heard = ask_or_not(server, "open two", f"call put {files}") if server.line else ""
-                status, said, error = server.stop()
+                said, status, error = server.ended(LASTS)
             if "done 1\n" in heard:
                 values["two.v"] = bytes.fromhex(f"02010001{files:08x}")
             check(status in (0, 3) and error.endswith("read fault\n" if status else ""), f"{files} files: {status}, {error!r}")
@@ -468,10 +440,10 @@ def try_fewer_files():
             for name, count in re.findall(r"(\w+) entries (\d+)\n", said):
                 legal = audited(folder.parent / "objects.pp", folder / f"{name}.trace")
                 check(legal == f"legal {count}\n", f"{files} files: {name}.trace is {legal!r}")
-            served.add((bool(server.line), heard[-10:], status))
+            ends.add((bool(server.line), heard[-10:], status))
         check(not value_files(folder), "value files were left though all was saved")
     wanted = {(False, "", 3), (True, "", 3), (True, "one 1\nbye\n", 0)}
-    check(wanted <= served, f"with few files came {served}")
+    check(wanted <= ends, f"with few files came {ends}")
 
 
 # A library to preload: the read of a listing whose number is LISTING fails, and no thread is made once the file NO_THREAD is there.
@@ -507,21 +479,21 @@ def lacking(folder, **more):
     library = folder.parent / "lacking.so"
     words = ["cc", "-O2", "-shared", "-fPIC", "-x", "c", "-o", library, "-", "-ldl"]
     subprocess.run(words, input=LACKING, text=True, check=True)
-    return {**os.environ, "LD_PRELOAD": str(library), **{name: str(it) for name, it in more.items()}}
+    return {"LD_PRELOAD": str(library), **{name: str(it) for name, it in more.items()}}
 
 
 def try_unlisted():
     """A folder whose listing fails, at its first read or when all that is there was read, is not taken for one in which nothing is left."""
     for fails in 1, 2:
         with place() as folder:
-            with serving(folder) as server:
+            with Server(folder) as server:
                 server.settle()
                 server.kill()
             before = contents(folder)
             check(value_files(folder), "a server that was killed left no value file")
-            with serving(folder, env=lacking(folder, LISTING=fails)) as server:
+            with Server(folder, env=lacking(folder, LISTING=fails)) as server:
                 check(server.line == "", f"a server whose listing fails at read {fails} serves")
-                status, said, error = server.stop()
+                said, status, error = server.ended(LASTS)
             check((status, said) == (3, "") and error.endswith("read fault\n"), f"{status}, {said!r}, {error!r}")
             check(contents(folder) == before, f"a listing that fails at read {fails} changed the folder")
 
@@ -531,7 +503,7 @@ def try_no_thread():
     with place() as folder:
         (folder.parent / "objects.pp").write_text(WAITS, encoding="ascii")
         none = folder.parent / "none"
-        with serving(folder, env=lacking(folder, NO_THREAD=none)) as server:
+        with Server(folder, env=lacking(folder, NO_THREAD=none)) as server:
             none.touch()
             with socket.create_connection(("127.0.0.1", server.port), LASTS) as it:
                 it.sendall(b"open buffer\ncall get\n")
@@ -540,7 +512,7 @@ def try_no_thread():
                 with contextlib.suppress(TimeoutError):
                     check(it.recv(64) is None, "a thread was made all the same")
                 it.settimeout(LASTS)
-                status, said, error = server.stop()
+                said, status, error = server.ended(LASTS)
                 heard = b""
                 while piece := it.recv(64):
                     heard += piece

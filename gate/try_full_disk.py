@@ -10,14 +10,10 @@ The program is the one that ./pathserve runs, or FILE. The last line is `try_ful
 is 0 where M is 0 and N is not.
 """
 import contextlib
-import pathlib
 import resource
-import socket
-import subprocess
-import tempfile
 
-from gate.served import free_port
-from gate.tried import Trial, Wrong, check, given_words, loads, program, run
+from gate.kept import Server, Talk
+from gate.tried import Trial, Wrong, check, given_words, loads, new_folder, run
 
 SECONDS = 300
 ROOM = 8_388_608
@@ -45,62 +41,34 @@ end;
 """
 
 
-class Server:
-    """`pathserve keep` on a folder."""
-
-    def __init__(self, folder, *words):
-        self.file, self.folder, self.words = folder / "objects.pp", folder / "kept", words
-        self.file.write_text(SOURCE, encoding="ascii")
-        self.folder.mkdir()
-        self.errors = folder / "errors"
-        self.child = None
-
-    def start(self):
-        self.port = free_port()
-        words = [program(), "keep", self.file, self.folder, str(self.port), "--stop-with-input", *self.words]
-        # Else a file that may not grow would end the server by a signal.
-        self.child = subprocess.Popen(
-            words, stdin=subprocess.PIPE, stdout=subprocess.PIPE, stderr=self.errors.open("ab"), restore_signals=False
-        )
-        check(self.child.stdout.readline().decode(), f"listening {self.port}\n", "the first line")
-
-    def kill(self):
-        if self.child:
-            self.child.kill()
-            self.child.communicate()
-
-    def end(self):
-        self.child.communicate(timeout=SECONDS)
-        check(self.child.returncode, 0, "the status")
-        self.child = None
-
-    def said(self):
-        return self.errors.read_text(encoding="ascii").splitlines()
-
-    def audit(self):
-        words = [program(), "audit", "--no-explain", self.file, self.folder]
-        ran = subprocess.run(words, capture_output=True, timeout=SECONDS, check=False)
-        return ran.stdout.decode().splitlines()
-
-    def files(self, name):
-        """The files of the ended epochs of an object, by their numbers."""
-        return {int(it.name.split(".")[1]): it for it in self.folder.glob(f"{name}.*.trace")}
+def audited(server):
+    """The lines of an audit of its folder."""
+    return server.audit()[0].splitlines()
 
 
-class Client:
+def told(server):
+    """What it said on standard error since it was started."""
+    return server.error().splitlines()
+
+
+def end(server):
+    check(server.end()[1], 0, "the status")
+
+
+def ended(server, name):
+    """The files of the ended epochs of an object, by their numbers."""
+    return {int(it.name.split(".")[1]): it for it in server.folder.glob(f"{name}.*.trace")}
+
+
+class Client(Talk):
+    """A connection that has opened an object, by a name where one is given, and what it was told then."""
+
     def __init__(self, server, name, client=None):
-        self.it = socket.create_connection(("127.0.0.1", server.port), timeout=SECONDS)
-        self.lines = self.it.makefile("rb")
+        super().__init__(server)
         self.opened = self.asks(f"open {name}" + (f" as {client}" if client else ""))
 
-    def send(self, *lines):
-        self.it.sendall("".join(f"{it}\n" for it in lines).encode())
-
-    def hear(self):
-        return self.lines.readline().decode().removesuffix("\n")
-
     def asks(self, line):
-        self.send(line)
+        self.say(line)
         return self.hear()
 
     def call(self, line):
@@ -108,32 +76,23 @@ class Client:
         said = self.asks(f"call {line}")
         return self.hear().split(" ")[0] if said.startswith("accepted") else said
 
-    def calls(self, lines):
+    def counts(self, lines):
         """So often each last line came, and the first that was refused, of calls that are sent ahead."""
         counts = {}
         for at in range(0, len(lines), 200):
             some = lines[at : at + 200]
-            self.send(*(f"call {it}" for it in some))
+            self.say(*(f"call {it}" for it in some))
             for _ in some:
                 said = self.hear()
                 word = self.hear().split(" ")[0] if said.startswith("accepted") else said
                 counts[word] = counts.get(word, 0) + 1
         return counts
 
-    def close(self):
-        self.lines.close()
-        self.it.close()
-
 
 @contextlib.contextmanager
-def served(*words):
-    with tempfile.TemporaryDirectory(prefix="full-disk-") as folder:
-        server = Server(pathlib.Path(folder), *words)
-        try:
-            server.start()
-            yield server
-        finally:
-            server.kill()
+def served():
+    with new_folder("full-disk-") as folder, Server(folder, SOURCE, survives=True) as server:
+        yield server
 
 
 def numbers_are_spent():
@@ -142,27 +101,27 @@ def numbers_are_spent():
         stuck = server.folder / "cell.journal.new"
         stuck.mkdir()
         client, other = Client(server, "cell"), Client(server, "note")
-        check(client.calls(["bump 1"] * 65_536), {"done": 65_536})
+        check(client.counts(["bump 1"] * 65_536), {"done": 65_536})
         check(client.call("bump 1"), FULL)
         check(other.call("put 'a'"), "done", "the other object")
-        told = server.said()
-        check(set(told), {KEPT.format("cell")}, "standard error")
-        if not 5 <= len(told) <= 7:
-            raise Wrong(f"it was tried {len(told)} times")
-        check(server.audit(), ["cell epochs 1 entries 65536 whole", "note epochs 1 entries 1 whole"], "the audit")
-        check(server.files("cell"), {}, "the files of ended epochs")
+        tries = told(server)
+        check(set(tries), {KEPT.format("cell")}, "standard error")
+        if not 5 <= len(tries) <= 7:
+            raise Wrong(f"it was tried {len(tries)} times")
+        check(audited(server), ["cell epochs 1 entries 65536 whole", "note epochs 1 entries 1 whole"], "the audit")
+        check(ended(server, "cell"), {}, "the files of ended epochs")
         stuck.rmdir()
-        counts = client.calls(["bump 1"] * 2_400)
+        counts = client.counts(["bump 1"] * 2_400)
         check(sorted(counts), ["done", FULL], "what was heard")
         if not counts[FULL] <= 1_200:
             raise Wrong(f"{counts[FULL]} calls were refused")
-        check(len(server.said()), len(told), "the lines of standard error")
+        check(len(told(server)), len(tries), "the lines of standard error")
         server.kill()
         server.start()
         check(Client(server, "cell").asks("call get").split(" ")[0], "accepted")
-        check(sorted(server.files("cell")), [1, 2], "the files of ended epochs")
+        check(sorted(ended(server, "cell")), [1, 2], "the files of ended epochs")
         done = 65_536 + counts["done"]
-        check(server.audit()[0], f"cell epochs 3 entries {done + 1} whole", "the audit")
+        check(audited(server)[0], f"cell epochs 3 entries {done + 1} whole", "the audit")
 
 
 def room_is_spent():
@@ -173,12 +132,12 @@ def room_is_spent():
         resource.prlimit(server.child.pid, resource.RLIMIT_FSIZE, (limit, limit))
         known, waiting = Client(server, "note", "ann"), Client(server, "note", "bob")
         check((known.opened, waiting.opened), ("opened note next 1", "opened note next 1"))
-        waiting.send("call #1 come")
+        waiting.say("call #1 come")
         check(waiting.hear(), "accepted 1")
         texts = [f"put '{(chr(97 + at % 26) + APOSTROPHE) * 260}'" for at in range(12_000)]
-        counts = known.calls(texts)
+        counts = known.counts(texts)
         check(sorted(counts), ["done", FULL], "what was heard")
-        more = known.calls(["put ''"] * 100)
+        more = known.counts(["put ''"] * 100)
         check(sorted(more), ["done", FULL], "what was heard")
         names = [Client(server, "note", f"eve{at}").opened for at in range(30)]
         check(names, sorted(names, reverse=True), "what new names hear")
@@ -189,7 +148,7 @@ def room_is_spent():
         if not 0 <= left <= 220:
             raise Wrong(f"{left} bytes were left")
         check((server.folder / "note.journal.new").exists(), False, "whether a part of a new journal is there")
-        check(set(server.said()), {KEPT.format("note")}, "standard error")
+        check(set(told(server)), {KEPT.format("note")}, "standard error")
         # Those that wait have their room.
         waiting.close()
         again = Client(server, "note", "bob")
@@ -199,7 +158,7 @@ def room_is_spent():
         check(again.asks("call #1 come"), "repeat cancelled 1")
         server.kill()
         server.start()
-        check(server.audit()[1], f"note epochs 2 entries {counts['done'] + more['done']} whole", "the audit")
+        check(audited(server)[1], f"note epochs 2 entries {counts['done'] + more['done']} whole", "the audit")
         check(Client(server, "note", "bob").asks("call #1 come"), "repeat cancelled 1")
         check(Client(server, "note", "eve").opened, "opened note next 1", "what a new name hears")
 
@@ -213,44 +172,44 @@ def room_of_those_that_wait():
         for at, it in enumerate(gets):
             check(it.asks("call come"), f"accepted {at + 1}")
         busy = Client(server, "note")
-        counts = busy.calls([f"put '{chr(97 + at % 26) * 1_000}'" for at in range(9_000)])
+        counts = busy.counts([f"put '{chr(97 + at % 26) * 1_000}'" for at in range(9_000)])
         check(sorted(counts), ["done", FULL], "what was heard")
         for it in gets:
             check(busy.call("go"), "done")
             check(it.hear().split(" ")[0], "done", "the last line of one that waited")
         stuck.rmdir()
-        server.end()
-        check(server.audit()[1], f"note epochs 1 entries {counts['done'] + 80} whole", "the audit")
+        end(server)
+        check(audited(server)[1], f"note epochs 1 entries {counts['done'] + 80} whole", "the audit")
 
 
 def ended_epochs_are_kept():
     """Each epoch that has ended has a file of its own, without bytes 0; where they have too many bytes, the oldest go."""
     with served() as server:
         client = Client(server, "cell")
-        check(client.calls(["bump 1"] * 130_000), {"done": 130_000})
+        check(client.counts(["bump 1"] * 130_000), {"done": 130_000})
         server.kill()
         server.start()
-        files = server.files("cell")
+        files = ended(server, "cell")
         check(sorted(files), [1, 2, 3], "the files of ended epochs")
         for it in files.values():
             text = it.read_bytes()
             if b"\0" in text or not text.endswith(b"\n"):
                 raise Wrong(f"{it.name} has more than lines")
-        check(sorted(server.files("note")), [1], "the files of the other object")
-        check(server.audit(), ["cell epochs 4 entries 130000 whole", "note epochs 2 entries 0 whole"], "the audit")
-        server.end()
+        check(sorted(ended(server, "note")), [1], "the files of the other object")
+        check(audited(server), ["cell epochs 4 entries 130000 whole", "note epochs 2 entries 0 whole"], "the audit")
+        end(server)
         left = 130_000 - files[1].read_bytes().count(b"\nend ")
         files[1].unlink()
-        check(server.audit()[0], f"cell epochs 3 entries {left} whole", "the audit without the oldest")
+        check(audited(server)[0], f"cell epochs 3 entries {left} whole", "the audit without the oldest")
         # What stands at the name of the next one is of no use, and a file that is no file cannot be removed.
         (server.folder / "cell.000004.trace").write_text("rubbish", encoding="ascii")
         (server.folder / "note.000002.trace").mkdir()
         server.start()
         check(Client(server, "cell").call("get"), "done")
-        server.end()
+        end(server)
         (server.folder / "note.000002.trace").rmdir()
-        check(server.audit(), [f"cell epochs 4 entries {left + 1} whole", "note epochs 1 entries 0 whole"], "the audit")
-        if not any(it.endswith("an epoch that ends cannot be kept") for it in server.said()):
+        check(audited(server), [f"cell epochs 4 entries {left + 1} whole", "note epochs 1 entries 0 whole"], "the audit")
+        if not any(it.endswith("an epoch that ends cannot be kept") for it in told(server)):
             raise Wrong("standard error was not told")
 
 
@@ -258,15 +217,15 @@ def a_crash_within_a_change_harms_nothing():
     """A second name of the journal, and a new journal that was not finished, are left by a crash: a start takes them away."""
     with served() as server:
         client = Client(server, "cell")
-        check(client.calls(["bump 1"] * 10), {"done": 10})
+        check(client.counts(["bump 1"] * 10), {"done": 10})
         server.kill()
         (server.folder / "cell.000001.trace").hardlink_to(server.folder / "cell.journal")
         (server.folder / "cell.journal.new").write_bytes(b"object cell epoch 2\n")
         server.start()
         check(Client(server, "cell").asks("call get"), "accepted 65547")
-        check(server.audit()[0], "cell epochs 2 entries 11 whole", "the audit")
+        check(audited(server)[0], "cell epochs 2 entries 11 whole", "the audit")
         check((server.folder / "cell.journal.new").exists(), False, "whether a part of a new journal is there")
-        check(server.files("cell")[1].stat().st_nlink, 1, "how many names the ended epoch has")
+        check(ended(server, "cell")[1].stat().st_nlink, 1, "how many names the ended epoch has")
 
 
 TRIALS = (numbers_are_spent, room_is_spent, room_of_those_that_wait, ended_epochs_are_kept, a_crash_within_a_change_harms_nothing)

@@ -376,7 +376,7 @@ def a_file_without_holds_waits_until_nothing_is_held(folder, seconds):
     # (nor is it taken by a FILE of which something else is held, or that has only what is called by the clock)
     for rules in ("", "  hold free until grab;\n", "  every 5 call free;\n"):
         server.file.write_text(SLOTS.replace("  hold grab until free;\n", rules), encoding="ascii")
-        check(server.refused(), ("object slots was changed: start the old FILE once\n", 1), f"another FILE, with {rules!r},")
+        check(server.refused()[:2], ("object slots was changed: start the old FILE once\n", 1), f"another FILE, with {rules!r},")
         check((server.folder / "slots.journal").read_bytes() == journal, True, "that the journal is as it was")
         check(server.audit(), ("slots epoch 2 was changed\n", 1), f"the audit by another FILE, with {rules!r},")
     server.file.write_text(SLOTS, encoding="ascii")
@@ -521,8 +521,8 @@ def clients_die_and_the_server_is_killed(folder, seconds):
     server = started(folder, SLOTS + JOBS, "--away", "1")
     end = time.monotonic() + seconds
     crew = [Worker(server, at, seed + at, end) for at in range(12)]
-    for it in crew:
-        it.start()
+    for one in crew:
+        one.start()
     chance, given, kills, next_kill = random.Random(seed), [], 0, time.monotonic() + 2
     while time.monotonic() < end:
         with contextlib.suppress(OSError, IndexError):
@@ -537,10 +537,10 @@ def clients_die_and_the_server_is_killed(folder, seconds):
             kills += 1
             server.start()
             next_kill = time.monotonic() + 1 + chance.random()
-    for it in crew:
-        it.join()
-    wrong = [it.wrong for it in crew if it.wrong]
-    holds(not wrong, f"seed {seed}: {wrong}")
+    for one in crew:
+        one.join()
+    faults = [it.wrong for it in crew if it.wrong]
+    holds(not faults, f"seed {seed}: {faults}")
     until(lambda: number(server, "slots", "inside") == 0, f"seed {seed}: slots are lost", 10)
     holds(number(server, "slots", "greatest") <= 3, f"seed {seed}: too many inside")
     # (the jobs of names are there again now)

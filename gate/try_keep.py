@@ -13,8 +13,8 @@ import shutil
 import socket
 import subprocess
 
-from gate.served import free_port
-from gate.tried import TOP, Trial, Wrong, check, given_words, in_folder, loads, program, run, title_of
+from gate.served import Server, free_port
+from gate.tried import TOP, Trial, check, given_words, in_folder, loads, program, run, title_of
 
 SECONDS = 60
 BUFFER = """object buffer;
@@ -55,30 +55,19 @@ class Place:
         self.folder.mkdir()
 
     @contextlib.contextmanager
-    def served(self, command, *words, start=None, ends=(0, "")):
+    def served(self, command, *words, start=(), ends=(0, "")):
         """A server that is stopped by the end of its input: what says lines to it. It ends with this status and these words on
         standard error; `said` is then what it wrote behind `listening`."""
-        port = self.port = free_port()
-        start = start or [program()]
-        words = [*start, command, self.file, self.folder, str(port), *words]
-        pipe = subprocess.PIPE
-        with subprocess.Popen([*words, "--stop-with-input"], stdin=pipe, stdout=pipe, stderr=pipe, text=True) as child:
-            try:
-                line = child.stdout.readline()
-                if line != f"listening {port}\n":
-                    raise Wrong(f"it said {line + child.stdout.read() + child.stderr.read()!r}")
-                self.child = child
-                yield lambda *lines, quits=True: says(port, lines, quits)
-                self.said, error = child.communicate(timeout=SECONDS)
-                check((child.returncode, error), ends, "the end")
-            finally:
-                child.kill()
+        with Server(command, self.file, self.folder, *words, "--stop-with-input", by=start) as self.server:
+            yield lambda *lines, quits=True: says(self.server, lines, quits)
+            self.said, status, error = self.server.ended(SECONDS)
+            check((status, error), ends, "the end")
 
-    def refused(self, *words, command="keep"):
+    def refused(self, *more, command="keep"):
         """What a start says that comes to nothing: standard output, standard error, the status."""
-        words = [program(), command, self.file, self.folder, str(free_port()), "--stop-with-input", "--no-explain", *words]
-        ran = subprocess.run(words, stdin=subprocess.DEVNULL, capture_output=True, text=True, timeout=SECONDS, check=False)
-        return ran.stdout, ran.stderr, ran.returncode
+        words = ["--stop-with-input", "--no-explain", *more]
+        said, status, error = Server(command, self.file, self.folder, *words).refused(SECONDS)
+        return said, error, status
 
     def filled(self, *items):
         """The buffer as `serve` saves it, with these items."""
@@ -89,9 +78,9 @@ class Place:
         return {it.name: it.read_bytes() for it in self.folder.glob("*.part")}
 
 
-def says(port, lines, quits=True):
+def says(server, lines, quits=True):
     """What a client hears that says these lines. It quits, or leaves where it hears nothing more."""
-    with socket.create_connection(("127.0.0.1", port), timeout=SECONDS if quits else 1) as it:
+    with server.connect(SECONDS if quits else 1) as it:
         it.sendall("".join(f"{line}\n" for line in (*lines, *["quit"] * quits)).encode())
         heard = b""
         with contextlib.suppress(TimeoutError):
@@ -100,9 +89,9 @@ def says(port, lines, quits=True):
         return heard.decode().splitlines()
 
 
-def says_cut(port, *lines):
+def says_cut(server, *lines):
     """What a client hears that says these lines, and ends behind the last one without an LF."""
-    with socket.create_connection(("127.0.0.1", port), timeout=SECONDS) as it:
+    with server.connect(SECONDS) as it:
         it.sendall("\n".join(lines).encode())
         it.shutdown(socket.SHUT_WR)
         heard = b""
@@ -289,7 +278,7 @@ def the_limit_of_open_files_is_raised(place):
         start = ["bash", "-c", 'ulimit -S -n 100; exec bash "$@"', "bash", here]
         with place.served(command, start=start) as say:
             say("open cell")
-            limits = pathlib.Path(f"/proc/{place.child.pid}/limits").read_text(encoding="ascii")
+            limits = pathlib.Path(f"/proc/{place.server.child.pid}/limits").read_text(encoding="ascii")
             found[command] = re.search(r"Max open files +(\d+)", limits)[1]
         place.folder = place.folder.with_name("more")
         place.folder.mkdir(exist_ok=True)
@@ -356,7 +345,7 @@ def lines_that_ask_for_nothing_are_bad(place):
         lines = ("why", "why x", "why 1 2", "why 'a'", f"why {2**64}", "who x", "who 1 2", f"who {2**64}", "list 1", "WHO", f"why {most}", f"who {most}")
         check(say("open cell", *lines)[1:-1], ["no BadLine"] * 10 + [f"why {most} Unknown", "who 0"], "what is answered")
         for line, answer in (("why 1", "no BadLine"), ("who", "no BadLine"), ("list", "no BadLine")):
-            check(says_cut(place.port, "open cell", line), ["opened cell", answer], f"{line} without its LF")
+            check(says_cut(place.server, "open cell", line), ["opened cell", answer], f"{line} without its LF")
 
 
 def a_page_has_256_sessions(place):
@@ -364,11 +353,11 @@ def a_page_has_256_sessions(place):
     place.file.write_text(CELL, encoding="ascii")
     with place.served("keep", "--sync", "1000") as say, contextlib.ExitStack() as stack:
         for _ in range(300):
-            it = stack.enter_context(socket.create_connection(("127.0.0.1", place.port), timeout=SECONDS))
+            it = stack.enter_context(place.server.connect(SECONDS))
             it.sendall(b"open cell\ncall get\n")
-            heard = b""
-            while heard.count(b"\n") < 3:
-                heard += it.recv(4096)
+            came = b""
+            while came.count(b"\n") < 3:
+                came += it.recv(4096)
         for first, count in (("", 256), (" 0", 256), (" 257", 44), (" 300", 1), (" 301", 0)):
             heard = say("open cell", f"who{first}")[1:-1]
             numbers = [int(it.split()[1][1:]) for it in heard[1:]]

@@ -66,6 +66,13 @@ def many_connections_in_a_row(folder, big):
     server.end()
 
 
+class Heard:
+    """What was heard on a connection."""
+
+    def __init__(self, it: socket.socket) -> None:
+        self.socket, self.text = it, b""
+
+
 class Many:
     """Connections that are made at once, and one call of each."""
 
@@ -76,20 +83,21 @@ class Many:
             it.setblocking(False)
             it.send(b"open counter\ncall pick\n" if at % 2 else b"open echo\ncall say 'x'\n")
             self.all.append(it)
-            self.selector.register(it, selectors.EVENT_READ, [b"", at])
+            self.selector.register(it, selectors.EVENT_READ, Heard(it))
 
     def hear(self, seconds):
         """Hears their answers; how many were answered."""
         end = time.monotonic() + seconds
         while self.done < len(self.all) and time.monotonic() < end:
             for key, _ in self.selector.select(0.1):
-                piece = key.fileobj.recv(4096)
+                it: Heard = key.data
+                piece = it.socket.recv(4096)
                 holds(piece, "a connection was closed")
-                key.data[0] += piece
-                if key.data[0].count(b"\n") == 3:
-                    holds(key.data[0].startswith(b"opened") and b"\ndone " in key.data[0], f"{key.data[0]!r}")
+                it.text += piece
+                if it.text.count(b"\n") == 3:
+                    holds(it.text.startswith(b"opened") and b"\ndone " in it.text, f"{it.text!r}")
                     self.done += 1
-                    self.selector.unregister(key.fileobj)
+                    self.selector.unregister(it.socket)
         return self.done
 
     def close(self):
@@ -296,7 +304,7 @@ def one_sends_without_an_end(folder, big):
     server.end()
 
 
-def deaf_clients(server, count, lines, opening=b"open echo\n"):
+def deaf_clients(server, count, lines, opening):
     """Clients that never read, and send on until nothing is taken any more."""
     made = []
     for _ in range(count):
@@ -313,6 +321,23 @@ def deaf_clients(server, count, lines, opening=b"open echo\n"):
     return [row[0] for row in made]
 
 
+def none_grows(server, count, who, text, opening):
+    """Clients of which no more is read take little memory each, and others are served meanwhile. It gives how much
+    memory the server had before them, once they have gone."""
+    server.start()
+    polite(server)
+    before = server.memory()
+    clients = deaf_clients(server, count, text, opening)
+    each = (server.memory("VmHWM") - before) / count
+    print(f"{count} {who}: {each:.0f} KiB each at most")
+    holds(each < OWED + HELD + 24, f"of {count} {who} each takes {each:.0f} KiB")
+    holds(polite(server) < SLOW, "others wait")
+    for it in clients:
+        it.close()
+    until(lambda: server.descriptors() < 30, "connections are left")
+    return before
+
+
 def clients_that_never_read(folder, big):
     """Clients that are owed ever more and send on: no more is read of them, memory is bounded, and others are
     served."""
@@ -320,17 +345,7 @@ def clients_that_never_read(folder, big):
     count = 200 if big else 60
     raised(count + 300)
     server = Server(folder, SOURCE, "--sync", "1000", "--at-once", str(count + 10), at_path=True)
-    server.start()
-    polite(server)
-    before = server.memory()
-    deaf = deaf_clients(server, count, b"d\n" * 8192, b"")
-    each = (server.memory("VmHWM") - before) / count
-    print(f"{count} that never read: {each:.0f} KiB each at most")
-    holds(each < OWED + HELD + 24, f"a client that never reads takes {each:.0f} KiB")
-    holds(polite(server) < SLOW, "others wait")
-    for it in deaf:
-        it.close()
-    until(lambda: server.descriptors() < 30, "connections are left")
+    before = none_grows(server, count, "that never read", b"d\n" * 8192, b"")
     holds((server.memory() - before) / count < 24, f"{(server.memory() - before) / count:.0f} KiB of each are left")
     polite(server)
     server.end()
@@ -341,17 +356,7 @@ def clients_whose_lines_are_held(folder, big):
     count = 1_000 if big else 300
     raised(count + 300)
     server = Server(folder, SOURCE, "--sync", "1000", "--at-once", str(count + 10), at_path=True)
-    server.start()
-    polite(server)
-    before = server.memory()
-    held = deaf_clients(server, count, f"call put '{LONG}'\n".encode() * 64, b"open buffer\ncall get\n")
-    each = (server.memory("VmHWM") - before) / count
-    print(f"{count} whose lines are held: {each:.0f} KiB each at most")
-    holds(each < OWED + HELD + 24, f"a client whose lines are held takes {each:.0f} KiB")
-    holds(polite(server) < SLOW, "others wait")
-    for it in held:
-        it.close()
-    until(lambda: server.descriptors() < 30, "connections are left")
+    none_grows(server, count, "whose lines are held", f"call put '{LONG}'\n".encode() * 64, b"open buffer\ncall get\n")
     server.end()
 
 

@@ -24,11 +24,13 @@ import sys
 import threading
 import time
 
-from clients.python.pathclient import CallError, Cancelled, Expired, Failed, Lost, NoServer, Object, Pool, Refused, Rejected, aio, stubs
+from clients.python.pathclient import (
+    CallError, Cancelled, Expired, Failed, Lost, NoServer, Object, Pool, Refused, Rejected, Reply, aio, stubs,
+)
 from gate import closing
 from gate.cutter import Cutter
-from gate.served import free_port
-from gate.tried import TOP, Trial, given_words, in_folder, lacks, loads, program, run
+from gate.served import Server, free_port
+from gate.tried import TOP, Trial, given_words, in_folder, lacks, loads, run
 
 OBJECTS = TOP / "examples" / "objects"
 # How long anything may take, in seconds.
@@ -47,31 +49,20 @@ def raised(kind, word, function, *arguments, **options):
     except (CallError, ValueError) as error:
         # (a Refused is of the kind of its word)
         found = Refused if isinstance(error, Refused) else type(error)
-        if found is not kind or (word is not None and error.word != word):
+        if found is not kind or (word is not None and getattr(error, "word", None) != word):
             raise AssertionError(f"{type(error).__name__}({error}), not {kind.__name__}({word})") from error
         return
     raise AssertionError(f"replied {found!r}, where {kind.__name__}({word}) was to come")
 
 
-class Server:
+def server_of(objects, sessions, folder, port=None):
     """A server of an example, or of a source, for so many connections."""
+    return Server("serve", objects, folder, "--sessions", sessions, place=port)
 
-    def __init__(self, objects, sessions, folder, port=None):
-        self.port = port or free_port()
-        words = [program(), "serve", objects, folder, str(self.port), "--sessions", str(sessions)]
-        self.ran = subprocess.Popen(words, stdout=subprocess.PIPE, stderr=subprocess.DEVNULL, text=True)
-        check(self.ran.stdout.readline(), f"listening {self.port}\n")
 
-    def __enter__(self):
-        return self
-
-    def __exit__(self, *_):
-        self.ran.kill()
-        self.ran.communicate()
-
-    def said(self):
-        """What it says when it ends, as it has to now."""
-        return self.ran.communicate(timeout=SECONDS)[0]
+def ends(server, said):
+    """A server ends, as it has to now, and says this."""
+    check(server.ended(SECONDS).said, said)
 
 
 class Listener(threading.Thread):
@@ -119,7 +110,7 @@ end;
 
 
 def calls(folder):
-    with Server(OBJECTS / "phone_book.pp", 1, folder) as server:
+    with server_of(OBJECTS / "phone_book.pp", 1, folder) as server:
         with Object(server.port, "phone_book") as book:
             check(book.enter("ada", "12 34"), None)
             check(book.number_of("ada"), "12 34")
@@ -135,11 +126,11 @@ def calls(folder):
             check(book.NUMBER_OF("ada"), "12 34")
             check(book.call("remove", "ada"), None)
             check(book.size(), 3)
-        check(server.said(), "phone_book entries 14\n")
+        ends(server, "phone_book entries 14\n")
 
 
 def integers(folder):
-    with Server(OBJECTS / "cell.pp", 1, folder) as server:
+    with server_of(OBJECTS / "cell.pp", 1, folder) as server:
         with Object(server.port, "CELL") as cell:
             check(cell.put(4294967295), None)
             check(cell.get(), 4294967295)
@@ -150,7 +141,7 @@ def integers(folder):
 
 def not_taken(folder):
     """What the server does not take, and what is no argument: the session goes on."""
-    with Server(OBJECTS / "cell.pp", 2, folder) as server:
+    with server_of(OBJECTS / "cell.pp", 2, folder) as server:
         with Object(server.port, "cell") as cell:
             raised(Rejected, "UnknownOp", cell.pop)
             raised(Rejected, "BadArgs", cell.put)
@@ -162,12 +153,12 @@ def not_taken(folder):
                 raised(ValueError, None, cell.call, it)
             check(cell.get(), 0)
         raised(Rejected, "NoObject", Object, server.port, "buffer")
-        check(server.said(), "cell entries 1\n")
+        ends(server, "cell entries 1\n")
 
 
 def waits(folder):
     """A call that waits for another session, and one that is cancelled where it waits too long."""
-    with Server(OBJECTS / "bounded_buffer.pp", 2, folder) as server:
+    with server_of(OBJECTS / "bounded_buffer.pp", 2, folder) as server:
         with Object(server.port, "bounded_buffer") as consumer, Object(server.port, "bounded_buffer") as producer:
             began = time.monotonic()
             raised(Cancelled, "", consumer.get, within=0.3)
@@ -183,12 +174,12 @@ def waits(folder):
             check(got, ["bread"])
             producer.put("milk")
             check(consumer.get(within=10), "milk")
-        check(server.said(), "bounded_buffer entries 4\n")
+        ends(server, "bounded_buffer entries 4\n")
 
 
 def shared(folder):
     """Threads that share a session: each has its own replies."""
-    with Server(OBJECTS / "phone_book.pp", 1, folder) as server:
+    with server_of(OBJECTS / "phone_book.pp", 1, folder) as server:
         with Object(server.port, "phone_book") as book:
             wrong = []
 
@@ -209,20 +200,20 @@ def shared(folder):
 
 def killed(folder):
     """A server that is killed while a call waits, and another one that takes its place."""
-    with Server(OBJECTS / "bounded_buffer.pp", 1, folder) as server:
+    with server_of(OBJECTS / "bounded_buffer.pp", 1, folder) as server:
         buffer = Object(server.port, "bounded_buffer", wait=0.5)
-        threading.Timer(0.3, server.ran.kill).start()
+        threading.Timer(0.3, server.child.kill).start()
         raised(Lost, None, buffer.get)
     raised(NoServer, None, buffer.get)
-    with Server(OBJECTS / "bounded_buffer.pp", 1, folder, server.port) as server:
+    with server_of(OBJECTS / "bounded_buffer.pp", 1, folder, server.port) as server:
         check(buffer.waiting(), 0)
         buffer.close()
-        check(server.said(), "bounded_buffer entries 1\n")
+        ends(server, "bounded_buffer entries 1\n")
 
 
 def no_server(folder):
     raised(NoServer, None, Object, free_port(), "cell", wait=0)
-    with Server(OBJECTS / "cell.pp", 1, folder) as server:
+    with server_of(OBJECTS / "cell.pp", 1, folder) as server:
         with Object(server.port, "cell") as cell:
             # It has taken all its connections, and leaves this one without an answer.
             raised(NoServer, None, Object, server.port, "cell", wait=0.3)
@@ -256,7 +247,7 @@ def after_lost(_):
 
 def by_name(folder):
     """A session with a name goes on where the one before it ended; nobody else has its keys."""
-    with Server(OBJECTS / "cell.pp", 4, folder) as server:
+    with server_of(OBJECTS / "cell.pp", 4, folder) as server:
         for turn in (1, 2, 3):
             with Object(server.port, "cell", client="ann" if turn < 3 else "ANN") as cell:
                 check(cell.bump(5), None)
@@ -266,22 +257,22 @@ def by_name(folder):
                 check(cell.get(), 5 * turn)
         with Object(server.port, "cell", client="bob") as cell:
             check(cell.get(), 15)
-        check(server.said(), "cell entries 13\n")
+        ends(server, "cell entries 13\n")
 
 
 def one_name_twice(folder):
     """A name is in use until its session has ended."""
-    with Server(OBJECTS / "cell.pp", 3, folder) as server:
+    with server_of(OBJECTS / "cell.pp", 3, folder) as server:
         cell = Object(server.port, "cell", client="ann")
         raised(Rejected, "InUse", Object, server.port, "cell", client="ann", wait=0.2)
         threading.Timer(0.3, cell.close).start()
         with Object(server.port, "cell", client="ann") as again:
             check(again.get(), 0)
-        check(server.said(), "cell entries 1\n")
+        ends(server, "cell entries 1\n")
 
 
 def names_that_are_none(folder):
-    with Server(OBJECTS / "cell.pp", 2, folder) as server:
+    with server_of(OBJECTS / "cell.pp", 2, folder) as server:
         for it in ("", "9", "a b", "a" * 65, "ann\nquit"):
             raised(ValueError, None, Object, server.port, "cell", client=it)
         raised(Rejected, "BadLine", Object, server.port, "cell", client="end")
@@ -294,7 +285,7 @@ def cut_at_each_byte(way, size, resets):
 
     def attempt(folder):
         (folder / "meter.pp").write_text(METER)
-        with Server(folder / "meter.pp", size + 3, folder) as server:
+        with server_of(folder / "meter.pp", size + 3, folder) as server:
             cutter = Cutter(server.port)
             with Object(cutter.port, "meter", client="ann") as meter:
                 check(meter.add(5), 5)
@@ -306,7 +297,7 @@ def cut_at_each_byte(way, size, resets):
             last.close()
             for _ in range(size + 3 - cutter.connections - 1):
                 socket.create_connection(("127.0.0.1", server.port)).close()
-            check(server.said(), f"meter entries {size + 2}\n")
+            ends(server, f"meter entries {size + 2}\n")
 
     return attempt
 
@@ -398,10 +389,10 @@ def behind_another(_):
 
 def told_of_which(folder):
     """What is raised says of which call."""
-    with Server(OBJECTS / "cell.pp", 1, folder) as server, Object(server.port, "cell") as cell:
-        for error, call in (("BadArgs: put 'it''s' 2", lambda: cell.put("it's", 2)), ("UnknownOp: pop", cell.pop)):
+    with server_of(OBJECTS / "cell.pp", 1, folder) as server, Object(server.port, "cell") as cell:
+        for error, operation, arguments in (("BadArgs: put 'it''s' 2", "put", ("it's", 2)), ("UnknownOp: pop", "pop", ())):
             try:
-                call()
+                getattr(cell, operation)(*arguments)
             except Rejected as found:
                 check(str(found), error)
                 continue
@@ -435,18 +426,18 @@ def by_word(_):
 
 def sent_ahead(folder):
     """Calls that are sent ahead: what came of each stands in its place."""
-    with Server(OBJECTS / "cell.pp", 2, folder) as server:
+    with server_of(OBJECTS / "cell.pp", 2, folder) as server:
         for client in (None, "ann"):
             with Object(server.port, "cell", client=client) as cell:
                 came = cell.ahead(("put", 4), ("pop",), ("bump", 4294967295), ("get",), *[("bump", 1)] * 40, ("get",))
                 check([type(it) is Refused["range"] or it if not isinstance(it, Rejected) else it.word for it in came],
                       [None, "UnknownOp", True, 4, *[None] * 40, 44])
-        check(server.said(), "cell entries 88\n")
+        ends(server, "cell entries 88\n")
 
 
 def late_ahead(folder):
     """Calls that are sent ahead, and wait too long: each is cancelled."""
-    with Server(OBJECTS / "bounded_buffer.pp", 1, folder) as server, Object(server.port, "bounded_buffer", client="ann") as buffer:
+    with server_of(OBJECTS / "bounded_buffer.pp", 1, folder) as server, Object(server.port, "bounded_buffer", client="ann") as buffer:
         came = buffer.ahead(("put", "a"), ("get",), ("get",), ("put", "b"), within=0.5)
         check([type(it) if isinstance(it, CallError) else it for it in came][:3], [None, "a", Cancelled])
         check(buffer.waiting(), 1 if came[3] is None else 0)
@@ -454,7 +445,7 @@ def late_ahead(folder):
 
 def again_by_key(folder):
     """A program that was killed asks for its call by the key that it has written down."""
-    with Server(OBJECTS / "cell.pp", 3, folder) as server:
+    with server_of(OBJECTS / "cell.pp", 3, folder) as server:
         with Object(server.port, "cell", client="ann") as cell:
             check(cell.key, 1)
             check(cell.put(7), None)
@@ -485,23 +476,13 @@ end;
 """
 
 
-class Kept:
+class Kept(Server):
     """A server by `keep` of a lot, or of a source, at one port, that is killed and started again."""
 
     def __init__(self, folder, source=LOT, *words):
-        self.port = free_port()
         (folder / "lot.pp").write_text(source)
         (folder / "kept").mkdir()
-        self.words = [program(), "keep", folder / "lot.pp", folder / "kept", str(self.port), "--stop-with-input", *words]
-        self.start()
-
-    def start(self):
-        self.ran = subprocess.Popen(self.words, stdin=subprocess.PIPE, stdout=subprocess.PIPE, stderr=subprocess.DEVNULL, text=True)
-        check(self.ran.stdout.readline(), f"listening {self.port}\n")
-
-    def kill(self):
-        self.ran.kill()
-        self.ran.communicate()
+        super().__init__("keep", folder / "lot.pp", folder / "kept", "--stop-with-input", *words, place=free_port())
 
     def kill_for(self, seconds):
         """Kills it, and starts it again after so many seconds."""
@@ -512,12 +493,6 @@ class Kept:
         """How many are held, and were at most."""
         with Object(self.port, "lot", wait=SECONDS) as it:
             return it.held(), it.most()
-
-    def __enter__(self):
-        return self
-
-    def __exit__(self, *_):
-        self.kill()
 
 
 NAMES = (None, "ann")
@@ -591,11 +566,12 @@ def not_as_it_was(kind):
     first = [opened(5), ("call #5 get\n", b"accepted 9\ndone 9 1\n")]
 
     def attempt(_):
-        for back, keys, wanted in (([opened(6)], (6,), [1, 2]), ([opened(7), NEVER], (7,), [1, Expired, 2]), ([opened(20), NEVER], (30,), [1, Expired, 2]),
-                                   ([opened(1)], (1,), [1, 2])):
-            calls = (f"call #{keys[0]} get\n", b"accepted 10\ndone 10 2\n")
-            ends = [[*back, calls]] if len(wanted) == 2 else [back, [opened(keys[0]), calls]]
-            check(got_by(kind, Listener(first, *ends).port, [None] * len(wanted)), wanted)
+        for key, back in ((6, [opened(6)]), (7, [opened(7), NEVER]), (30, [opened(20), NEVER]), (1, [opened(1)])):
+            calls = (f"call #{key} get\n", b"accepted 10\ndone 10 2\n")
+            if NEVER in back:
+                check(got_by(kind, Listener(first, back, [opened(key), calls]).port, [None] * 3), [1, Expired, 2])
+            else:
+                check(got_by(kind, Listener(first, [*back, calls]).port, [None] * 2), [1, 2])
         # (one call was lost before: a key more is its own. Tasks ask for it by themselves)
         lost = [*first, ("call #6 get\n", b"")]
         for key, wanted in ((6, [1, Lost, 2]), (7, [1, Lost, 2]), (8, [1, Lost, Expired, 2])) if kind == "threads" else ():
@@ -609,7 +585,8 @@ def not_as_it_was(kind):
 def got_by(kind, port, withins):
     """What calls with these times come to, by threads or by tasks, each a while behind the one before; what is raised by its kind."""
     if kind == "threads":
-        cell, came = Object(port, "cell", client="ann"), []
+        came: list[Reply | type[CallError]] = []
+        cell = Object(port, "cell", client="ann")
         for within in withins:
             try:
                 came.append(cell.call("get", within=within))
@@ -619,7 +596,8 @@ def got_by(kind, port, withins):
         return came
 
     async def work():
-        cell, came = aio.connect(port, "cell", client="ann"), []
+        came: list[Reply | type[CallError]] = []
+        cell = aio.connect(port, "cell", client="ann")
         await cell.open()
         for within in withins:
             try:
@@ -820,14 +798,14 @@ def late_cancel(folder):
 
             async def hold():
                 async with lot.holding("enter", "leave"):
-                    server.ran.send_signal(signal.SIGSTOP)
+                    server.child.send_signal(signal.SIGSTOP)
 
             task = asyncio.create_task(hold())
             await asyncio.sleep(0.3)
             task.cancel()
             await asyncio.sleep(2.4)
             is_done = task.done()
-            server.ran.send_signal(signal.SIGCONT)
+            server.child.send_signal(signal.SIGCONT)
             await asyncio.wait({task})
             check((is_done, task.cancelled(), await lot.held()), (False, True, 0))
 
@@ -932,7 +910,7 @@ def holds_in_tasks(folder):
 
 def pool(folder):
     """Calls of threads overlap over a pool; what waits for a session in vain is cancelled; a closed pool ends calls."""
-    with Server(OBJECTS / "bounded_buffer.pp", 8, folder) as server, Pool(server.port, "bounded_buffer", 3) as buffers:
+    with server_of(OBJECTS / "bounded_buffer.pp", 8, folder) as server, Pool(server.port, "bounded_buffer", 3) as buffers:
         got = []
         threads = [threading.Thread(target=lambda: got.append(buffers.get())) for _ in range(2)]
         for it in threads:
@@ -994,7 +972,7 @@ def tasks(folder):
         else:
             raise AssertionError("a call replied that was closed")
 
-    with Server(OBJECTS / "bounded_buffer.pp", 2, folder) as server:
+    with server_of(OBJECTS / "bounded_buffer.pp", 2, folder) as server:
         asyncio.run(work(server.port))
 
 
@@ -1010,7 +988,7 @@ def written_stubs(folder):
             compile(stubs.stubs(source.read_text(encoding="ascii"), is_aio, source.name), source.name, "exec")
     made = {}
     exec(placed(stubs.stubs((OBJECTS / "phone_book.pp").read_text(encoding="ascii"), False, "phone_book.pp")), made)
-    with Server(OBJECTS / "phone_book.pp", 1, folder) as server, made["PhoneBook"](server.port, client="ann") as book:
+    with server_of(OBJECTS / "phone_book.pp", 1, folder) as server, made["PhoneBook"](server.port, client="ann") as book:
         check(book.enter("ada", "5", within=9), None)
         check((book.number_of(name="ada"), book.size()), ("5", 1))
     for name, wanted in (("build_slots", ["take_slot", "begin_release"]), ("print_spooler", ["fetch"]), ("bounded_buffer", []),
@@ -1024,16 +1002,16 @@ def written_stubs(folder):
         with printer.holding_fetch() as job:
             check((job, printer.printing()), ("a page", 1))
         check(printer.printing(), 0)
-    for path, wanted in (("a; b", 1), ("3:(a; b), c", 1), ("a; b; b", 0), ("b; a; b", 0), ("c, a; b", 0), ("(a, b); b", 2), ("a; c", 0),
+    for path, count in (("a; b", 1), ("3:(a; b), c", 1), ("a; b; b", 0), ("b; a; b", 0), ("c, a; b", 0), ("(a, b); b", 2), ("a; c", 0),
                          ("2:(1:(a); 1:(b))", 0), ("a; d", 0), ("[a; b]", 1)):
-        source = f"object o; path {path} end; entry procedure a; begin end; entry procedure b; begin end; "
-        source += "entry function c : text; begin end; entry procedure d(x : integer); begin end; end;"
-        check((path, stubs.stubs(source, False, "o").count("def holding_")), (path, wanted))
+        text = f"object o; path {path} end; entry procedure a; begin end; entry procedure b; begin end; "
+        text += "entry function c : text; begin end; entry procedure d(x : integer); begin end; end;"
+        check((path, stubs.stubs(text, False, "o").count("def holding_")), (path, count))
     for rules, wanted in (("hold a until b;", ["a"]), ("hold a until d, b by any;", ["a"]), ("HOLD A UNTIL B; every 5 call e;", ["a"]), ("hold a until d;", []),
                           ("hold a until b, e;", []), ("hold e until b;", ["e"]), ("every 5 call a;", ["a"])):
-        source = "object o; path a; b end; entry procedure a; begin end; entry procedure b; begin end; entry procedure e; begin end; "
-        source += f"entry procedure d(x : integer); begin end; {rules} end;"
-        check((rules, re.findall(r"def holding_(\w+)", stubs.stubs(source, False, "o"))), (rules, wanted))
+        text = "object o; path a; b end; entry procedure a; begin end; entry procedure b; begin end; entry procedure e; begin end; "
+        text += f"entry procedure d(x : integer); begin end; {rules} end;"
+        check((rules, re.findall(r"def holding_(\w+)", stubs.stubs(text, False, "o"))), (rules, wanted))
 
 
 def judged(folder):
@@ -1095,7 +1073,7 @@ def resuming(answers, status, output, error="", calls=("put 7", "get")):
 def cut_resuming(folder):
     """The client that resumes, over a connection that breaks at each byte of its calls and of their answers."""
     (folder / "meter.pp").write_text(METER)
-    with Server(folder / "meter.pp", 64, folder) as server:
+    with server_of(folder / "meter.pp", 64, folder) as server:
         cutter = Cutter(server.port)
         # One call first, so that its keys are above 1.
         with Object(server.port, "meter", client="ann") as meter:
@@ -1131,7 +1109,7 @@ def guide(folder):
     source = [it for kind, it in blocks[:place] if kind == "objects"][-1]
     code, wanted = blocks[place][1], blocks[place + 1][1]
     (folder / "counter.pp").write_text(source)
-    with Server(folder / "counter.pp", 1, folder) as server:
+    with server_of(folder / "counter.pp", 1, folder) as server:
         check(code.count("7000"), 1)
         told = io.StringIO()
         with contextlib.redirect_stdout(told):

@@ -10,58 +10,38 @@ The last line is `try_socket: N passed, M failed`; the exit status is 0 where M 
 import contextlib
 import os
 import pwd
-import signal
 import socket
 import stat
 import subprocess
 import sys
 
 from clients.python.pathclient import NoServer, Object
-from gate.tried import TOP, Trial, Wrong, check, given_words, in_folder, loads, program, run
+from gate.served import Server
+from gate.tried import TOP, Trial, Wrong, check, given_words, in_folder, loads, run
 
 CELL = TOP / "examples" / "objects" / "cell.pp"
 SECONDS = 20
 
 
-class Server:
+def server(top, path="it.sock", sessions=4, folder="data"):
     """A server of a cell at a path, for so many connections, over a folder of its own."""
-
-    def __init__(self, top, path="it.sock", sessions=4, folder="data", first=None):
-        self.path, self.folder = top / path, top / folder
-        self.folder.mkdir(exist_ok=True)
-        words = [program(), "serve", CELL, self.folder, self.path, "--sessions", str(sessions), "--stop-with-input"]
-        pipe = subprocess.PIPE
-        self.ran = subprocess.Popen(words, stdin=pipe, stdout=pipe, stderr=pipe, text=True)
-        check(self.ran.stdout.readline(), f"listening {self.path}\n" if first is None else first, "the first line")
-
-    def __enter__(self):
-        return self
-
-    def __exit__(self, *_):
-        self.ran.kill()
-        self.ran.communicate()
-
-    def ended(self, status=0):
-        """Ends it: what it said on standard output and standard error."""
-        said = self.ran.communicate(timeout=SECONDS)
-        check(self.ran.returncode, status, "the status")
-        return said
-
-    def killed(self):
-        self.ran.send_signal(signal.SIGKILL)
-        self.ran.wait(SECONDS)
+    (top / folder).mkdir(exist_ok=True)
+    return Server("serve", CELL, top / folder, "--sessions", sessions, "--stop-with-input", place=top / path)
 
 
-def said(path, *lines):
-    """What a client hears that says these lines."""
-    with socket.socket(socket.AF_UNIX) as it:
-        it.settimeout(SECONDS)
-        it.connect(str(path))
-        it.sendall("".join(f"{line}\n" for line in lines).encode())
-        heard = b""
-        while piece := it.recv(4096):
-            heard += piece
-    return heard.decode().splitlines()
+def mode(top):
+    return oct(stat.S_IMODE((top / "it.sock").stat().st_mode))
+
+
+def ends(it, said=None):
+    """It ends with status 0, and says this alone, where it is known."""
+    found = it.ended(SECONDS)
+    check(found, (found.said, 0, found.error) if said is None else (said, 0, ""), "the end")
+
+
+def is_refused(it, why):
+    """It does not start, since nobody can listen there."""
+    check(it.refused(SECONDS), ("", 3, f"{it.place}: nobody can listen at this path{why}\nread fault\n"), "a start")
 
 
 def names(top):
@@ -70,24 +50,24 @@ def names(top):
 
 def serves(top):
     """It is there for its owner and its group alone, serves as a port does, and is gone at the end."""
-    with Server(top) as it:
-        check(oct(stat.S_IMODE(it.path.stat().st_mode)), "0o660", "the mode")
+    with server(top) as it:
+        check(mode(top), "0o660", "the mode")
         check(names(top), ["it.sock", "it.sock.lock"], "what is there")
-        check(said(it.path, "open cell as ann", "call #1 put 7", "call #2 get", "quit"),
+        check(it.says("open cell as ann", "call #1 put 7", "call #2 get"),
               ["opened cell next 1", "accepted 1", "done 1", "accepted 2", "done 2 7", "bye"], "what was heard")
-        check(it.ended(), ("cell entries 2\n", ""), "what it said")
+        ends(it, "cell entries 2\n")
         check(names(top), ["it.sock.lock"], "what is there")
 
 
 def last_connection(top):
     """It ends when so many connections have ended, and who comes behind them is let go at once."""
-    with Server(top, sessions=2) as it, contextlib.ExitStack() as stack:
+    with server(top, sessions=2) as it, contextlib.ExitStack() as stack:
         ones = [stack.enter_context(socket.socket(socket.AF_UNIX)) for _ in range(5)]
         heard = []
         for one in ones:
             one.settimeout(SECONDS)
             try:
-                one.connect(str(it.path))
+                one.connect(it.place)
                 one.sendall(b"open cell\n")
                 heard.append(one.recv(100))
             except OSError:
@@ -95,61 +75,58 @@ def last_connection(top):
         check(heard, [b"opened cell\n"] * 2 + [b""] * 3, "what was heard")
         for one in ones:
             one.close()
-        check(it.ended()[0], "cell entries 0\n", "what it said")
+        ends(it, "cell entries 0\n")
 
 
 def stops(top):
     """A stop lets a client go that is there, and one that has connected and was not taken."""
-    with Server(top, sessions=1) as it, socket.socket(socket.AF_UNIX) as one, socket.socket(socket.AF_UNIX) as late:
+    with server(top, sessions=1) as it, socket.socket(socket.AF_UNIX) as one, socket.socket(socket.AF_UNIX) as late:
         one.settimeout(SECONDS)
-        one.connect(str(it.path))
+        one.connect(it.place)
         one.sendall(b"open cell\n")
         check(one.recv(100), b"opened cell\n", "what was heard")
         late.settimeout(SECONDS)
         with contextlib.suppress(OSError):
-            late.connect(str(it.path))
+            late.connect(it.place)
             check(late.recv(100), b"", "what the late one heard")
-        check(it.ended()[0], "cell entries 0\n", "what it said")
+        ends(it, "cell entries 0\n")
         check(one.recv(100), b"", "what was heard")
 
 
 def stale(top):
     """What a killed server left is replaced."""
-    with Server(top) as it:
-        it.killed()
+    with server(top) as it:
+        it.kill()
     check(names(top), ["it.sock", "it.sock.lock"], "what is there")
-    with Server(top) as it:
-        check(said(it.path, "open cell", "quit"), ["opened cell", "bye"], "what was heard")
-        it.ended()
+    with server(top) as it:
+        check(it.says("open cell"), ["opened cell", "bye"], "what was heard")
+        ends(it)
 
 
 def two(top):
     """A path that is served is not taken from its server."""
-    with Server(top) as it:
-        with Server(top, folder="other", first="") as other:
-            check(other.ended(3), ("", f"{it.path}: nobody can listen at this path: it is taken\nread fault\n"), "what it said")
-        check(said(it.path, "open cell", "quit"), ["opened cell", "bye"], "what was heard")
-        it.ended()
+    with server(top) as it:
+        is_refused(server(top, folder="other"), ": it is taken")
+        check(it.says("open cell"), ["opened cell", "bye"], "what was heard")
+        ends(it)
 
 
 def something_else(top):
     """What is there and is no socket stays, and so does the folder."""
     (top / "it.sock").write_text("mine")
-    with Server(top, first="") as it:
-        check(it.ended(3), ("", f"{it.path}: nobody can listen at this path: it is no socket\nread fault\n"), "what it said")
+    is_refused(server(top), ": it is no socket")
     check((top / "it.sock").read_text(), "mine", "the file")
     for path, why in (("none/it.sock", ": it is not there"), ("x" * 120, "")):
-        with Server(top, path, first="") as it:
-            check(it.ended(3), ("", f"{it.path}: nobody can listen at this path{why}\nread fault\n"), "what it said")
+        is_refused(server(top, path), why)
     check(names(top), ["it.sock", "it.sock.lock", "x" * 120 + ".lock"], "what is there")
 
 
 def replaced(top):
     """A socket that somebody put in place of the one that was made is not removed."""
-    with Server(top) as it, socket.socket(socket.AF_UNIX) as other:
-        it.path.unlink()
-        other.bind(str(it.path))
-        it.ended()
+    with server(top) as it, socket.socket(socket.AF_UNIX) as other:
+        (top / "it.sock").unlink()
+        other.bind(it.place)
+        ends(it)
         check(names(top), ["it.sock", "it.sock.lock"], "what is there")
 
 
@@ -163,16 +140,16 @@ def another_user(top):
     code = "import socket,sys\ntry:\n socket.socket(socket.AF_UNIX).connect(sys.argv[1]); print('connected')\nexcept OSError as it: print(it.strerror)"
 
     def tried():
-        words = ["/usr/bin/env", "python3", "-c", code, str(it.path)]
+        words = ["/usr/bin/env", "python3", "-c", code, it.place]
         ran = subprocess.run(words, user=nobody.pw_uid, group=nobody.pw_gid, extra_groups=[], capture_output=True, text=True,
                              env={"PATH": "/usr/bin:/bin"}, check=False, timeout=SECONDS)
         return (ran.stdout or ran.stderr).strip()
 
-    with Server(top) as it:
+    with server(top) as it:
         check(tried(), "Permission denied", "what another user hears")
-        os.chown(it.path, -1, nobody.pw_gid)
+        os.chown(it.place, -1, nobody.pw_gid)
         check(tried(), "connected", "what one of its group hears")
-        it.ended()
+        ends(it)
 
 
 def clients(top):
@@ -180,18 +157,18 @@ def clients(top):
     built = top / "client"
     source = TOP / "examples" / "clients"
     subprocess.run(["cc", "-Wall", "-Wextra", "-Werror", "-o", built, source / "client.c"], check=True, timeout=SECONDS)
-    with Server(top) as it:
-        with Object(str(it.path), "cell") as cell:
+    with server(top) as it:
+        with Object(it.place, "cell") as cell:
             cell.put(3)
         for words in ([built], [sys.executable, source / "client.py"]):
-            ran = subprocess.run([*words, it.path, "cell", "bump 1", "get"], capture_output=True, text=True, check=False, timeout=SECONDS)
+            ran = subprocess.run([*words, it.place, "cell", "bump 1", "get"], capture_output=True, text=True, check=False, timeout=SECONDS)
             check((ran.returncode, ran.stderr), (0, ""), "what the client ended with")
-        ran = subprocess.run([sys.executable, source / "resuming.py", it.path, "cell", "ann", "get"], capture_output=True, text=True,
+        ran = subprocess.run([sys.executable, source / "resuming.py", it.place, "cell", "ann", "get"], capture_output=True, text=True,
                              check=False, timeout=SECONDS)
         check((ran.returncode, ran.stdout), (0, "get: done 6 5\n"), "what the client said")
-        it.ended()
+        ends(it)
     try:
-        Object(str(it.path), "cell", wait=0.1)
+        Object(it.place, "cell", wait=0.1)
     except NoServer:
         return
     raise Wrong("there is a server")
@@ -201,24 +178,15 @@ def keeper(top):
     """`pathserve keep` listens at a path too, and removes it."""
     folder, path = top / "data", top / "it.sock"
     folder.mkdir()
-    words = [program(), "keep", CELL, folder, path, "--stop-with-input"]
-    pipe = subprocess.PIPE
-    with subprocess.Popen(words, stdin=pipe, stdout=pipe, stderr=pipe, text=True) as kept:
-        try:
-            check(kept.stdout.readline(), f"listening {path}\n", "the first line")
-            check(oct(stat.S_IMODE(path.stat().st_mode)), "0o660", "the mode")
-            with Object(str(path), "cell") as cell:
-                for turn in range(7):
-                    cell.bump(1)
-                check(cell.get(), 7, "the value")
-            other = subprocess.run([*words[:3], top, *words[4:]], stdin=subprocess.DEVNULL, capture_output=True, text=True, check=False, timeout=SECONDS)
-            said = f"{path}: nobody can listen at this path: it is taken\nread fault\n"
-            check((other.returncode, other.stderr), (3, said), "what another one said")
-            kept.stdin.close()
-            check(kept.wait(SECONDS), 0, "the status")
-            check(path.exists(), False, "whether it is there")
-        finally:
-            kept.kill()
+    with Server("keep", CELL, folder, "--stop-with-input", place=path) as it:
+        check(mode(top), "0o660", "the mode")
+        with Object(it.place, "cell") as cell:
+            for turn in range(7):
+                cell.bump(1)
+            check(cell.get(), 7, "the value")
+        is_refused(Server("keep", CELL, top, "--stop-with-input", place=path), ": it is taken")
+        check(it.ended(SECONDS).status, 0, "the status")
+        check(path.exists(), False, "whether it is there")
 
 
 TRIES = [serves, last_connection, stops, stale, two, something_else, replaced, another_user, clients, keeper]

@@ -26,7 +26,7 @@ import time
 
 from clients.python.pathclient import CallError, Expired, Lost, NoServer, Object, Rejected
 from gate import kept
-from gate.served import free_port
+from gate.served import Server, free_port
 from gate.tried import TOP, Wrong, check, given_words, holds, lacks, program, until, whole
 
 SECONDS, CLIENTS = 60, 4
@@ -74,7 +74,7 @@ class Host(Network):
 
     def __init__(self, switch, name, number):
         super().__init__()
-        self.switch, self.name, self.ran = switch, name, None
+        self.switch, self.name, self.server = switch, name, None
         switch.ip("link", "add", "name", name, "type", "veth", "peer", "name", "eth0", "netns", self.keeper.pid)
         switch.ip("link", "set", name, "master", "switch", "up")
         self.ip("address", "add", f"10.77.0.{number}/24", "dev", "eth0")
@@ -101,25 +101,20 @@ class Host(Network):
 
     def start(self, source, folder):
         """Starts a server here, and takes the address."""
-        words = [program(), "keep", source, folder, str(OWN), "--stop-with-input"]
-        pipe = subprocess.PIPE
-        self.ran = subprocess.Popen(self.words(*words), stdin=pipe, stdout=pipe, stderr=pipe, text=True)
-        line = self.ran.stdout.readline()
-        if line != f"listening {OWN}\n":
-            raise Wrong(f"the server on {self.name} says {line + self.ran.stderr.read()!r}, status {self.ran.wait()}")
+        self.server = Server("keep", source, folder, "--stop-with-input", place=OWN, by=self.words(program()))
+        self.server.start()
         self.ip("address", "add", f"{ADDRESS}/24", "dev", "eth0")
         # (what a host says to all when it takes an address)
         self.switch.ip("neighbour", "flush", "all")
 
     def is_gone(self):
-        self.ran.kill()
+        self.server.child.kill()
         self.switch.ip("link", "set", self.name, "down")
-        self.ran.communicate()
+        self.server.kill()
 
     def end(self):
-        if self.ran:
-            self.ran.kill()
-            self.ran.communicate()
+        if self.server:
+            self.server.kill()
         super().end()
 
 
@@ -340,11 +335,8 @@ def a_router(folder):
     with contextlib.ExitStack() as stack:
         for name, port in (("cell", ports["7101"]), ("bounded_buffer", ports["7102"])):
             (folder / name).mkdir()
-            words = [program(), "keep", TOP / "examples" / "objects" / f"{name}.pp", folder / name, port, "--stop-with-input"]
-            ran = subprocess.Popen(words, stdin=subprocess.PIPE, stdout=subprocess.PIPE, text=True)
-            stack.callback(ran.communicate)
-            stack.callback(ran.kill)
-            check(ran.stdout.readline(), f"listening {port}\n", "the server")
+            source = TOP / "examples" / "objects" / f"{name}.pp"
+            stack.enter_context(Server("keep", source, folder / name, "--stop-with-input", place=port))
         router = subprocess.Popen(["haproxy", "-f", folder / "haproxy.cfg"], stdout=subprocess.DEVNULL, stderr=subprocess.PIPE, text=True)
         stack.callback(router.communicate)
         stack.callback(router.kill)

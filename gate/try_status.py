@@ -369,26 +369,33 @@ def numbers_are_those_of_the_clients(folder):
             it.say("call get")
             holds(it.hear().startswith("accepted "), "a call is not taken")
         waiting[0].say("cancel 3")
-        it = shows(server, {"waiting": 2, "running": 0}, object="buffer", operation="get")
-        check(ends_of(it, "cell", "set") + ends_of(it, "cell", "get") + ends_of(it, "cell", "need"), (1, 0, 0, 2, 0, 0, 2, 1, 0), "the calls of cell")
-        check(ends_of(it, "buffer", "put") + ends_of(it, "buffer", "get"), (1, 0, 0, 1, 0, 0), "the calls of buffer")
-        check([it.of(n, object="buffer") for n in ("sessions", "epoch", "numbers", "cancelled_total")], [4, 1, 5, 1], "the numbers of buffer")
-        check([it.of(n, object="cell") for n in ("sessions", "epoch", "numbers", "cancelled_total", "wait_seconds")], [1, 1, 6, 0, 0], "the numbers of cell")
-        check([it.of(n) for n in ("connections", "connections_total", "connections_limit", "every_seconds")], [5, 5, 50, 1], "connections")
-        holds(begun - 1 <= it.of("start_seconds") <= it.time <= time.time(), "the times are wrong")
-        holds(0.5 < it.numbers["process_resident_memory_bytes", frozenset()] / 1024 / server.memory() < 2, "the memory is wrong")
+        seen = shows(server, {"waiting": 2, "running": 0}, object="buffer", operation="get")
+        found = ends_of(seen, "cell", "set") + ends_of(seen, "cell", "get") + ends_of(seen, "cell", "need")
+        check(found, (1, 0, 0, 2, 0, 0, 2, 1, 0), "the calls of cell")
+        check(ends_of(seen, "buffer", "put") + ends_of(seen, "buffer", "get"), (1, 0, 0, 1, 0, 0), "the calls of buffer")
+        names = ["sessions", "epoch", "numbers", "cancelled_total"]
+        check([seen.of(n, object="buffer") for n in names], [4, 1, 5, 1], "the numbers of buffer")
+        check([seen.of(n, object="cell") for n in [*names, "wait_seconds"]], [1, 1, 6, 0, 0], "the numbers of cell")
+        names = ["connections", "connections_total", "connections_limit", "every_seconds"]
+        check([seen.of(n) for n in names], [5, 5, 50, 1], "connections")
+        holds(begun - 1 <= seen.of("start_seconds") <= seen.time <= time.time(), "the times are wrong")
+        memory = seen.numbers["process_resident_memory_bytes", frozenset()] / 1024
+        holds(0.5 < memory / server.memory() < 2, "the memory is wrong")
         for name in ("cell", "buffer"):
             lines = lines_of(server, name)
-            check(it.of("journal_bytes", object=name), len(lines), f"the bytes of {name}")
-            check(sum(map(sum, (ends_of(it, *key) for key in it.labels("calls_total", "object", "operation") if key[0] == name))), lines.count("\nend "), f"the sum of {name}")
-            holds(1 <= it.of("syncs_total", object=name) <= 8 and begun - 2 <= it.of("sync_seconds", object=name) <= it.time, f"the syncs of {name}")
-        it = shows(server, {"wait_seconds": 2}, object="buffer")
+            check(seen.of("journal_bytes", object=name), len(lines), f"the bytes of {name}")
+            keys = [it for it in seen.labels("calls_total", "object", "operation") if it[0] == name]
+            check(sum(sum(ends_of(seen, *it)) for it in keys), lines.count("\nend "), f"the sum of {name}")
+            is_synced = begun - 2 <= seen.of("sync_seconds", object=name) <= seen.time
+            holds(1 <= seen.of("syncs_total", object=name) <= 8 and is_synced, f"the syncs of {name}")
+        shows(server, {"wait_seconds": 2}, object="buffer")
         waiting[1].close()
         shows(server, {"waiting": 1}, object="buffer", operation="get")
         bob.calls("put 'b'")
-        it = shows(server, {"waiting": 0}, object="buffer", operation="get")
-        check([it.of(n, object="buffer") for n in ("sessions", "cancelled_total", "wait_seconds")], [3, 2, 0], "behind the waiting ones")
-        check(ends_of(it, "buffer", "get"), (2, 0, 0), "the gets")
+        seen = shows(server, {"waiting": 0}, object="buffer", operation="get")
+        names = ["sessions", "cancelled_total", "wait_seconds"]
+        check([seen.of(n, object="buffer") for n in names], [3, 2, 0], "behind the waiting ones")
+        check(ends_of(seen, "buffer", "get"), (2, 0, 0), "the gets")
         over(server)
         for one in waiting:
             one.close()
@@ -398,8 +405,8 @@ def numbers_are_those_of_the_clients(folder):
     check(list(server.folder.glob("status.prom*")), [], "what is left of the status")
     # Another start counts from nothing.
     server.start()
-    it = shows(server, {"epoch": 2}, object="cell")
-    check([it.of("connections_total"), *ends_of(it, "cell", "get")], [0, 0, 0, 0], "the counts of another start")
+    seen = shows(server, {"epoch": 2}, object="cell")
+    check([seen.of("connections_total"), *ends_of(seen, "cell", "get")], [0, 0, 0, 0], "the counts of another start")
     server.end()
 
 

@@ -120,14 +120,14 @@ KEPT = [
     "cancel 8 s10 take_slot",
 ]
 BEHIND = ["start 7 s1 take_slot", "\0\0junk", "start 8 s1 take_slot", "end 8 done"]
-KEPT_BARS = [
+KEPT_BARS: list[tuple] = [
     ("s3 ann", "done", 1, 2, "call 103 of s3 ann: give_slot\ndone\nevents 1 to 2, lines 9 to 10"),
     ("s7", "done", 3, 4, "call 57 of s7: take_slot\ndone\nevents 3 to 4, lines 12 to 13\nwaited before the first event"),
     ("s65535 bob", "done", 5, 6, "call 105 of s65535 bob: take_slot\ndone\nevents 5 to 6, lines 14 to 15"),
     ("s7", "done", 8, 9, "call 106 of s7: give_slot\ndone\nevents 8 to 9, lines 17 to 18"),
 ]
-KEPT_WAITS = [("s4", 104, 5, 7), ("s7", 57, "<", 3), ("s9", 60, "<", ">"), ("s10", 108, 10, 10)]
-KEPT_HOLDS = [("s3 ann", "<", 1, [0]), ("s65535 bob", 6, ">", [105]), ("s7", 4, 8, [57])]
+KEPT_WAITS: list[tuple] = [("s4", 104, 5, 7), ("s7", 57, "<", 3), ("s9", 60, "<", ">"), ("s10", 108, 10, 10)]
+KEPT_HOLDS: list[tuple] = [("s3 ann", "<", 1, [0]), ("s65535 bob", 6, ">", [105]), ("s7", 4, 8, [57])]
 # Lines that cannot be in an epoch, in the place of one of its lines, by its number.
 NOT_KEPT = [(2, "part v 0g"), (3, "past take_slot 0"), (3, "past begin"), (4, "base x"), (4, "base 18446744073709551616"), (4, "client s3 ann 5"),
             (5, "source 0123456789abcdef"), (5, "base 100"), (5, "carried 1 57 s7"), (7, "client s65536 ann 5"), (7, "client s3 9 5"), (8, "past take_slot 2"),
@@ -261,9 +261,9 @@ class Page:
 
     def hidden(self):
         """Bars that overlap another one, or stand outside their row or the picture."""
-        found, before = [], 0
+        found, before = [], 0.0
         for row in self.rows:
-            lanes = {}
+            lanes: dict[float, list[tuple[float, float]]] = {}
             for bar in row.iter(SVG + "rect"):
                 if classes(bar)[:1] == ["bar"]:
                     left, wide, top = (float(bar.get(it)) for it in ("x", "width", "y"))
@@ -271,7 +271,7 @@ class Page:
             tops = sorted(lanes)
             found += [row.get("id") for it in tops if it < before or it + 16 > self.tall]
             found += [row.get("id") for one, two in zip(tops, tops[1:]) if two - one < 16]
-            for bars in map(sorted, lanes.values()):
+            for bars in (sorted(it) for it in lanes.values()):
                 found += [row.get("id") for one, two in zip(bars, bars[1:]) if one[1] > two[0]]
                 found += [row.get("id") for one, two in bars if one < 60 or two > self.wide]
             before = tops[-1] + 16 if tops else before
@@ -516,8 +516,8 @@ def long(folder, trace):
         for row, kind, start, end, title in page.bars(first, last):
             pieces[int(title.split()[1])].append((place, row, kind, start, end))
     for number, (row, kind, start, end) in trace.calls.items():
-        runs = range((start - 1) // 400, (trace.events if end == ">" else end) // 400 + 1 if end == ">" else (end - 1) // 400 + 1)
-        runs = [it for it in runs if it < len(drawn)]
+        last = trace.events // 400 if end == ">" else (end - 1) // 400
+        runs = [it for it in range((start - 1) // 400, last + 1) if it < len(drawn)]
         wanted = [(it, row, kind, start if it == runs[0] else "<", end if it == runs[-1] else ">") for it in runs]
         if pieces[number] != wanted:
             return f"call {number} has {pieces[number]}, not {wanted}"
@@ -547,8 +547,9 @@ class Slots:
     """A drawn trace of build_slots, and what is held in it: each with its session, the events, and its call."""
 
     def __init__(self, seed):
-        draw = random.Random(seed)
-        self.lines, self.events, self.holds, held = ["object build_slots"], 0, [], []
+        draw, held = random.Random(seed), []
+        self.lines, self.events = ["object build_slots"], 0
+        self.holds: list[tuple[int, int, int | str, int]] = []
         for number in range(1, 200):
             session = draw.randrange(1, 7)
             is_taken = len(held) < 3 and (not held or draw.random() < 0.5)
@@ -605,7 +606,8 @@ def kept(folder):
     if status or error or len(drawn) != 1:
         return f"status {status}, {error!r}, {len(drawn)} pages"
     page = Page(drawn[0])
-    for found, wanted in ((page.bars(1, 10), KEPT_BARS), (page.waits(1, 10), KEPT_WAITS), (page.holds(1, 10), KEPT_HOLDS)):
+    shown = (page.bars(1, 10), KEPT_BARS), (page.waits(1, 10), KEPT_WAITS), (page.holds(1, 10), KEPT_HOLDS)
+    for found, wanted in shown:
         if sorted(map(str, found)) != sorted(map(str, wanted)):
             return f"it shows {found}"
     if page.legend != ["done", "waits", "held between two calls", "cancelled", "give_slot", "take_slot", "begin_release"]:
@@ -674,14 +676,16 @@ def statuses(folder):
     (folder / "bad.pp").write_text("object o; path 2:(a;) end; end;")
     (folder / "fake").write_text("#!/bin/sh\necho read fault >&2\nexit 3\n")
     (folder / "fake").chmod(0o755)
-    for words, status in [([], 2), (["a", "b"], 2), ([folder / "it.trace", "--events", "0"], 2), ([folder / "none"], 3),
-                          ([folder / "it.trace", "-o", folder / "none" / "it.svg"], 3), ([folder / "it.trace", "--from", "1"], 2),
-                          ([folder / "two.trace", "--from", "0"], 2), ([folder / "two.trace", "--from", "3"], 2),
-                          ([folder / "two.trace", "--audit", "it.pp", "--program", folder / "none"], 3),
-                          ([folder / "two.trace", "--audit", "it.pp", "--program", "/bin/false"], 3),
-                          ([folder / "two.trace", "--audit", folder / "none", "--program", folder / "fake"], 3),
-                          ([folder / "two.trace", "--objects", folder / "none"], 3), ([folder / "two.trace", "--objects", folder / "two.trace"], 3),
-                          ([folder / "two.trace", "--objects", folder / "bad.pp"], 3)]:
+    calls: list[tuple[list[str | pathlib.Path], int]]
+    calls = [([], 2), (["a", "b"], 2), ([folder / "it.trace", "--events", "0"], 2), ([folder / "none"], 3),
+             ([folder / "it.trace", "-o", folder / "none" / "it.svg"], 3), ([folder / "it.trace", "--from", "1"], 2),
+             ([folder / "two.trace", "--from", "0"], 2), ([folder / "two.trace", "--from", "3"], 2),
+             ([folder / "two.trace", "--audit", "it.pp", "--program", folder / "none"], 3),
+             ([folder / "two.trace", "--audit", "it.pp", "--program", "/bin/false"], 3),
+             ([folder / "two.trace", "--audit", folder / "none", "--program", folder / "fake"], 3),
+             ([folder / "two.trace", "--objects", folder / "none"], 3), ([folder / "two.trace", "--objects", folder / "two.trace"], 3),
+             ([folder / "two.trace", "--objects", folder / "bad.pp"], 3)]
+    for words, status in calls:
         found = subprocess.run([TOOL, *words], capture_output=True, text=True, timeout=60)
         if found.returncode != status or not found.stderr or "Traceback" in found.stderr:
             return f"{words}: status {found.returncode}, {found.stderr[-300:]!r}"
@@ -701,11 +705,11 @@ def tries(folder):
     """What is tried: a title, and what is wrong with it."""
     for title, lines, most, wanted in SMALL:
         yield title, lambda: small(folder, lines, most, wanted)
-    for why, lines in (("bad", BAD), ("not running", NOT_RUNNING)):
-        for line in lines:
+    for why, bad in (("bad", BAD), ("not running", NOT_RUNNING)):
+        for line in bad:
             yield f"{why}: {line!r}", lambda: damaged(folder, line, why)
-    for lines, line in UNDRAWN:
-        yield f"nothing drawn: {lines}", lambda: undrawn(folder, lines, line)
+    for text, number in UNDRAWN:
+        yield f"nothing drawn: {text}", lambda: undrawn(folder, text, number)
     for seed in range(1, 21):
         yield f"drawn script {seed}", lambda: long(folder, Worlds(seed))
     for seed, calls, sessions, at_once in [(1, 399, 2, 2), (2, 1500, 64, 40), (3, 1500, 65, 65), (4, 3000, 1024, 256), (5, 65536, 1024, 24)]:
@@ -727,8 +731,8 @@ def tries(folder):
     yield "an epoch", lambda: kept(folder)
     for number, line in NOT_KEPT:
         yield f"line {number} of an epoch is {line!r}", lambda: not_kept(folder, number, line)
-    for word, status, told, marked in FOLDER:
-        yield f"an audit of a folder says {word}", lambda: folder_says(folder, word, status, told, marked)
+    for word, status, told, event in FOLDER:
+        yield f"an audit of a folder says {word}", lambda: folder_says(folder, word, status, told, event)
     yield "paths", lambda: shapes(folder)
     for trace in sorted((TOOL.parent.parent / "examples" / "traces").glob("*.trace")):
         yield f"the picture of {trace.name}", lambda: stored(folder, trace)

@@ -3,10 +3,9 @@ default rules find.
 
 usage: gate/try_types [WORD ..]
 
-gate/mypy.ini says how strictly each module is looked at; the modules that it names last are not clean yet, and may only
-go from there. Each file that has no fault passes; of the others the faults are said that have one of the words in them. What
-is not there, mypy or ruff, is not run, and fails nothing. The last line is `try_types: N passed, M failed`; the exit status
-is 0 where M is 0 and N is not.
+gate/mypy.ini says how strictly each module is looked at, and leaves out none. Each file that has no fault passes; of the
+others the faults are said that have one of the words in them. What is not there, mypy or ruff, is not run, and fails
+nothing. The last line is `try_types: N passed, M failed`; the exit status is 0 where M is 0 and N is not.
 """
 import os
 import pathlib

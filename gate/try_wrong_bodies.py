@@ -166,7 +166,7 @@ def load_rt():
         return ran
 
     # What a try of an edit says is more than its judge hands out.
-    made.checked = remembered
+    setattr(made, "checked", remembered)
     return made
 
 

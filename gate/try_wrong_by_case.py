@@ -206,10 +206,10 @@ def main():
     lines = repository.crates()
     names = sys.argv[1:] or [it for it in lines if (TOP / "crates" / it / FOLDER).is_dir()]
     edits = []
-    for it in names:
-        name, _, edit = it.partition("/")
+    for word in names:
+        name, _, stem = word.partition("/")
         paths = repository.files(TOP / "crates" / name / FOLDER)
-        edits += [read_edit(path) for path in paths if edit in ("", path.stem)]
+        edits += [read_edit(path) for path in paths if stem in ("", path.stem)]
     said = {}
 
     def tell(edit, fault):

@@ -67,11 +67,11 @@ def try_edit(name, path, folder):
     for file in ("crates.txt", "HANDLES"):
         shutil.copy(TOP / file, top)
     (top / "crates.txt").write_text("".join(f"{lines[it]}\n" for it in [*repository.below(lines, name), name]))
-    for file, old, new in changes:
-        at = top / file.relative_to(TOP)
+    for source, old, new in changes:
+        at = top / source.relative_to(TOP)
         text = at.read_text(encoding="utf-8")
         if text.count(old + "\n") != 1:
-            return f"{file.name} has not once the line `{old.strip()}`"
+            return f"{source.name} has not once the line `{old.strip()}`"
         at.write_text(text.replace(old + "\n", new + "\n"), encoding="utf-8")
     words = ["rt", "try", "--test", "--seconds", str(SECONDS)]
     ran = subprocess.run(words, cwd=top / "crates" / name, capture_output=True, text=True)

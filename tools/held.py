@@ -5,6 +5,7 @@ import dataclasses
 import re
 
 from gate.slow_world import Any, Bound, Burst, Name, Sequence
+from tools import traced
 
 TOKEN = re.compile(r"(\{[^}]*\}|\(\*.*?\*\)|\s+)|('(?:[^'\n]|'')*'|[a-z][a-z0-9_]*|[0-9]+|.)", re.DOTALL)
 
@@ -119,9 +120,9 @@ class Hold:
     """What is held from the end of one call to the start of another: the two calls, and the events. Where it was held
     before the trace there is no first call, and at the end of it no second one."""
 
-    taker: object
+    taker: traced.Call | None
     taken: int
-    giver: object = None
+    giver: traced.Call | None = None
     given: int | None = None
 
     @property
@@ -161,9 +162,10 @@ class Holding:
 
     def give(self, call, place):
         """A call uses up the newest of its own session, else the oldest of all: a path does not tell which."""
-        for found, pop in ((self.own[call.session], list.pop), (self.oldest, collections.deque.popleft)):
+        own = self.own[call.session]
+        for found, pop in ((own, own.pop), (self.oldest, self.oldest.popleft)):
             while found:
-                one = pop(found)
+                one = pop()
                 if one.given is None:
                     one.giver, one.given = call, place
                     return

@@ -18,6 +18,7 @@ import signal
 import subprocess
 import sys
 import tempfile
+from collections.abc import Iterator
 
 from tools import repository
 from tools.repository import TOP
@@ -29,6 +30,9 @@ PROVED, UNPROVED = "proved", "unproved"
 PROGRAM = "pathserve"
 # The word of a tool's command line before the file of the program that it is to try.
 FLAG = "--program"
+# The file that the environment names, for a command line that has no room for it, as that of `python3 -m unittest`.
+# What is started from here does not see it: that may be about another program.
+NAMED = os.environ.pop("PATHSERVE_PROGRAM", None)
 # The exit status where there is no program to run: none of the program's own.
 NO_PROGRAM = 70
 FULL = "No space left on device"
@@ -197,11 +201,12 @@ def given_words():
 
 @functools.cache
 def program():
-    """The program that this tool tries: FILE where its command line has `--program FILE`, or else the one that ./pathserve
-    runs, which is built first where none stands. Where there is none this tool ends."""
+    """The program that this tool tries: FILE where its command line has `--program FILE`, or else the one that its
+    environment names, or else the one that ./pathserve runs, which is built first where none stands. Where there is
+    none this tool ends."""
     words = sys.argv[1:]
-    if FLAG in words[:-1]:
-        file = pathlib.Path(words[words.index(FLAG) + 1]).absolute()
+    if given := words[words.index(FLAG) + 1] if FLAG in words[:-1] else NAMED:
+        file = pathlib.Path(given).absolute()
     else:
         made = subprocess.run([TOP / "tools" / "make_ready"], stdin=subprocess.DEVNULL, stdout=subprocess.PIPE, text=True)
         if made.returncode:
@@ -211,6 +216,13 @@ def program():
         say(f"there is no program {file}")
         sys.exit(NO_PROGRAM)
     return file
+
+
+@contextlib.contextmanager
+def new_folder(prefix: str = "pathserve-", room: pathlib.Path | str | None = None) -> Iterator[pathlib.Path]:
+    """A new folder, which is gone at the end."""
+    with tempfile.TemporaryDirectory(prefix=prefix, dir=room) as folder:
+        yield pathlib.Path(folder)
 
 
 @contextlib.contextmanager

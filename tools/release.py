@@ -28,7 +28,6 @@ import shutil
 import subprocess
 import sys
 import tarfile
-import tempfile
 
 from tools import ready, repository
 from tools.repository import TOP
@@ -138,7 +137,7 @@ class Release:
     def write_archive(self, file):
         """Writes the tar file."""
         with open(file, "wb") as raw, gzip.GzipFile("", "wb", 9, raw, self.time) as packed:
-            with tarfile.open(fileobj=packed, mode="w", format=tarfile.USTAR_FORMAT) as tar:
+            with tarfile.TarFile(mode="w", fileobj=packed, format=tarfile.USTAR_FORMAT) as tar:
                 for path in sorted(self.files):
                     entry = tarfile.TarInfo(f"{self.name}/{path}")
                     entry.mode, entry.mtime = 0o755 if path in self.programs else 0o644, self.time
@@ -161,14 +160,14 @@ class Release:
                 put(top / self.place_in(path), gzip.compress(content, 9, mtime=self.time) if path.endswith(".1") else content,
                     path in self.programs)
         put(top / "usr/lib/systemd/system/pathserve@.service", (PACKAGE / "pathserve@.service").read_bytes())
-        for it in ("etc/pathserve", "usr/bin"):
-            (top / it).mkdir(parents=True)
+        for name in ("etc/pathserve", "usr/bin"):
+            (top / name).mkdir(parents=True)
         (top / "usr/bin/pathserve").symlink_to("../lib/pathserve/pathserve")
         size = sum(it.stat().st_size for it in top.rglob("*") if it.is_file()) // 1024 + 1
         rows = sorted((str(it.relative_to(top)), it) for it in top.rglob("*") if it.is_file() and not it.is_symlink())
         put(top / "DEBIAN/md5sums", "".join(f"{hashlib.md5(it.read_bytes()).hexdigest()}  {name}\n" for name, it in rows).encode())
-        for it in ("postinst", "prerm", "postrm"):
-            put(top / "DEBIAN" / it, (PACKAGE / it).read_bytes(), True)
+        for name in ("postinst", "prerm", "postrm"):
+            put(top / "DEBIAN" / name, (PACKAGE / name).read_bytes(), True)
         put(top / "DEBIAN/control", self.control(size).encode())
         for it in [top, *top.rglob("*")]:
             if it.is_dir():
@@ -209,8 +208,7 @@ def put(file, content, is_program=False):
 def work(is_proved, folder):
     release = Release(is_proved)
     folder.mkdir(parents=True, exist_ok=True)
-    with tempfile.TemporaryDirectory(prefix="release-", dir=ready.ROOMS) as room:
-        room = pathlib.Path(room)
+    with ready.new_folder("release-", ready.ROOMS) as room:
         made = room / "made"
         made.mkdir()
         release.write_archive(made / f"{release.name}.tar.gz")

@@ -1,6 +1,5 @@
 """What the tools know of the repository: its crates, what each stands on, and the digests of their files."""
 import collections
-import functools
 import hashlib
 import itertools
 import os
@@ -322,10 +321,20 @@ def shown_of(rest, functions, is_public, types):
     return found
 
 
-@functools.cache
-def parts_above(folder):
-    """The parts of the interface of the crate in this folder. Of a type that no other crate can come by no method can be
-    called there, so what it has in private modules is left out."""
+# What was read of each folder of a crate. No file may change, or what was read of its folder has to be taken out.
+READ: dict[pathlib.Path, list[Part]] = {}
+
+
+def parts_above(folder: pathlib.Path) -> list[Part]:
+    """The parts of the interface of the crate in this folder."""
+    if folder not in READ:
+        READ[folder] = read_parts(folder)
+    return READ[folder]
+
+
+def read_parts(folder: pathlib.Path) -> list[Part]:
+    """The parts of the interface of the crate in this folder, as it is now. Of a type that no other crate can come by
+    no method can be called there, so what it has in private modules is left out."""
     public, sources, found = public_modules(folder), {}, []
     for path, text in sorted(interface(folder).items()):
         if path.suffix == ".rt":

@@ -194,8 +194,20 @@ class Reading:
             return found, self.before
 
 
+class Server(http.server.ThreadingHTTPServer):
+    """Has a reading of a folder, which each of its answers is from."""
+
+    daemon_threads = True
+
+    def __init__(self, folder, port):
+        super().__init__(("127.0.0.1", port), Handler)
+        self.reading = Reading(folder)
+
+
 class Handler(http.server.BaseHTTPRequestHandler):
     """Answers a scraper and a browser."""
+
+    server: Server
 
     def do_GET(self):
         if self.path not in ("/", "/metrics"):
@@ -221,9 +233,7 @@ class Handler(http.server.BaseHTTPRequestHandler):
 
 
 def serve(folder, port):
-    with http.server.ThreadingHTTPServer(("127.0.0.1", port), Handler) as server:
-        server.daemon_threads = True
-        server.reading = Reading(folder)
+    with Server(folder, port) as server:
         print(f"listening {server.server_address[1]}", flush=True)
         server.serve_forever()
 

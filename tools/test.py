@@ -122,10 +122,12 @@ class Run:
         self.begun = time.monotonic()
         # A tool in Python would else keep what it prints to itself until it ends.
         env = {**os.environ, "PYTHONUNBUFFERED": "1"}
-        pipes = {"stdin": subprocess.DEVNULL, "stdout": self.output, "stderr": subprocess.STDOUT}
+        null, same = subprocess.DEVNULL, subprocess.STDOUT
         try:
             # (what a terminal sends comes to this tool alone, which hands it on)
-            self.process = subprocess.Popen(words, cwd=TOP, env=env, preexec_fn=os.setpgrp, **pipes)
+            self.process = subprocess.Popen(
+                words, cwd=TOP, env=env, preexec_fn=os.setpgrp, stdin=null, stdout=self.output, stderr=same
+            )
         except OSError as error:
             self.result = Result(self.name, 0, 0, 0, 1, [f"did not run: {error.strerror}".encode()])
 

@@ -9,7 +9,6 @@ from pathclient import Cancelled, Expired, Failed, Lost, NoServer, Object, Refus
 
 WORDS = {Refused: "refused", Failed: "failed", Cancelled: "cancelled", Rejected: "no", NoServer: "no server", Expired: "expired",
          Lost: "lost"}
-WITH_WORD = (Refused, Failed, Rejected)
 
 
 def told(came):
@@ -18,7 +17,7 @@ def told(came):
         kind = next((it for it in WORDS if isinstance(came, it)), None)
         if kind is None:
             raise came
-        return f"{WORDS[kind]} {came.word}" if kind in WITH_WORD else WORDS[kind]
+        return f"{WORDS[kind]} {came.word}" if isinstance(came, (Refused, Failed, Rejected)) else WORDS[kind]
     return "done" if came is None else f"done {written(came)}"
 
 

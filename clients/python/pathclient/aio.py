@@ -20,7 +20,7 @@ from __future__ import annotations
 
 import asyncio
 import contextlib
-from collections.abc import AsyncIterator, Awaitable, Callable, Coroutine
+from collections.abc import AsyncIterator, Callable, Coroutine
 from types import TracebackType
 from typing import TypeVar
 
@@ -222,7 +222,7 @@ class Object:
                 await self._ended(asked, left if is_new else min(left, ANSWERS))
         return asked.reply()
 
-    def __getattr__(self, operation: str) -> Callable[..., Awaitable[Reply]]:
+    def __getattr__(self, operation: str) -> Callable[..., Coroutine[object, object, Reply]]:
         if not NAME.fullmatch(operation):
             raise AttributeError(operation)
         return lambda *arguments, **options: self.call(operation, *arguments, **options)

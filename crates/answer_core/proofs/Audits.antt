@@ -3,8 +3,8 @@ use Rattle.std.proofs.Common.{◌≡◌, ◌⊎◌, inl, inr, ℕ, List, ◌++�
 use Rattle.std.specs.Prelude.{codes}
 use Rattle.decl_core.specs.declared.object.Object.{Object}
 use Rattle.decl_core.specs.ObjectMap.{object_of}
-use Rattle.script_open.specs.Named.{NamesObject}
-use Rattle.script_open.specs.Opening.{IsReady, IsTold}
+use Rattle.check_core.specs.Named.{NamesObject}
+use Rattle.check_core.specs.Opening.{IsReady, IsTold}
 use Rattle.audit_core.specs.Verdicts.{IsVerdict, IsLegalTrace}
 use Rattle.audit_core.specs.declared.verdict.Verdict.{Verdict}
 use Rattle.audit_core.specs.declared.verdict.Verdict.TheVariants as verdicts

@@ -1,7 +1,7 @@
 -- What standard error gets of a refused source that is not explained.
 use Rattle.std.proofs.Common.{ℕ, List, Option, codes}
 use Rattle.std.specs.Io.KnownBytes.{Appends}
-use Rattle.line_core.proofs.Known.{Appends-none}
+use Rattle.text_core.proofs.Known.{Appends-none}
 use Rattle.answer_core.specs.Telling.{IsHinted}
 
 -- the whole line

@@ -6,3 +6,4 @@ pub mod Audits
 pub mod Hints
 pub mod Words
 pub mod StuckChecks
+pub mod Telling

@@ -1,8 +1,8 @@
 -- A text without a line names no object.
 use Rattle.std.proofs.Common.{◌≡◌, ◌∙◌, ℕ, List, refl, sym, subst}
-use Rattle.script_text.specs.Answers.{bad_line}
-use Rattle.script_open.specs.Named.{NamesObject}
-use Rattle.script_open.specs.Opening.{IsTold, unnamed, faulty, lacking, refused}
+use Rattle.word_core.specs.Answers.{bad_line}
+use Rattle.check_core.specs.Named.{NamesObject}
+use Rattle.check_core.specs.Opening.{IsTold, unnamed, faulty, lacking, refused}
 use Rattle.answer_core.specs.ScriptRun.{IsScriptRun, told, ran}
 use Rattle.answer_core.specs.Laws.{HasNoLine, NoLineIsBad}
 

@@ -3,7 +3,7 @@ use Rattle.std.proofs.Common.{◌≡◌, ℕ, ◌<◌, Bool, inl, inr, List, len
 use Rattle.std.specs.Prelude.{Option, Some, None, IfSome, IfOk, IsErrOf, Result, Ok, Err}
 use Rattle.std.proofs.lemmas.Bool.{cases_lt}
 use Rattle.std.proofs.lemmas.List.{take_all, length-take}
-use Rattle.stuck_text.specs.StuckReport.{IsStuckCheck, counted, faulty}
+use Rattle.check_core.specs.StuckReport.{IsStuckCheck, counted, faulty}
 use Rattle.check_core.specs.declared.report.CheckEnd.{CheckEnd}
 use Rattle.answer_core.specs.declared.failure.Failure.{Failure}
 use Rattle.answer_core.specs.declared.failure.Failure.TheVariants as failures

@@ -1,7 +1,7 @@
 -- Laws of what commands answer.
 use Rattle.std.specs.Prelude.{◌≡◌, ◌↔◌, ℕ, List, [], codes}
 use Rattle.std.specs.Str.Lines.{lines}
-use Rattle.script_text.specs.Answers.{bad_line}
+use Rattle.word_core.specs.Answers.{bad_line}
 use Rattle.answer_core.specs.ScriptRun.{IsScriptRun}
 use Rattle.answer_core.specs.AuditRun.{IsAuditRun}
 

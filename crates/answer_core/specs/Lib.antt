@@ -3,3 +3,4 @@ pub mod ScriptRun
 pub mod AuditRun
 pub mod Laws
 pub mod Telling
+pub mod Said

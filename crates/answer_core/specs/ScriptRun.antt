@@ -2,7 +2,7 @@
 use Rattle.std.specs.Prelude.{ℕ, List, [], take}
 use Rattle.decl_core.specs.declared.object.Object.{Object}
 use Rattle.decl_core.specs.ObjectMap.{object_of}
-use Rattle.script_open.specs.Opening.{IsReady, IsTold}
+use Rattle.check_core.specs.Opening.{IsReady, IsTold}
 use Rattle.script_core.specs.Run.{IsScript, IsFront}
 use Rattle.script_core.specs.declared.script.ScriptEnd.{ScriptEnd}
 use Rattle.answer_core.specs.Status.{script_status}

@@ -2,14 +2,14 @@
 
 ghost use Rattle.std.specs.Prelude.{◌≡◌, ℕ, List, IfOk, IfErr, IfSome};
 ghost use Rattle.std.specs.Io.KnownBytes.{Appends};
-ghost use Rattle.prompt_core.specs.Tries.{texts_in};
-ghost use Rattle.prompt_core.specs.Run.{IsTried, IsTriedFront};
+ghost use Rattle.script_core.specs.Tries.{texts_in};
+ghost use Rattle.script_core.specs.PromptRun.{IsTried, IsTriedFront};
 ghost use Rattle.answer_core.specs.Status.{IsFault};
 
 use crate::answer::ACCEPTED;
 use crate::failure::Failure;
-use exclude_core::analyse::Accepted;
-use prompt_core::prompt::{Texts, run_prompt};
+use decl_core::analyse::Accepted;
+use script_core::prompt::{Texts, run_prompt};
 use std::alloc::Global;
 use std::io::{Read, Write};
 

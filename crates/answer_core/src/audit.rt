@@ -3,7 +3,7 @@
 ghost use Rattle.std.specs.Prelude.{◌≡◌, ◌++◌, ℕ, List, OnOk, IfOk, IfErr, IfSome, IsErrOf, codes, decimal, take};
 ghost use Rattle.std.specs.Io.KnownBytes.{Appends, Keeps};
 ghost use Rattle.audit_core.specs.declared.verdict.Verdict.TheVariants as verdicts;
-ghost use Rattle.script_open.specs.Named.{NamesObject};
+ghost use Rattle.check_core.specs.Named.{NamesObject};
 ghost use Rattle.answer_core.specs.AuditRun.{audit_status, line_number, verdict_line, IsAuditRun};
 ghost use Rattle.answer_core.specs.Status.{IsFault};
 ghost use Rattle.answer_core.specs.declared.failure.Failure.TheVariants.{ReadFault, WriteFault, Memory};
@@ -13,12 +13,12 @@ use crate::failure::Failure;
 use crate::source::read_whole;
 use audit_core::audit::audit;
 use audit_core::verdict::Verdict;
-use line_core::reply::{push_count, push_number};
-use line_core::write_whole;
-use script_open::head::named_object;
-use script_open::open::{Opened, open_script};
+use check_core::head::named_object;
+use check_core::open::{Opened, open_script};
 use std::alloc::{AllocError, Global};
 use std::io::{Read, Write};
+use text_core::reply::{push_count, push_number};
+use text_core::write_whole;
 
 // What an audit ends with: the exit status, and the line that is written.
 #[derive(Drop)]

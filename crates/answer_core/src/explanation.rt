@@ -7,15 +7,15 @@ ghost use Rattle.answer_core.specs.declared.explanation.Telling.TheVariants.{Not
 
 use crate::answer::REFUSED;
 use crate::failure::Failure;
+use check_core::head::named_object;
 use explain_core::explain::explain;
-use explain_line::files::Files;
-use explain_script::script::explain_script;
-use explain_stuck::explain::explain_stuck;
+use explain_core::stuck_explain::explain_stuck;
+use explain_trace::script::explain_script;
 use explain_trace::trace::explain_trace;
-use line_core::write_whole;
-use script_open::head::named_object;
+use note_core::files::Files;
 use std::alloc::{AllocError, Global};
 use std::io::Write;
+use text_core::write_whole;
 
 /// How much standard error gets of why something is refused.
 #[derive(Clone, Copy, Debug, PartialEq, Eq)]

@@ -10,13 +10,13 @@ ghost use Rattle.answer_core.specs.ScriptRun.{IsScriptRun, IsScriptFront};
 use crate::answer::{ACCEPTED, REFUSED};
 use crate::explanation::{Telling, explained_script};
 use crate::failure::Failure;
-use exclude_core::analyse::Accepted;
-use line_core::write_whole;
+use check_core::head::read_head;
+use check_core::open::{Opened, open_script};
+use decl_core::analyse::Accepted;
 use script_core::script::{ScriptEnd, run_script};
-use script_open::head::read_head;
-use script_open::open::{Opened, open_script};
 use std::alloc::Global;
 use std::io::{Read, Write};
+use text_core::write_whole;
 
 fn status_of_script(end: ScriptEnd) -> u8
     ensures { result ≡ script_status end }

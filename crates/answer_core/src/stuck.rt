@@ -3,7 +3,7 @@
 ghost use Rattle.std.specs.Prelude.{◌≡◌, ◌⊎◌, ℕ, Bool, List, IfOk, IfErr, IfSome, IsErrOf, take};
 ghost use Rattle.std.specs.Io.KnownBytes.{Appends, Keeps};
 ghost use Rattle.check_core.specs.declared.report.CheckEnd.{CheckEnd};
-ghost use Rattle.stuck_text.specs.StuckReport.{IsStuckCheck};
+ghost use Rattle.check_core.specs.StuckReport.{IsStuckCheck};
 ghost use Rattle.answer_core.specs.Status.{stuck_status, IsFault};
 ghost use Rattle.answer_core.specs.Telling.{IsHinted};
 ghost use Rattle.answer_core.specs.declared.explanation.Telling.TheVariants.{Nothing, Hint};
@@ -13,9 +13,9 @@ use crate::answer::{REFUSED, status_of_check};
 use crate::explanation::{Telling, explained_stuck};
 use crate::failure::Failure;
 use crate::source::read_source;
+use check_core::stuck_report::{StuckEnd, stuck_report};
 use std::alloc::Global;
 use std::io::{Read, Write};
-use stuck_text::report::{StuckEnd, stuck_report};
 
 fn status_of_stuck(ended: StuckEnd) -> u8
     ensures { result ≡ stuck_status ended.end ended.lost }

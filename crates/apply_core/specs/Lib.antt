@@ -4,3 +4,11 @@ pub mod History
 pub mod HistoryLaws
 pub mod Replies
 pub mod Fits
+pub mod Pages
+pub mod Laws
+pub mod Slim
+pub mod Short
+pub mod There
+pub mod Entries
+pub mod Cuts
+pub mod Remade

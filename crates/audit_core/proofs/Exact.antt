@@ -18,7 +18,7 @@ use Rattle.audit_core.specs.Verdicts.{IsVerdict}
 use Rattle.decl_core.specs.ObjectForm.{ObjectForm}
 use Rattle.apply_core.specs.declared.reply.Reply.{Reply}
 use Rattle.apply_core.specs.History.{End as Ended, IsReplyOn, left_by, leads_to, IsLegal}
-use Rattle.trace_core.specs.Events.{Called, Happened, began, ended, trace_of, history_of, body_at}
+use Rattle.word_core.specs.Events.{Called, Happened, began, ended, trace_of, history_of, body_at}
 use Rattle.audit_core.specs.declared.verdict.Fault.{Fault}
 use Rattle.audit_core.specs.declared.verdict.Fault.TheVariants as faults
 use Rattle.audit_core.specs.Said.{an_object, a_part, a_start, an_end}

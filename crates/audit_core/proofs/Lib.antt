@@ -14,3 +14,11 @@ pub mod Once
 pub mod Replaying
 pub mod Written
 mod Reading
+pub mod EpochSaying
+pub mod Marks
+pub mod Paths
+pub mod EpochStanding
+pub mod EpochHearing
+pub mod Cutting
+pub mod EpochExact
+pub mod Carrying

@@ -5,7 +5,7 @@ use Rattle.std.specs.Str.Lines.{lines}
 use Rattle.path_tree.specs.Path.{Path}
 use Rattle.path_tree.specs.Trace.{Event, IsTrace}
 use Rattle.decl_core.specs.ObjectForm.{ObjectForm}
-use Rattle.trace_core.specs.Events.{Called, Happened, began, ended, trace_of, history_of}
+use Rattle.word_core.specs.Events.{Called, Happened, began, ended, trace_of, history_of}
 use Rattle.audit_core.specs.Counting.{RefusesFirst}
 use Rattle.audit_core.specs.Tells.{Heard, nothing_heard, IsOpened, Tells, Tell, object_told, part_told, start_told, end_told}
 use Rattle.audit_core.specs.declared.verdict.Fault.{Fault}

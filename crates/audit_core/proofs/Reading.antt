@@ -2,12 +2,12 @@
 use Rattle.std.proofs.Common.{◌≡◌, ℕ, List, [], ◌∷◌, sym, ap, ◌∙◌}
 use Rattle.std.specs.Prelude.{Some, option_map}
 use Rattle.value_core.specs.declared.datum.Datum.TheVariants.{Integer}
-use Rattle.line_core.specs.Words.{drop_spaces}
+use Rattle.text_core.specs.Words.{drop_spaces}
 use Rattle.word_core.specs.Words.{bare}
 use Rattle.word_core.specs.Data.{◌>>=◌, integer_of}
 use Rattle.word_core.specs.Ending.{done}
-use Rattle.line_read.specs.Reads.{Reads}
-use Rattle.line_read.proofs.Reading.{blank_words}
+use Rattle.word_core.specs.Reads.{Reads}
+use Rattle.word_core.proofs.Reading.{blank_words}
 use Rattle.audit_core.specs.Said.{reply_by}
 use Rattle.audit_core.specs.declared.told.ToldReply.TheVariants as told
 use Rattle.audit_core.specs.View.{told_view}

@@ -21,7 +21,7 @@ use Rattle.apply_core.specs.Replies.{ReplyTells}
 use Rattle.apply_core.specs.History.{IsReplyOn, left_by}
 use Rattle.apply_core.specs.declared.reply.Reply.{Reply}
 use Rattle.apply_core.specs.declared.reply.Reply.TheVariants.{Done, Refused, Failed}
-use Rattle.trace_core.specs.Events.{body_at}
+use Rattle.word_core.specs.Events.{body_at}
 use Rattle.audit_core.specs.declared.calls.Running.{Running}
 use Rattle.audit_core.specs.Replies.{IsAnswer, Did, IsDoneSo, CanDo, Tries}
 use Rattle.audit_core.proofs.Forms.{body_is, fit_elsewhere}

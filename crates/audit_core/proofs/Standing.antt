@@ -16,7 +16,7 @@ use Rattle.value_core.specs.Spelling.{SpellsInSome}
 use Rattle.decl_core.specs.ObjectForm.{ObjectForm}
 use Rattle.apply_core.specs.declared.reply.Reply.{Reply}
 use Rattle.apply_core.specs.History.{End as Ended, IsReplyOn, left_by, leads_to, IsLegal}
-use Rattle.trace_core.specs.Events.{Called, Happened, began, ended, call_of, trace_of, history_of, IsRunning, body_at}
+use Rattle.word_core.specs.Events.{Called, Happened, began, ended, call_of, trace_of, history_of, IsRunning, body_at}
 use Rattle.audit_core.specs.declared.state.Audit.{Audit}
 use Rattle.audit_core.specs.declared.calls.Running.{Running}
 use Rattle.audit_core.specs.Operations.{operation_names}

@@ -27,10 +27,10 @@ use Rattle.word_core.specs.Ending.{Ending, ending_words, ending_of, TellEnding}
 use Rattle.word_core.proofs.Written.{written_integer, written_session, written_datum}
 use Rattle.word_core.proofs.Endings.{ending_exact}
 use Rattle.word_core.proofs.Clear.{written_data}
-use Rattle.trace_core.specs.Events.{Called, Happened, began, ended, IsRunning}
-use Rattle.trace_core.specs.Laws.{HasNames, IsReply, IsTold, HaveWords}
-use Rattle.trace_core.specs.Text.{call_started, call_ended, event_words, reply_ending, object_words, part_words, parts_words, start_words, end_words, operation_name, told_of, trace_text}
-use Rattle.trace_core.proofs.Reading.{trace_is_read, part_is_read}
+use Rattle.word_core.specs.Events.{Called, Happened, began, ended, IsRunning}
+use Rattle.word_core.specs.TraceLaws.{HasNames, IsReply, IsTold, HaveWords}
+use Rattle.word_core.specs.Text.{call_started, call_ended, event_words, reply_ending, object_words, part_words, parts_words, start_words, end_words, operation_name, told_of, trace_text}
+use Rattle.word_core.proofs.TraceReading.{trace_is_read, part_is_read}
 use Rattle.audit_core.specs.Said.{Says, an_object, a_part, a_start, an_end, start_said, end_said, reply_by, refused_by, is_lower}
 use Rattle.audit_core.specs.Operations.{operation_names}
 use Rattle.audit_core.specs.Tells.{Heard, nothing_heard, IsObject, IsPart, IsStart, IsOpened, Tell, object_told, part_told, start_told, end_told}

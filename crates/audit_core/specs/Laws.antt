@@ -7,9 +7,9 @@ use Rattle.value_core.specs.Datum.{IsDatum, elem_of}
 use Rattle.value_core.specs.Contents.{Contents, kind_of, IsContents}
 use Rattle.decl_core.specs.ObjectForm.{ObjectForm}
 use Rattle.apply_core.specs.History.{IsLegal}
-use Rattle.trace_core.specs.Events.{Called, Happened, began, ended, trace_of, history_of, IsRunning, body_at}
-use Rattle.trace_core.specs.Laws.{HasNames, IsReply}
-use Rattle.trace_core.specs.Text.{operation_name, trace_text, told_of}
+use Rattle.word_core.specs.Events.{Called, Happened, began, ended, trace_of, history_of, IsRunning, body_at}
+use Rattle.word_core.specs.TraceLaws.{HasNames, IsReply}
+use Rattle.word_core.specs.Text.{operation_name, trace_text, told_of}
 use Rattle.audit_core.specs.Operations.{operation_names}
 use Rattle.audit_core.specs.Tells.{IsCallNumber, IsSession}
 use Rattle.audit_core.specs.declared.verdict.Verdict.{Verdict}

@@ -10,3 +10,13 @@ pub mod Calls
 pub mod Replies
 pub mod Stands
 pub mod Laws
+pub mod EpochSaid
+pub mod EpochView
+pub mod Steps
+pub mod Numbers
+pub mod Carried
+pub mod Counts
+pub mod EpochTells
+pub mod Sound
+pub mod EpochStands
+pub mod EpochLaws

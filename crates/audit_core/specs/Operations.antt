@@ -2,7 +2,7 @@
 use Rattle.std.specs.Prelude.{ℕ, List, map, slice_index_or}
 use Rattle.decl_core.specs.Form.{Body}
 use Rattle.decl_core.specs.ObjectForm.{OperationForm}
-use Rattle.trace_core.specs.Events.{form_body, no_body}
+use Rattle.word_core.specs.Events.{form_body, no_body}
 
 abbrev pub operation_names : List OperationForm → List (List ℕ)
 operation_names operations = map (λ o. o.name) operations

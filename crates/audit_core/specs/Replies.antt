@@ -12,7 +12,7 @@ use Rattle.apply_core.specs.Replies.{ReplyTells}
 use Rattle.apply_core.specs.declared.reply.Reply.{Reply}
 use Rattle.apply_core.specs.declared.reply.Reply.TheVariants.{Done, Refused, Failed}
 use Rattle.apply_core.specs.History.{IsReplyOn, left_by}
-use Rattle.trace_core.specs.Events.{body_at}
+use Rattle.word_core.specs.Events.{body_at}
 use Rattle.audit_core.specs.declared.calls.Running.{Running}
 
 -- a reply that is no failure

@@ -12,7 +12,7 @@ use Rattle.value_core.specs.Spelling.{SpellsInSome}
 use Rattle.decl_core.specs.ObjectForm.{ObjectForm}
 use Rattle.audit_core.specs.Operations.{operation_names}
 use Rattle.apply_core.specs.declared.reply.Reply.{Reply}
-use Rattle.trace_core.specs.Events.{Called, Happened, began, ended, trace_of, IsRunning, body_at}
+use Rattle.word_core.specs.Events.{Called, Happened, began, ended, trace_of, IsRunning, body_at}
 use Rattle.audit_core.specs.Said.{Says, an_object, a_part, a_start, an_end}
 
 -- a word is these bytes in lower-case hexadecimal

@@ -6,7 +6,7 @@ use Rattle.path_tree.specs.Satisfies.{SatisfiesAll}
 use Rattle.decl_core.specs.ObjectForm.{ObjectForm}
 use Rattle.apply_core.specs.declared.reply.Reply.{Reply}
 use Rattle.apply_core.specs.History.{IsLegal, IsReplyOn, leads_to}
-use Rattle.trace_core.specs.Events.{Called, began, ended, trace_of, history_of, IsRunning, body_at}
+use Rattle.word_core.specs.Events.{Called, began, ended, trace_of, history_of, IsRunning, body_at}
 use Rattle.audit_core.specs.Said.{Says, an_end}
 use Rattle.audit_core.specs.Counting.{RefusesFirst}
 use Rattle.audit_core.specs.Tells.{Heard, nothing_heard, IsOpened, IsCallNumber, Tells, Tell}

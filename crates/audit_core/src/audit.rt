@@ -6,10 +6,10 @@ ghost use Rattle.audit_core.specs.Verdicts.{IsVerdict, IsLegalTrace, verdict_for
 
 use crate::state::Audit;
 use crate::verdict::{Fault, Verdict};
+use decl_core::analyse::Accepted;
 use decl_core::object::Object;
-use exclude_core::analyse::Accepted;
-use line_core::next_line;
 use std::alloc::{AllocError, Global};
+use text_core::next_line;
 
 /// Reads a trace of an object, and tells whether it is legal, or its first fault.
 ///

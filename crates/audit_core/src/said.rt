@@ -4,15 +4,15 @@ ghost use Rattle.std.specs.Prelude.{IfOk};
 ghost use Rattle.audit_core.specs.Said.{object_said as object_in, part_said as part_in, part_behind};
 ghost use Rattle.audit_core.specs.Said.{start_said as start_in, start_behind, start_by as start_by_word};
 ghost use Rattle.audit_core.specs.Said.{start_of as start_of_words, end_said as end_in, end_behind, said_by as said_in};
-ghost use Rattle.line_read.specs.Reads.{Reads};
+ghost use Rattle.word_core.specs.Reads.{Reads};
 ghost use Rattle.audit_core.specs.View.{said_view, IsSaid};
 
 use crate::same::is_same_word;
 use crate::told::{ToldReply, read_reply};
-use line_read::arguments::data_of;
-use line_read::front::{next_bare, only_bare};
 use std::alloc::{AllocError, Global};
 use value_core::datum::Datum;
+use word_core::arguments::data_of;
+use word_core::front::{next_bare, only_bare};
 use word_core::number::{integer_of, session_of};
 
 /// What a line of a trace says.

@@ -10,16 +10,16 @@ ghost use Rattle.apply_core.specs.declared.reply.Reply.TheVariants.{Done};
 ghost use Rattle.audit_core.specs.Replies.{IsAnswer, IsFailure};
 ghost use Rattle.audit_core.specs.Said.{refused_by as refused_in, failed_by as failed_in, reply_of as reply_of_words};
 ghost use Rattle.audit_core.specs.Said.{reply_behind, is_lower as is_lower_letter, is_refusal_text as is_refusal_word};
-ghost use Rattle.line_read.specs.Reads.{Reads};
+ghost use Rattle.word_core.specs.Reads.{Reads};
 ghost use Rattle.audit_core.specs.Reads.{done_reply as done_in, text_reply as text_in};
 ghost use Rattle.audit_core.specs.View.{told_view};
 
 use crate::same::is_same_word;
 use apply_core::reply::{Failure, Reply};
-use line_read::front::{is_blank, next_bare, only_bare};
 use std::alloc::{AllocError, Global};
 use text_core::text::Text;
 use value_core::datum::Datum;
+use word_core::front::{is_blank, next_bare, only_bare};
 use word_core::next::{Next, next_word};
 use word_core::number::integer_of;
 use word_core::word::Word;

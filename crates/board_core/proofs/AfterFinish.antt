@@ -1,7 +1,7 @@
 -- What a finish publishes, and what it frees.
 use Rattle.std.proofs.Common.{ℕ, ◌⊎◌, inl, inr, List, [], ◌∷◌, ◌++◌, ◌∙◌, ap, arith, refl}
 use Rattle.std.specs.Prelude.{slice_get}
-use Rattle.hand_core.specs.declared.hand.Stamp.{Stamp}
+use Rattle.device_core.specs.declared.hand.Stamp.{Stamp}
 use Rattle.board_core.specs.Lists.{Every, Among}
 use Rattle.board_core.specs.Chain.{news_of}
 use Rattle.board_core.specs.Free.{HasFile, IsNeeded, Picks, no_more, needed, again, one_more}

@@ -13,15 +13,15 @@ use Rattle.decl_core.specs.Touched.{Reads}
 use Rattle.decl_core.specs.declared.object.Operation.{Operation}
 use Rattle.decl_core.specs.declared.object.Param.{Param}
 use Rattle.decl_core.proofs.Footprints.{writes_are_reads}
-use Rattle.hand_core.specs.Device.{Assignment}
+use Rattle.device_core.specs.Device.{Assignment}
 use Rattle.page_core.specs.PartPins.{PartPin}
 use Rattle.apply_core.specs.declared.reply.Failure.TheVariants as failures
 use Rattle.apply_core.specs.declared.reply.Reply.{Reply}
 use Rattle.apply_core.specs.declared.reply.Reply.TheVariants.{Done, Refused, Failed}
 use Rattle.apply_core.specs.Fits.{IsNamed}
-use Rattle.judge_core.specs.Given.{AreSpelled}
-use Rattle.call_core.specs.Calls.{call_of}
-use Rattle.call_core.specs.Truths.{IsTrueOf, IsTrueAt, AreLeft, PinHolds}
+use Rattle.run_core.specs.Given.{AreSpelled}
+use Rattle.run_core.specs.Calls.{call_of}
+use Rattle.run_core.specs.Truths.{IsTrueOf, IsTrueAt, AreLeft, PinHolds}
 use Rattle.run_core.specs.Outcomes.{if_done}
 use Rattle.board_core.specs.Free.{IsNeeded}
 use Rattle.board_core.specs.Sound.{IsPinned}

@@ -1,6 +1,6 @@
 -- What is needed, and what is picked.
 use Rattle.std.proofs.Common.{ℕ, inl, inr, false, List, [], ◌∷◌, ◌++◌, sym, ◌∙◌, subst}
-use Rattle.hand_core.specs.declared.hand.Stamp.{Stamp}
+use Rattle.device_core.specs.declared.hand.Stamp.{Stamp}
 use Rattle.board_core.specs.Lists.{Every}
 use Rattle.board_core.specs.Calls.{WaitingCall, RunningCall}
 use Rattle.board_core.specs.Board.{Board, Admits, rests, starts, started, read_pins}

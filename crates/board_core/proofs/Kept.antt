@@ -8,8 +8,8 @@ use Rattle.decl_core.specs.declared.object.Operation.{Operation}
 use Rattle.decl_core.specs.Bodies.{body_of}
 use Rattle.decl_core.specs.Footprint.{reads_of}
 use Rattle.decl_core.specs.Touched.{Reads}
-use Rattle.decl_core.proofs.Touched.{reads_bits}
-use Rattle.hand_core.specs.declared.hand.Stamp.{Stamp}
+use Rattle.decl_core.proofs.DeclTouched.{reads_bits}
+use Rattle.device_core.specs.declared.hand.Stamp.{Stamp}
 use Rattle.page_core.specs.PartPins.{PartPin, put_if, pins_in, pin_at}
 use Rattle.board_core.specs.Board.{read_pins}
 

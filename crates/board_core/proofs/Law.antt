@@ -21,19 +21,19 @@ use Rattle.decl_core.specs.Meaning.{apply_body, refused}
 use Rattle.decl_core.specs.Touched.{Reads, Writes}
 use Rattle.decl_core.specs.Typed.{IsHeld}
 use Rattle.decl_core.proofs.Footprints.{apply_is_local, others_stay, writes_are_reads}
-use Rattle.decl_core.proofs.Touched.{reads_bits}
-use Rattle.hand_core.specs.declared.hand.Stamp.{Stamp}
-use Rattle.hand_core.specs.Device.{Assignment}
+use Rattle.decl_core.proofs.DeclTouched.{reads_bits}
+use Rattle.device_core.specs.declared.hand.Stamp.{Stamp}
+use Rattle.device_core.specs.Device.{Assignment}
 use Rattle.page_core.specs.Bytes.{list_bytes}
 use Rattle.page_core.specs.PartPins.{PartPin, pin_at}
 use Rattle.apply_core.specs.declared.reply.Reply.{Reply}
 use Rattle.apply_core.specs.declared.reply.Reply.TheVariants.{Done, Refused, Failed}
 use Rattle.apply_core.specs.Fits.{IsNamed}
 use Rattle.apply_core.specs.History.{IsReplyOn, left_by}
-use Rattle.judge_core.specs.Given.{AreSpelled}
+use Rattle.run_core.specs.Given.{AreSpelled}
 use Rattle.run_core.specs.Outcomes.{if_done}
-use Rattle.call_core.specs.Calls.{Call, call_of}
-use Rattle.call_core.specs.Truths.{PinHolds, IsLeft, IsTrueAt, IsPinWhole, PinsAreWhole}
+use Rattle.run_core.specs.Calls.{Call, call_of}
+use Rattle.run_core.specs.Truths.{PinHolds, IsLeft, IsTrueAt, IsPinWhole, PinsAreWhole}
 use Rattle.apply_core.proofs.HeldReads.{reads_held}
 use Rattle.apply_core.proofs.Histories.{refused_leaves}
 use Rattle.page_core.proofs.ListBytes.{some_same}

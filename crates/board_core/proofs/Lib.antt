@@ -11,3 +11,13 @@ pub mod Kept
 pub mod Picking
 pub mod Sending
 pub mod AfterFinish
+pub mod Items
+pub mod Keys
+pub mod Resumed
+pub mod Indexing
+pub mod KeySending
+pub mod Fronts
+pub mod Queueing
+pub mod Rows
+pub mod QueueSending
+pub mod Keying

@@ -3,7 +3,7 @@ use Rattle.std.proofs.Common.{◌≡◌, ℕ, zero, suc, ◌+◌, ◌<◌, ◌�
 use Rattle.std.proofs.lemmas.List.{take_all, take_at, drop_at}
 use Rattle.std.specs.Prelude.{slice_get}
 use Rattle.page_core.proofs.ListBytes.{some_same}
-use Rattle.hand_core.specs.declared.hand.Stamp.{Stamp}
+use Rattle.device_core.specs.declared.hand.Stamp.{Stamp}
 use Rattle.board_core.specs.Free.{HasFile, Picks, no_more, needed, again, one_more}
 
 -- what stands at a place, and behind it

@@ -14,9 +14,9 @@ use Rattle.decl_core.specs.Bodies.{body_of}
 use Rattle.decl_core.specs.ObjectMap.{object_of}
 use Rattle.decl_core.specs.ObjectMap.{operation_of}
 use Rattle.decl_core.specs.Touched.{Writes, ConflictAt}
-use Rattle.exclude_core.specs.Exclusive.{IsExclusive, AreSeparated}
-use Rattle.exclude_core.proofs.NeverMeet.{separated_never_meet}
-use Rattle.hand_core.specs.declared.hand.Stamp.{Stamp}
+use Rattle.decl_core.specs.Exclusive.{IsExclusive, AreSeparated}
+use Rattle.decl_core.proofs.NeverMeet.{separated_never_meet}
+use Rattle.device_core.specs.declared.hand.Stamp.{Stamp}
 use Rattle.page_core.specs.PartPins.{PartPin, pin_at}
 use Rattle.apply_core.specs.declared.reply.Reply.{Reply}
 use Rattle.run_core.specs.Outcomes.{if_done}

@@ -10,7 +10,7 @@ use Rattle.decl_core.specs.declared.object.Operation.{Operation}
 use Rattle.decl_core.specs.Bodies.{body_of}
 use Rattle.decl_core.specs.Footprint.{reads_of}
 use Rattle.decl_core.specs.ObjectMap.{object_of}
-use Rattle.hand_core.specs.declared.hand.Stamp.{Stamp}
+use Rattle.device_core.specs.declared.hand.Stamp.{Stamp}
 use Rattle.apply_core.specs.declared.reply.Reply.{Reply}
 use Rattle.page_core.specs.PartPins.{PartPin, pins_in}
 use Rattle.run_core.specs.Outcomes.{if_done}

@@ -6,13 +6,13 @@ use Rattle.value_core.specs.Spelling.{Spells}
 use Rattle.decl_core.specs.declared.object.Operation.{Operation}
 use Rattle.decl_core.specs.Bodies.{body_of}
 use Rattle.decl_core.specs.Touched.{Reads, Writes}
-use Rattle.hand_core.specs.declared.hand.Stamp.{Stamp}
-use Rattle.hand_core.specs.Device.{Assignment}
+use Rattle.device_core.specs.declared.hand.Stamp.{Stamp}
+use Rattle.device_core.specs.Device.{Assignment}
 use Rattle.page_core.specs.Bytes.{list_bytes, AreWhole}
 use Rattle.page_core.specs.PartPins.{PartPin, pin_at}
 use Rattle.apply_core.specs.Fits.{IsNamed}
-use Rattle.call_core.specs.Calls.{call_of}
-use Rattle.call_core.specs.Truths.{IsTrueOf}
+use Rattle.run_core.specs.Calls.{call_of}
+use Rattle.run_core.specs.Truths.{IsTrueOf}
 use Rattle.apply_core.specs.History.{End, IsLegal, leads_to}
 use Rattle.run_core.specs.Outcomes.{if_done}
 use Rattle.board_core.specs.Calls.{Noted}

@@ -7,3 +7,11 @@ pub mod Free
 pub mod Sound
 pub mod Outcomes
 pub mod Laws
+pub mod Keys
+pub mod Index
+pub mod Open
+pub mod Starts
+pub mod Queue
+pub mod Answers
+pub mod Keyed
+pub mod KeyedLaws

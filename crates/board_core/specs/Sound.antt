@@ -12,8 +12,8 @@ use Rattle.decl_core.specs.Bodies.{body_of}
 use Rattle.decl_core.specs.ObjectMap.{object_of}
 use Rattle.decl_core.specs.ObjectMap.{operation_of}
 use Rattle.decl_core.specs.Touched.{Reads}
-use Rattle.exclude_core.specs.Exclusive.{IsExclusive}
-use Rattle.hand_core.specs.declared.hand.Stamp.{Stamp}
+use Rattle.decl_core.specs.Exclusive.{IsExclusive}
+use Rattle.device_core.specs.declared.hand.Stamp.{Stamp}
 use Rattle.page_core.specs.PartPins.{pin_at}
 use Rattle.apply_core.specs.Fits.{ArgumentsFit}
 use Rattle.apply_core.specs.declared.reply.Reply.{Reply}

@@ -1,7 +1,7 @@
 -- What admission makes of a board, all at once.
 use Rattle.std.specs.Prelude.{◌≡◌, ℕ, Bool, false, not, ◌==◌, List, ◌++◌, map, filter}
 use Rattle.std.specs.List.{list_any}
-use Rattle.hand_core.specs.declared.hand.Stamp.{Stamp}
+use Rattle.device_core.specs.declared.hand.Stamp.{Stamp}
 use Rattle.board_core.specs.declared.event.TraceEvent.TheVariants.{Start}
 use Rattle.board_core.specs.Calls.{WaitingCall, RunningCall}
 use Rattle.board_core.specs.Board.{Board, Admits, read_pins}

@@ -3,9 +3,9 @@
 ghost use Rattle.std.specs.Prelude.{◌≡◌};
 ghost use Rattle.std.specs.Arc.{arc_value};
 
+use apply_core::slim::Slims;
 use decl_core::object::Operation;
 use path_tree::node::OpId;
-use short_core::slim::Slims;
 use std::alloc::Global;
 use std::marker::Model;
 use std::sync::Arc;

@@ -10,11 +10,11 @@ use crate::call::Call;
 use crate::receipt::NotedOutcome;
 use crate::same::is_none;
 use apply_core::reply::Reply;
+use apply_core::short::Short;
+use apply_core::slim::Slims;
 use decl_core::object::Operation;
 use decl_core::same::same_declaration;
 use page_core::part_pins::PartPins;
-use short_core::short::Short;
-use short_core::slim::Slims;
 use std::marker::Model;
 use std::sync::Arc;
 

@@ -1,10 +1,10 @@
 //! What a receipt frees, picked where it stands.
 
 ghost use Rattle.std.specs.Prelude.{◌≡◌, ◌↔◌, ◌<◌, ◌≤◌, ◌⊎◌, [], ◌∷◌, IsTrue, length, take, drop, List};
-ghost use Rattle.hand_core.specs.declared.hand.Stamp.{Stamp as AStamp};
+ghost use Rattle.device_core.specs.declared.hand.Stamp.{Stamp as AStamp};
 ghost use Rattle.board_core.specs.Free.{HasFile, IsIn, Picks};
 
-use hand_core::hand::Stamp;
+use device_core::hand::Stamp;
 use page_core::page_list::PageList;
 use page_core::pins::Pins;
 

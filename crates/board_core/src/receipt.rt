@@ -6,7 +6,7 @@ ghost use Rattle.run_core.specs.Outcomes.{outcome_call, outcome_reply, outcome_p
 
 use apply_core::reply::Reply;
 use decl_core::object::Operation;
-use hand_core::hand::Stamp;
+use device_core::hand::Stamp;
 use page_core::part_pins::PartPins;
 use run_core::outcome::Outcome;
 use std::sync::Arc;

@@ -13,7 +13,7 @@ use Rattle.body_read.specs.Statements.{IsStmts}
 use Rattle.decl_core.specs.Typed.{IsHeld, HoldsSort, IsTableAt, IsQueueAt, FromTyped, IntegersTyped, TextsTyped, FormTyped, ConditionTyped, StatementTyped, StatementsTyped}
 use Rattle.body_read.specs.DeclaredTypes.{all_known, known_of}
 use Rattle.decl_core.specs.Touched.{FromNames, IntegersName, TextsName, FormNames, ConditionNames, StatementNames, Reads}
-use Rattle.decl_core.proofs.Touched.{Has, reads_bits}
+use Rattle.decl_core.proofs.DeclTouched.{Has, reads_bits}
 use Rattle.body_read.proofs.Typing.{whole_typed}
 
 -- a part that is named is known

@@ -1,1 +1,9 @@
 pub mod Reports
+pub mod Runs
+pub mod Said
+pub mod HeldReports
+pub mod HeldLine
+pub mod Heads
+pub mod Looking
+pub mod Judging
+pub mod Sorting

@@ -1,2 +1,12 @@
 pub mod Report
 pub mod CheckFaults
+pub mod Lines
+pub mod StuckReport
+pub mod HoldLines
+pub mod HeldReport
+pub mod HeldTold
+pub mod Named
+pub mod Opening
+pub mod View
+pub mod Judging
+pub mod SourceView

@@ -6,17 +6,17 @@ use Rattle.path_tree.specs.declared.lex.fault.LexFault.{LexFault}
 use Rattle.path_tree.specs.declared.lex.fault.LexFault.TheVariants as lex_faults
 use Rattle.path_tree.specs.declared.path_fault.PathFault.TheVariants as path_faults
 use Rattle.path_tree.specs.Tokens.{IsFirstFault}
-use Rattle.line_core.specs.Reply.{fault_text}
+use Rattle.text_core.specs.Reply.{fault_text}
 use Rattle.decl_read.specs.declared.fault.DeclFault.{DeclFault}
 use Rattle.decl_read.specs.declared.fault.DeclFault.TheVariants as faults
 use Rattle.decl_read.specs.DeclFaults.{fault_number, fault_name, fault_place}
 use Rattle.decl_core.specs.ObjectForm.{OperationForm, ObjectForm}
 use Rattle.decl_read.specs.Sources.{AreObjectsOf, lex_fault_told}
-use Rattle.exclude_core.specs.declared.certificate.Entry.{Entry}
+use Rattle.decl_core.specs.declared.certificate.Entry.{Entry}
 use Rattle.check_core.specs.declared.report.CheckEnd.{CheckEnd}
 use Rattle.check_core.specs.declared.report.CheckEnd.TheVariants as ends
-use Rattle.exclude_core.specs.Exclusive.{IsExclusive, IsFirstUnseparated}
-use Rattle.exclude_core.specs.Certificate.{IsFirstCertificate}
+use Rattle.decl_core.specs.Exclusive.{IsExclusive, IsFirstUnseparated}
+use Rattle.decl_core.specs.Certificate.{IsFirstCertificate}
 
 -- the name of the operation of this number
 abbrev pub operation_name : Option OperationForm → List ℕ

@@ -6,29 +6,29 @@ ghost use Rattle.std.specs.Map.{values_of};
 ghost use Rattle.decl_core.specs.ObjectForm.{ObjectForm};
 ghost use Rattle.decl_read.specs.Sources.{AreObjectsOf};
 ghost use Rattle.decl_core.specs.ObjectMap.{object_of, objects_of};
-ghost use Rattle.exclude_core.specs.Certificate.{IsFirstCertificate};
+ghost use Rattle.decl_core.specs.Certificate.{IsFirstCertificate};
 ghost use Rattle.check_core.specs.CheckFaults.{fault_number, fault_name};
-ghost use Rattle.exclude_core.specs.Exclusive.{IsExclusive};
-ghost use Rattle.exclude_core.specs.Refusals.{IsWhy};
+ghost use Rattle.decl_core.specs.Exclusive.{IsExclusive};
+ghost use Rattle.decl_core.specs.Refusals.{IsWhy};
 ghost use Rattle.check_core.specs.Report.{AreReported, IsCheck, IsReported, IsWantOfMemory, accepted_lines, count_line};
 ghost use Rattle.check_core.specs.Report.{fault_line, refused_line};
-ghost use Rattle.exclude_core.specs.declared.certificate.Entry.{Entry};
+ghost use Rattle.decl_core.specs.declared.certificate.Entry.{Entry};
 ghost use Rattle.check_core.specs.declared.report.CheckEnd.TheVariants.{Counted, Faulty};
 ghost use Rattle.check_core.specs.declared.report.CheckFault.TheVariants.{WriteFault, Memory};
 
 use crate::text::{fault_word, part_name, push_entries, push_pair, push_said};
+use decl_core::analyse::{Accepted, Refusal, Refused, analyse};
 use decl_core::object::Object;
 use decl_read::fault::DeclFault;
 use decl_read::read::read_objects;
-use exclude_core::analyse::{Accepted, Refusal, Refused, analyse};
 use indexmap::IndexMap;
-use line_core::reply::{push_fault, push_number};
-use line_core::write_whole;
 use path_tree::lex::fault::LexFault;
 use path_tree::name::Name;
 use path_tree::path_fault::PathFault;
 use std::alloc::{AllocError, Global};
 use std::io::Write;
+use text_core::reply::{push_fault, push_number};
+use text_core::write_whole;
 use thiserror::Error;
 
 /// How a check ended.

@@ -4,11 +4,11 @@ ghost use Rattle.std.specs.Prelude.{◌≡◌, ◌++◌, OnOk, codes, slice_get}
 ghost use Rattle.decl_core.specs.ObjectMap.{object_of};
 ghost use Rattle.check_core.specs.Report.{fault_word, operation_name, pair_line, pair_lines, pair_text, part_name};
 
+use decl_core::certificate::Entry;
 use decl_core::object::Object;
 use decl_read::fault::DeclFault;
-use exclude_core::certificate::Entry;
-use line_core::reply::push_number;
 use std::alloc::AllocError;
+use text_core::reply::push_number;
 
 // The name of an operation of an object.
 fn operation_name(object: &Object, place: usize) -> &[u8]

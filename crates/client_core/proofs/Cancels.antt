@@ -5,8 +5,8 @@ use Rattle.std.specs.Borrow.{Bor}
 use Rattle.std.specs.Str.{bytes_eq}
 use Rattle.word_core.specs.Words.{Word, bare, IsFirst, AreWords}
 use Rattle.word_core.specs.Data.{◌>>=◌, bare_of, only_bare}
-use Rattle.line_read.specs.Reads.{HasWords, Reads}
-use Rattle.line_read.proofs.Reading.{behind}
+use Rattle.word_core.specs.Reads.{HasWords, Reads}
+use Rattle.word_core.proofs.Reading.{behind}
 use Rattle.client_core.specs.Numbers.{long_of, only_long, cancel_in}
 
 same : (found : Option ℕ) → option_map (λ (n : ℕ). n) found ≡ found

@@ -3,8 +3,8 @@ use Rattle.std.proofs.Common.{◌≡◌, ℕ, List, refl, sym, ap}
 use Rattle.std.specs.Prelude.{Option, Some, None, option_map}
 use Rattle.word_core.specs.Words.{Word, bare, IsFirst, AreWords}
 use Rattle.word_core.specs.Data.{◌>>=◌, bare_of}
-use Rattle.line_read.specs.Reads.{Reads}
-use Rattle.line_read.proofs.Reading.{behind}
+use Rattle.word_core.specs.Reads.{Reads}
+use Rattle.word_core.proofs.Reading.{behind}
 use Rattle.client_core.specs.declared.ask.Sight.{Sight}
 use Rattle.client_core.specs.declared.ask.Sight.TheVariants as insides
 use Rattle.client_core.specs.Inside.{why_behind, inside_by, inside_in}

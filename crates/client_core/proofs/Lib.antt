@@ -1,3 +1,8 @@
 pub mod Cancels
 pub mod Insides
 pub mod Numerals
+pub mod Cancelling
+pub mod Doing
+pub mod Holding
+pub mod Moving
+pub mod Turning

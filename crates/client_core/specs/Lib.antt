@@ -4,3 +4,13 @@ pub mod Inside
 pub mod Numbers
 pub mod People
 pub mod Places
+pub mod Asked
+pub mod Custody
+pub mod Deeds
+pub mod Given
+pub mod Gone
+pub mod ToldInside
+pub mod Laws
+pub mod Moves
+pub mod State
+pub mod Turns

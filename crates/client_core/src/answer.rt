@@ -4,16 +4,16 @@
 //! is not said.
 
 ghost use Rattle.std.specs.Prelude.{◌≡◌, ◌++◌, OnOk};
-ghost use Rattle.script_text.specs.Answers as answers;
+ghost use Rattle.word_core.specs.Answers as answers;
 ghost use Rattle.session_text.specs.Lines as lines;
 
 use apply_core::reply::Reply;
-use ask_core::answer::Cancelled;
+use board_core::answer::Cancelled;
 use path_tree::name::Name;
 use std::alloc::AllocError;
-use trace_core::reply::reply_ending;
 use word_core::ending::push_finish;
 use word_core::line::push_line;
+use word_core::reply::reply_ending;
 use word_core::word::Written;
 
 /// Adds `accepted N`.

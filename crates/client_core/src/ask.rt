@@ -1,7 +1,7 @@
 //! What a line of a client asks for.
 
 ghost use Rattle.std.specs.Prelude.{◌≡◌, true, IfOk, IfSome};
-ghost use Rattle.line_read.specs.Reads.{Reads};
+ghost use Rattle.word_core.specs.Reads.{Reads};
 ghost use Rattle.session_text.specs.declared.line.Refusal.TheVariants as refusals;
 ghost use Rattle.session_text.specs.declared.session.Action.TheVariants as actions;
 ghost use Rattle.client_core.specs.Asks.{TableDoes, asked_by, IsKeyed, IsLongCancel, IsWide, Asks};
@@ -11,14 +11,14 @@ ghost use Rattle.client_core.specs.Inside.{inside_in, inside_by, why_behind, who
 ghost use Rattle.client_core.specs.Numbers.{only_long, cancel_in};
 
 use crate::number::number_of;
-use line_core::words::is_same_word;
-use line_read::arguments::data_of;
-use line_read::front::{is_blank, next_bare, only_bare};
 use path_tree::name::Name;
 use session_text::line::Refusal;
 use session_text::session::{Action, Session};
 use std::alloc::{AllocError, Global};
+use text_core::words::is_same_word;
 use value_core::datum::Datum;
+use word_core::arguments::data_of;
+use word_core::front::{is_blank, next_bare, only_bare};
 
 /// What a line asks to see, which changes nothing.
 #[derive(Clone, Copy)]

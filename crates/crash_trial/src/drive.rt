@@ -1,23 +1,23 @@
 //! Plays the lines of a scenario on a kept object over a journal.
 
-ghost use Rattle.journal_core.specs.Journal.{AreLines};
-ghost use Rattle.journal_core.specs.Order.{IsInOrder};
+ghost use Rattle.post_core.specs.Journal.{AreLines};
+ghost use Rattle.post_core.specs.Order.{IsInOrder};
 ghost use Rattle.std.specs.Prelude.{◌≡◌, ◌≢◌, ◌<◌, ◌+◌, ◌^◌, [], length, true, IfOk, IfSome, OnOk};
 
 use decl_core::object::Object;
-use front_core::source::source_of;
 use guest_core::guests::Guests;
 use hosted_core::hosted::{Begun, Hosted};
-use journal_core::device::Device;
-use journal_core::journal::{Journal, recovered_are_lines, recovered_len};
-use line_read::arguments::data_of;
-use line_read::front::next_bare;
 use live_core::call::Limits;
 use live_core::live::Live;
+use live_core::source::source_of;
 use path_tree::name::Name;
+use post_core::device::Device;
+use post_core::journal::{Journal, recovered_are_lines, recovered_len};
 use std::alloc::{AllocError, AllocFailed, Global};
 use value_core::datum::Datum;
 use value_core::value::Value;
+use word_core::arguments::data_of;
+use word_core::front::next_bare;
 use word_core::number::session_of;
 
 /// Sessions of a scenario have the numbers from 1 to this one, and so many calls wait at most.

@@ -6,9 +6,9 @@ ghost use Rattle.crash_trial.specs.Standings.{Follows, StandsBehind, IsFrontOf, 
 use crate::crash::{How, crash};
 use crate::device::Happened;
 use decl_core::object::Object;
-use journal_core::journal::recovered_len;
+use post_core::journal::recovered_len;
 use recover_core::recover::{House, Recovered};
-use recover_text::recover::recover;
+use recover_core::text_recover::recover;
 use std::alloc::{AllocError, Global};
 
 /// What stands in a journal behind some calls.

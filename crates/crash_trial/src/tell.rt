@@ -1,11 +1,11 @@
 //! What is told of a state that was recovered.
 
+use audit_core::epoch_replay::Played;
 use decl_core::object::Object;
-use front_core::source::source_of;
 use hosted_core::start::{Ended, begin_again};
 use live_core::call::Limits;
+use live_core::source::source_of;
 use recover_core::recover::Recovered;
-use replay_core::replay::Played;
 use std::alloc::{AllocError, Global};
 
 /// The front with which an object goes on behind what was recovered. `None`: it cannot. The error is that memory was

@@ -5,12 +5,12 @@ use crate::device::{Happened, Kept};
 use crate::drive::{Asked as Call, Drive, LIMITS, Stop, cut_line};
 use crate::judge::{Outcome, follow, judge, standing_behind};
 use crate::tell::front_behind;
+use check_core::open::{Opened, open_script};
 use decl_core::object::Object;
-use line_core::write_whole;
 use recover_core::recover::{House, Recovered};
-use script_open::open::{Opened, open_script};
 use std::alloc::{AllocError, AllocFailed, Global};
 use std::io::Write;
+use text_core::write_whole;
 
 /// What is tried.
 #[derive(Drop)]

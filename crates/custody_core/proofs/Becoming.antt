@@ -4,13 +4,13 @@ use Rattle.std.specs.Prelude.{All, Bool, eqb, leb, not, true, false, Option, Som
 use Rattle.std.proofs.lemmas.Bool.Decides.{eqb_tells, leb_tells}
 use Rattle.std.proofs.lemmas.Option.{slice_get-get_or, slice_get_past, slice_get_read, slice_get_within}
 use Rattle.hosted_core.specs.Scene.{Scene}
-use Rattle.gone_core.specs.Holding.{Holding, HoldsSome, IsDueOf, NothingIsDueOf}
+use Rattle.custody_core.specs.Holding.{Holding, HoldsSome, IsDueOf, NothingIsDueOf}
 use Rattle.std.specs.declared.alloc.AllocError.{AllocError}
 use Rattle.decl_core.specs.ObjectForm.{ObjectForm}
-use Rattle.hold_form.specs.HoldForm.{EveryForm}
-use Rattle.gone_core.specs.declared.holding.OwedCall.{OwedCall}
-use Rattle.gone_core.specs.declared.ticking.Ticking.{Ticking}
-use Rattle.told_core.specs.Custody.{Custody, HasNone}
+use Rattle.decl_core.specs.HoldForm.{EveryForm}
+use Rattle.custody_core.specs.declared.holding.OwedCall.{OwedCall}
+use Rattle.custody_core.specs.declared.ticking.Ticking.{Ticking}
+use Rattle.client_core.specs.Custody.{Custody, HasNone}
 use Rattle.custody_core.specs.Views.{custody_of, custodies_of}
 use Rattle.custody_core.specs.declared.all.DueCall.{DueCall}
 use Rattle.custody_core.proofs.Placing.{some_at}

@@ -5,14 +5,14 @@ use Rattle.session_text.specs.declared.line.Refusal.TheVariants.{Full, InUse}
 use Rattle.decl_core.specs.ObjectForm.{ObjectForm}
 use Rattle.live_core.specs.declared.call.Ran.{Ran}
 use Rattle.hosted_core.specs.Scene.{Scene}
-use Rattle.told_core.specs.Custody.{as_told}
-use Rattle.gone_core.specs.declared.holder.Holder.{Holder}
-use Rattle.gone_core.specs.declared.holder.WhenDue.TheVariants as whens
-use Rattle.gone_core.specs.declared.ticking.Ticking.{Ticking}
-use Rattle.gone_core.specs.Gone.{Each, due_then, later, without}
-use Rattle.gone_core.specs.declared.holding.OwedCall.{OwedCall}
-use Rattle.gone_core.specs.Holding.{Holding, Ends, IsBusy, IsCrowded, IsDueOf, LooksAt, NothingIsDueOf, with_gone, with_ticking}
-use Rattle.gone_core.specs.Ticks.{ChangesAt, IsFirstDue, seated_by, ticked, unticked}
+use Rattle.client_core.specs.Custody.{as_told}
+use Rattle.custody_core.specs.declared.holder.Holder.{Holder}
+use Rattle.custody_core.specs.declared.holder.WhenDue.TheVariants as whens
+use Rattle.custody_core.specs.declared.ticking.Ticking.{Ticking}
+use Rattle.custody_core.specs.Gone.{Each, due_then, later, without}
+use Rattle.custody_core.specs.declared.holding.OwedCall.{OwedCall}
+use Rattle.custody_core.specs.Holding.{Holding, Ends, IsBusy, IsCrowded, IsDueOf, LooksAt, NothingIsDueOf, with_gone, with_ticking}
+use Rattle.custody_core.specs.Ticks.{ChangesAt, IsFirstDue, seated_by, ticked, unticked}
 use Rattle.custody_core.specs.declared.all.DueCall.{DueCall}
 use Rattle.custody_core.specs.declared.all.DueCall.TheVariants.{Gone, Tick}
 use Rattle.custody_core.specs.declared.one.HoldNote.{HoldNote}

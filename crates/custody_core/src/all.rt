@@ -3,25 +3,25 @@
 ghost use Rattle.std.specs.Prelude.{◌≡◌, ◌++◌, ◌∷◌, [], All, true, false, Some, OnOk, IfOk, IfSome, MatchOption, slice_get};
 ghost use Rattle.decl_core.specs.ObjectMap.{object_of};
 ghost use Rattle.hosted_core.specs.Scene.{Scene};
-ghost use Rattle.hold_form.specs.HoldForm.{EveryForm};
-ghost use Rattle.hold_form.specs.HoldMap.{holds_of};
-ghost use Rattle.told_core.specs.Custody.{Custody, IsOwed, MayMake, FollowsIn, IsFreeOf, HasNone, HasSome, holds_by, held_by, held_lines_in};
-ghost use Rattle.gone_core.specs.Holding.{Holding as AHolding, Goes, HoldsSome};
+ghost use Rattle.decl_core.specs.HoldForm.{EveryForm};
+ghost use Rattle.decl_core.specs.HoldMap.{holds_of};
+ghost use Rattle.client_core.specs.Custody.{Custody, IsOwed, MayMake, FollowsIn, IsFreeOf, HasNone, HasSome, holds_by, held_by, held_lines_in};
+ghost use Rattle.custody_core.specs.Holding.{Holding as AHolding, Goes, HoldsSome};
 ghost use Rattle.custody_core.specs.Due.{Becomes, EndsAll, IsDueThere, IsFirst, IsUndone, IsUnwelcome, Looks, LooksAll, NothingIsDue, Notes, object_due, tick_of};
 ghost use Rattle.custody_core.specs.Views.{custodies_of};
 
+use crate::holder::Holder;
+use crate::holding::{Holding, OwedCall};
 use crate::one::{HoldNote, all_ended, leaves_one, look_one, note_one, unwelcome};
+use crate::ticking::Ticking;
+use decl_core::hold::Hold;
 use decl_core::object::Object;
-use gone_core::holder::Holder;
-use gone_core::holding::{Holding, OwedCall};
-use gone_core::ticking::Ticking;
-use hold_core::held::HeldCall;
-use hold_form::hold::Hold;
-use hold_front::lines::push_held;
+use guest_core::held::HeldCall;
 use hosted_core::hosted::Hosted;
 use live_core::call::Ran;
 use path_tree::name::Name;
 use path_tree::node::OpId;
+use recover_core::hold_lines::push_held;
 use session_text::line::Refusal;
 use std::alloc::{AllocError, Global};
 use std::marker::Model;
@@ -35,8 +35,8 @@ pub struct AllHeld {
 
 impl Model for AllHeld {
     ghost use Rattle.std.specs.Prelude.{List};
-    ghost use Rattle.gone_core.specs.Holding.{Holding as AHolding};
-    ghost use Rattle.gone_core.specs.contracts.holding.Holding as holding;
+    ghost use Rattle.custody_core.specs.Holding.{Holding as AHolding};
+    ghost use Rattle.custody_core.specs.contracts.holding.Holding as holding;
     ghost use Rattle.custody_core.specs.Views.{all_of};
     ghost use Rattle.std.specs.Coded.{codes};
 

@@ -17,3 +17,13 @@ pub mod Touched
 pub mod FootprintLaws
 pub mod KindLaws
 pub mod SumRows
+pub mod HoldForm
+pub mod HoldMap
+pub mod Separates
+pub mod Laws
+pub mod Search
+pub mod Exclusive
+pub mod Certificate
+pub mod Refusals
+pub mod Rest
+pub mod CertificateLaws

@@ -5,7 +5,7 @@ use Rattle.std.proofs.lemmas.Bool.{eq-eqb}
 use Rattle.board_core.specs.Lists.{Among}
 use Rattle.board_core.specs.Calls.{WaitingCall, RunningCall}
 use Rattle.board_core.specs.Board.{Board}
-use Rattle.ask_core.specs.Answers.{is_busy}
+use Rattle.board_core.specs.Answers.{is_busy}
 use Rattle.board_core.specs.Sound.{IsOpen}
 use Rattle.board_core.proofs.Traces.{true_false}
 

@@ -8,3 +8,4 @@ pub mod Sending
 pub mod Publishing
 pub mod Sessions
 pub mod Naming
+pub mod Looked

@@ -6,7 +6,7 @@ use Rattle.decl_core.specs.declared.object.Operation.{Operation}
 use Rattle.board_core.specs.Lists.{Every}
 use Rattle.board_core.specs.Board.{bodies}
 use Rattle.board_core.specs.Sound.{IsFirstNamed}
-use Rattle.ask_core.specs.Answers.{HasName, IsNamedAt}
+use Rattle.board_core.specs.Answers.{HasName, IsNamedAt}
 use Rattle.board_core.proofs.Lists.{Every-map}
 
 -- none before an operation that is the first to have a name that was asked for has the operation's own name

@@ -11,7 +11,7 @@ use Rattle.board_core.proofs.Lists.{Every-map, Every-snoc}
 use Rattle.board_core.specs.Board.{Board}
 use Rattle.board_core.specs.Sound.{IsSound, IsNoted}
 use Rattle.board_core.proofs.Sound.{call_number}
-use Rattle.key_core.proofs.Items.{get_more, get_set, get_front, get_last}
+use Rattle.board_core.proofs.Items.{get_more, get_set, get_front, get_last}
 use Rattle.desk_core.specs.Kept.{IsPlaceOf, ArePlaces}
 
 none_at : (k place : ℕ) → slice_get [] k ≡ Some place → ⊥

@@ -2,7 +2,7 @@
 use Rattle.std.proofs.Common.{ℕ, ◌<◌, ◌≤◌, inl, inr, arith}
 use Rattle.std.proofs.lemmas.Bool.{cases_lt}
 use Rattle.board_core.specs.Board.{Board}
-use Rattle.ask_core.specs.Answers.{IsGone}
+use Rattle.board_core.specs.Answers.{IsGone}
 
 -- a session that is there has a number from 1 to 1,024
 pub session_there : (b : Board) (session : ℕ) → (IsGone b session → ⊥) → (0 < session) × (session ≤ 1024)

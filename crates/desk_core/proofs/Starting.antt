@@ -13,7 +13,7 @@ use Rattle.decl_core.specs.ObjectMap.{operations_of}
 use Rattle.board_core.specs.Lists.{Every, EachPair, Among}
 use Rattle.board_core.specs.Calls.{WaitingCall, RunningCall}
 use Rattle.board_core.specs.Board.{Board, paths_of, past_of, IsNext, Rests, started, read_pins}
-use Rattle.queue_core.specs.Starts.{CanStart, IsFirst}
+use Rattle.board_core.specs.Starts.{CanStart, IsFirst}
 use Rattle.board_core.specs.Sound.{IsSound, IsMadeOf, IsWaitingIn, IsRunningIn, IsPinned, HasItsPins, kinds_of}
 use Rattle.decl_core.specs.declared.object.Part.{Part}
 use Rattle.decl_core.specs.Bodies.{body_of}
@@ -21,11 +21,11 @@ use Rattle.decl_core.specs.Footprint.{reads_of}
 use Rattle.decl_core.specs.Touched.{Reads, Writes}
 use Rattle.decl_core.specs.Typed.{IsHeld}
 use Rattle.decl_core.proofs.Footprints.{writes_are_reads}
-use Rattle.decl_core.proofs.Touched.{reads_bits}
-use Rattle.hand_core.specs.declared.hand.Stamp.{Stamp}
+use Rattle.decl_core.proofs.DeclTouched.{reads_bits}
+use Rattle.device_core.specs.declared.hand.Stamp.{Stamp}
 use Rattle.page_core.specs.PartPins.{PartPin, pin_at, pins_in, put_if}
 use Rattle.apply_core.proofs.HeldReads.{reads_held}
-use Rattle.call_core.specs.Calls.{HasPins}
+use Rattle.run_core.specs.Calls.{HasPins}
 use Rattle.board_core.proofs.Kept.{kept_at}
 use Rattle.board_core.proofs.Lists.{Every-map, Every-at, Every-among, among_at, filter_one, filter_less, eqb_same}
 use Rattle.board_core.proofs.Sound.{made_at}

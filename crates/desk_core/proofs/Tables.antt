@@ -6,9 +6,9 @@ use Rattle.decl_core.specs.declared.object.Object.{Object}
 use Rattle.board_core.specs.declared.event.TraceEvent.{TraceEvent}
 use Rattle.board_core.specs.declared.event.TraceEvent.TheVariants.{Start, End}
 use Rattle.board_core.specs.Calls.{AcceptedCall, WaitingCall, RunningCall, Noted}
-use Rattle.hand_core.specs.declared.hand.Stamp.{Stamp}
+use Rattle.device_core.specs.declared.hand.Stamp.{Stamp}
 use Rattle.run_core.specs.Outcomes.{if_done}
-use Rattle.key_core.specs.Keys.{resumed}
+use Rattle.board_core.specs.Keys.{resumed}
 use Rattle.board_core.specs.Board.{Board, most_sessions, opened, joined, dismissed, released, taken_at, marked, started, ended, published, read_pins}
 
 pub started_is : (b : Board) (w : WaitingCall) (trace : List TraceEvent) (waiting : List WaitingCall) (running : List RunningCall)

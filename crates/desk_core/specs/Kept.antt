@@ -9,7 +9,7 @@ use Rattle.board_core.specs.Lists.{Every}
 use Rattle.board_core.specs.Calls.{Noted}
 use Rattle.board_core.specs.Board.{Board, paths_of, past_of}
 use Rattle.board_core.specs.Sound.{IsSound}
-use Rattle.key_core.specs.Index.{AreIndexed}
+use Rattle.board_core.specs.Index.{AreIndexed}
 use Rattle.desk_core.specs.declared.marks.Mark.{Mark}
 use Rattle.desk_core.specs.declared.marks.Mark.TheVariants as marks
 use Rattle.desk_core.specs.declared.roster.Roster.TheInside.{Inside}

@@ -1,3 +1,4 @@
 pub mod Kept
 pub mod Publishing
 pub mod Told
+pub mod Held

@@ -4,8 +4,8 @@ use Rattle.board_core.specs.declared.event.TraceEvent.{TraceEvent}
 use Rattle.board_core.specs.declared.event.TraceEvent.TheVariants.{Start, End}
 use Rattle.board_core.specs.Calls.{AcceptedCall}
 use Rattle.board_core.specs.Board.{Board, call_at}
-use Rattle.trace_core.specs.Events.{Called}
-use Rattle.trace_core.specs.Text.{TraceLine, call_started, call_ended}
+use Rattle.word_core.specs.Events.{Called}
+use Rattle.word_core.specs.Text.{TraceLine, call_started, call_ended}
 
 -- a call with its number; of no call, nothing but the number
 abbrev pub called_of : ℕ → Option AcceptedCall → Called

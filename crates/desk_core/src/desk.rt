@@ -6,24 +6,24 @@ ghost use Rattle.std.specs.Arc.{arc_value};
 ghost use Rattle.board_core.specs.Calls.{AcceptedCall};
 ghost use Rattle.board_core.specs.Board.{opened, joined, released, marked, call_at, Rests};
 ghost use Rattle.board_core.specs.Started.{Settles};
-ghost use Rattle.key_core.specs.Keys.{next_key, resumed};
-ghost use Rattle.ask_core.specs.Keyed.{Finds, SubmitsKeyed};
+ghost use Rattle.board_core.specs.Keys.{next_key, resumed};
+ghost use Rattle.board_core.specs.Keyed.{Finds, SubmitsKeyed};
 ghost use Rattle.board_core.specs.Sound.{IsSound};
 ghost use Rattle.decl_core.specs.ObjectMap.{object_of};
-ghost use Rattle.trace_core.specs.Text.{trace_text as text_of};
+ghost use Rattle.word_core.specs.Text.{trace_text as text_of};
 ghost use Rattle.desk_core.specs.Told.{lines_told};
-ghost use Rattle.ask_core.specs.Answers.{IsGone, IsTaken, IsRefused, Cancels, Collects, Finishes, IsStranger};
-ghost use Rattle.ask_core.specs.Answers.{receipt_by, waits_in, runs_in, runs_by};
+ghost use Rattle.board_core.specs.Answers.{IsGone, IsTaken, IsRefused, Cancels, Collects, Finishes, IsStranger};
+ghost use Rattle.board_core.specs.Answers.{receipt_by, waits_in, runs_in, runs_by};
 
 use crate::roster::{MOST_SESSIONS, Roster};
-use ask_core::answer::{
+use board_core::answer::{
     Cancelled, Collected, Finished, Kept, Keyed, KeyedFault, Stranger, SubmitFault,
 };
 use board_core::call::Call;
 use board_core::entry::Entry;
 use board_core::event::TraceEvent;
 use board_core::receipt::Receipt;
-use exclude_core::analyse::Accepted;
+use decl_core::analyse::Accepted;
 use page_core::pins::Pins;
 use run_core::outcome::Outcome;
 use std::alloc::{AllocError, Global};

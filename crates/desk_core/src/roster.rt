@@ -8,9 +8,9 @@ ghost use Rattle.path_count.specs.Stands.{StandsFor};
 ghost use Rattle.decl_core.specs.declared.object.Operation.{Operation};
 ghost use Rattle.decl_core.specs.ObjectMap.{object_of};
 ghost use Rattle.apply_core.specs.Fits.{ArgumentsFit};
-ghost use Rattle.call_core.specs.Calls.{HasPins, call_of};
-ghost use Rattle.call_core.specs.Planned.{AreSized};
-ghost use Rattle.call_core.specs.Tickets.{ticket_call};
+ghost use Rattle.run_core.specs.Calls.{HasPins, call_of};
+ghost use Rattle.run_core.specs.CallPlanned.{AreSized};
+ghost use Rattle.run_core.specs.Tickets.{ticket_call};
 ghost use Rattle.board_core.specs.Lists.{Every};
 ghost use Rattle.board_core.specs.Calls.{AcceptedCall, WaitingCall, RunningCall};
 ghost use Rattle.decl_core.specs.Bodies.{body_of};
@@ -19,14 +19,14 @@ ghost use Rattle.page_core.specs.PartPins.{pin_at};
 ghost use Rattle.run_core.specs.Outcomes.{outcome_call, if_done, IsFresh};
 ghost use Rattle.board_core.specs.Board.{Board, bodies, call_at, opened, joined, dismissed, released, taken_at, marked};
 ghost use Rattle.board_core.specs.Board.{started, ended, entry_of, published, read_pins, IsNext, Rests, Admits};
-ghost use Rattle.key_core.specs.Keys.{next_key, resumed};
-ghost use Rattle.ask_core.specs.Keyed.{IsStateOf, Finds};
-ghost use Rattle.ask_core.specs.Answers.{HasName, IsGone, is_busy, waits_in, runs_in, runs_by, ended_in, IsLeft};
-ghost use Rattle.ask_core.specs.Answers.{NoneIsLeft, IsTaken, IsRefused, IsStranger};
+ghost use Rattle.board_core.specs.Keys.{next_key, resumed};
+ghost use Rattle.board_core.specs.Keyed.{IsStateOf, Finds};
+ghost use Rattle.board_core.specs.Answers.{HasName, IsGone, is_busy, waits_in, runs_in, runs_by, ended_in, IsLeft};
+ghost use Rattle.board_core.specs.Answers.{NoneIsLeft, IsTaken, IsRefused, IsStranger};
 ghost use Rattle.board_core.specs.Free.{IsNeeded, Picks};
 ghost use Rattle.board_core.specs.Outcomes.{IsOf};
 ghost use Rattle.desk_core.specs.Publishing.{ArePageLists, with_pin};
-ghost use Rattle.trace_core.specs.Text.{trace_text as text_of};
+ghost use Rattle.word_core.specs.Text.{trace_text as text_of};
 ghost use Rattle.desk_core.specs.Told.{lines_told};
 ghost use Rattle.board_core.specs.Sound.{IsSound, IsFirstNamed};
 
@@ -34,33 +34,33 @@ use crate::marks::{Mark, event_of, note, note_end, note_start};
 use crate::text::{call_of, push_marks};
 use apply_core::fits::arguments_fit;
 use apply_core::reply::Reply;
-use ask_core::answer::{CallState, Kept, KeyedFault, SubmitFault};
-use ask_core::find::{
-    is_same_call, place_of, place_of_left, place_to_end, runs, runs_for, waits, waits_for,
-};
+use board_core::answer::{CallState, Kept, KeyedFault, SubmitFault};
 use board_core::call::Call;
 use board_core::entry::Entry;
 use board_core::event::TraceEvent;
+use board_core::find::{
+    is_same_call, place_of, place_of_left, place_to_end, runs, runs_for, waits, waits_for,
+};
+use board_core::index::Index;
+use board_core::open_call::{Asked, Running, Waiting};
 use board_core::pick::pick;
-use call_core::ticket::Ticket;
+use board_core::queue::Queue;
+use decl_core::analyse::Accepted;
 use decl_core::object::Object;
-use exclude_core::analyse::Accepted;
-use hand_core::hand::Stamp;
-use key_core::index::Index;
+use device_core::hand::Stamp;
 use page_core::page_list::PageList;
 use page_core::part_pins::PartPins;
 use page_core::pins::Pins;
 use path_count::counters::{Counters, compile};
 use path_tree::node::OpId;
-use queue_core::open_call::{Asked, Running, Waiting};
-use queue_core::queue::Queue;
 use run_core::outcome::Outcome;
+use run_core::ticket::Ticket;
 use std::alloc::{AllocError, Global};
 use std::marker::Model;
 use std::sync::Arc;
-use trace_core::front::push_front;
 use value_core::datum::Datum;
 use value_core::value::Value;
+use word_core::trace_front::push_front;
 
 /// Sessions have the numbers from 1 to this one.
 pub(crate) const MOST_SESSIONS: usize = 1024;

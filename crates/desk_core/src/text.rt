@@ -6,7 +6,7 @@ ghost use Rattle.decl_core.specs.ObjectMap.{object_of};
 ghost use Rattle.board_core.specs.Lists.{Every};
 ghost use Rattle.board_core.specs.Board.{call_at};
 ghost use Rattle.word_core.specs.Words.{line_of};
-ghost use Rattle.trace_core.specs.Text.{event_words, lines_of};
+ghost use Rattle.word_core.specs.Text.{event_words, lines_of};
 ghost use Rattle.desk_core.specs.Kept.{IsMarkIn, events_of, event_of as event_told};
 ghost use Rattle.desk_core.specs.Told.{line_told};
 
@@ -17,7 +17,7 @@ use board_core::event::TraceEvent;
 use decl_core::object::Object;
 use std::alloc::{AllocError, Global};
 use std::sync::Arc;
-use trace_core::event::{push_end, push_start};
+use word_core::event::{push_end, push_start};
 
 // The call of this number.
 pub(crate) fn call_of(calls: &[Arc<Call>], number: u32) -> Option<&Call>

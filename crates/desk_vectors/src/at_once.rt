@@ -2,21 +2,21 @@
 
 use crate::make::{Bytes, desk_of, grow};
 use apply_core::reply::{Failure, Reply};
-use ask_core::answer::Collected;
+use board_core::answer::Collected;
+use device_core::hand::{Hand, HandFault, Stamp};
 use device_core::memory::MemHand;
 use device_core::once::OnceHand;
-use hand_core::hand::{Hand, HandFault, Stamp};
 use page_core::cut::{is_cut, page_size};
 use page_core::fault::PageFault;
+use page_core::open::OpenFault;
 use page_core::page_list::PageList;
+use page_core::pages::put_cut;
 use page_core::pins::Pins;
+use page_core::save::SaveFault;
 use run_core::at_once::run_at_once;
 use run_core::outcome::Outcome;
 use std::alloc::Global;
 use std::process::Abort;
-use store_core::open::OpenFault;
-use store_core::pages::put_cut;
-use store_core::save::SaveFault;
 use text_core::text::Text;
 use value_core::datum::Datum;
 

@@ -9,18 +9,18 @@ use apply_core::reply::{Failure, Reply};
 use board_core::receipt::Receipt;
 use desk_core::desk::Desk;
 use device_core::fuse::FuseHand;
+use device_core::hand::{Hand, Stamp};
 use device_core::mem_shelf::MemShelf;
 use device_core::memory::MemHand;
 use device_core::once::OnceHand;
-use hand_core::hand::{Hand, Stamp};
-use hand_core::retire::retire_all;
-use hand_core::whole::put;
+use device_core::retire::retire_all;
+use device_core::whole::put;
+use page_core::open::open_parts;
 use page_core::page_list::PageList;
+use page_core::pages::fetch_pages;
 use page_core::pins::Pins;
 use std::alloc::Global;
 use std::process::Abort;
-use store_core::open::open_parts;
-use store_core::pages::fetch_pages;
 use value_core::datum::Datum;
 
 /// An object whose one part has five pages: element i is on page (i + 1) / 256.

@@ -1,12 +1,12 @@
 //! Objects, files and desks, as the tests make them.
 
-use ask_core::answer::Collected;
+use board_core::answer::Collected;
 use board_core::receipt::Receipt;
+use decl_core::analyse::{Accepted, analyse};
 use decl_read::read::read_objects;
 use desk_core::desk::Desk;
-use exclude_core::analyse::{Accepted, analyse};
-use hand_core::hand::Hand;
-use hand_core::whole::put;
+use device_core::hand::Hand;
+use device_core::whole::put;
 use page_core::page_list::PageList;
 use page_core::pins::Pins;
 use run_core::outcome::Outcome;

@@ -2,16 +2,16 @@
 
 use crate::make::{Bytes, ZERO, accepted, grow};
 use decl_core::object::Object;
+use device_core::hand::Hand;
 use device_core::mem_shelf::MemShelf;
 use device_core::memory::MemHand;
 use device_core::once::OnceHand;
-use hand_core::hand::Hand;
-use hand_core::shelf::Shelf;
+use device_core::shelf::Shelf;
+use page_core::open::{OpenFault, open_parts};
 use page_core::pins::Pins;
+use page_core::save::{SaveFault, save_parts};
 use std::alloc::Global;
 use std::process::Abort;
-use store_core::open::{OpenFault, open_parts};
-use store_core::save::{SaveFault, save_parts};
 
 // An array of one integer, and a queue of texts.
 const PAIR: Bytes = b"object pair;

@@ -1,10 +1,10 @@
 //! Outcomes that are handed to a desk on which no such call runs.
 
 use crate::make::{Bytes, CELL, ZERO, desk_of, has_turn_of, look, outcome_of, pinned};
-use ask_core::answer::Stranger;
+use board_core::answer::Stranger;
 use desk_core::desk::Desk;
+use device_core::hand::Stamp;
 use device_core::memory::MemHand;
-use hand_core::hand::Stamp;
 use page_core::page_list::PageList;
 use page_core::pins::Pins;
 use run_core::outcome::Outcome;

@@ -5,7 +5,7 @@ use Rattle.std.specs.Cmp.{nat_cmp_total, nat_cmp_is}
 use Rattle.std.specs.Ordering.{nat_cmp, eq_by_cmp, is_eq}
 use Rattle.std.specs.declared.cmp.Ordering.TheVariants.{Less, Equal, Greater}
 use Rattle.std.specs.FinMap.{get, insert, empty, get-insert, nat_cmp-IsAntisymmetric}
-use Rattle.hand_core.specs.Device.{Assignment}
+use Rattle.device_core.specs.Device.{Assignment}
 use Rattle.device_core.specs.declared.file.File.{File}
 use Rattle.device_core.specs.Files.{file_at, sealed_of, HasFiles}
 

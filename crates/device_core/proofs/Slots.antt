@@ -6,7 +6,7 @@ use Rattle.std.proofs.lemmas.Option.{slice_get_past, slice_get-get_or}
 use Rattle.device_core.specs.declared.file.State.{State}
 use Rattle.device_core.specs.declared.file.State.TheVariants.{Open, Sealed, Retired, Discarded}
 use Rattle.std.specs.FinMap.{get}
-use Rattle.hand_core.specs.Device.{Assignment, Shows}
+use Rattle.device_core.specs.Device.{Assignment, Shows}
 use Rattle.device_core.specs.declared.file.File.{File}
 use Rattle.device_core.specs.Files.{file_at, sealed_of, open_of, sealed_bytes, open_bytes, HasFiles, IsOpen, IsKept, Puts, kept_bytes, kept_of}
 

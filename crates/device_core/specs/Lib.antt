@@ -2,3 +2,10 @@ pub mod Files
 pub mod MadeFiles
 pub mod MemShelf
 pub mod Wrapped
+pub mod Device
+pub mod Faults
+pub mod Made
+pub mod Papers
+pub mod Retired
+pub mod Reads
+pub mod Sealed

@@ -2,7 +2,7 @@
 use Rattle.std.specs.Prelude.{◌≡◌, ℕ, ◌+◌, [], ◌++◌, List, length, OnOk}
 use Rattle.device_core.specs.declared.file.File.{File}
 use Rattle.device_core.specs.declared.file.State.TheVariants.{Open, Sealed, Retired, Discarded}
-use Rattle.hand_core.specs.Made.{Made, creates, appends, seals, discards, reads, retires}
+use Rattle.device_core.specs.Made.{Made, creates, appends, seals, discards, reads, retires}
 use Rattle.device_core.specs.Files.{IsOpen, IsKept, Becomes}
 
 -- The files before and after a call, by what it answered.

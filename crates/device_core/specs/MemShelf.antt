@@ -3,7 +3,7 @@ use Rattle.std.specs.Prelude.{ℕ, List, map}
 use Rattle.std.specs.FinMap.{from_entries}
 use Rattle.std.specs.Global.{Vec}
 use Rattle.std.specs.BTreeMap.{BTreeMap}
-use Rattle.hand_core.specs.Papers.{Papers}
+use Rattle.device_core.specs.Papers.{Papers}
 
 -- entries, as bytes
 abbrev pub as_bytes : List (Vec ℕ × Vec ℕ) → List (List ℕ × List ℕ)

@@ -1,7 +1,7 @@
 -- Hands that fail chosen calls of the hand inside them.
 use Rattle.std.specs.Prelude.{◌≡◌, ℕ, ◌+◌, ◌-◌, ◌^◌, ◌<◌, min}
 use Rattle.device_core.specs.declared.failing.FailingHand.{FailingHand}
-use Rattle.hand_core.specs.Made.{Made, creates, appends, seals, discards, reads, retires, Fails}
+use Rattle.device_core.specs.Made.{Made, creates, appends, seals, discards, reads, retires, Fails}
 
 -- one more, as far as can be counted
 abbrev pub one_more : ℕ → ℕ

@@ -3,8 +3,8 @@
 ghost use Rattle.std.specs.Prelude.{◌≡◌, IfOk};
 
 use crate::folder::{count, fault_of, no_memory};
+use crate::hand::{Hand, HandFault, Pen, Stamp};
 use crate::numbers::Numbers;
-use hand_core::hand::{Hand, HandFault, Pen, Stamp};
 use itoa::Buffer;
 use std::alloc::AllocError;
 use std::fs;

@@ -3,8 +3,8 @@
 ghost use Rattle.std.specs.Prelude.{◌≡◌, IfOk};
 
 use crate::folder::{count, fault_of, no_memory};
-use hand_core::hand::HandFault;
-use hand_core::shelf::Shelf;
+use crate::hand::HandFault;
+use crate::shelf::Shelf;
 use std::alloc::{AllocError, Global};
 use std::fs::{File, OpenFile};
 use std::io::{ErrorKind, Read, Write};

@@ -1,6 +1,6 @@
 //! Hands that fail chosen calls of the hand inside them.
 
-use hand_core::hand::{Hand, HandFault, Pen, Stamp};
+use crate::hand::{Hand, HandFault, Pen, Stamp};
 
 /// Which calls are failed. Each call that counts has a number, one less than the call before it, down to 0.
 pub trait Choice: Drop {

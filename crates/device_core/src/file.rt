@@ -5,7 +5,7 @@ ghost use Rattle.std.specs.Prelude.{OnErr, IfErr, IsOk, IfSome, IfNone, OnSome, 
 ghost use Rattle.std.specs.Prelude.{if◌then◌else◌};
 ghost use Rattle.std.specs.Bool.{OnTrue, OnFalse};
 ghost use Rattle.device_core.specs.Files.{HasFiles, IsOpen, IsKept, Puts, Becomes};
-ghost use Rattle.hand_core.specs.Device.{Assignment, Shows};
+ghost use Rattle.device_core.specs.Device.{Assignment, Shows};
 ghost use Rattle.std.specs.FinMap.{get};
 ghost use Rattle.device_core.specs.declared.file.File.{File};
 

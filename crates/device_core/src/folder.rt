@@ -2,9 +2,9 @@
 
 ghost use Rattle.std.specs.Prelude.{◌≡◌, ◌≢◌, ◌<◌, ◌≤◌};
 ghost use Rattle.std.specs.IoError.{error_kind};
-ghost use Rattle.hand_core.specs.Device.{FaultCause};
+ghost use Rattle.device_core.specs.Device.{FaultCause};
 
-use hand_core::hand::HandFault;
+use crate::hand::HandFault;
 use std::alloc::AllocError;
 use std::io;
 use std::io::ErrorKind;

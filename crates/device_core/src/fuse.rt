@@ -1,7 +1,7 @@
 //! A hand that fails from some call on.
 
 use crate::failing::{Choice, FailingHand};
-use hand_core::hand::Hand;
+use crate::hand::Hand;
 
 /// Each call from number 0 on: no call is left then.
 #[derive(Clone, Copy, Debug, PartialEq, Eq)]

@@ -2,11 +2,11 @@
 
 ghost use Rattle.std.specs.Prelude.{◌≡◌, IfOk, OnOk, OnErr};
 ghost use Rattle.std.specs.FinMap as map;
-ghost use Rattle.hand_core.specs.Papers.{found_bytes};
+ghost use Rattle.device_core.specs.Papers.{found_bytes};
 ghost use Rattle.device_core.specs.MemShelf.{papers_of};
 
-use hand_core::hand::HandFault;
-use hand_core::shelf::Shelf;
+use crate::hand::HandFault;
+use crate::shelf::Shelf;
 use std::alloc::{AllocError, Global};
 use std::collections::BTreeMap;
 use std::marker::Model;
@@ -22,7 +22,7 @@ pub struct MemShelf {
 impl Model for MemShelf {
     ghost use Rattle.std.specs.Coded.{coded_list, coded_ℕ};
     ghost use Rattle.std.specs.FinMap as map;
-    ghost use Rattle.hand_core.specs.Papers.{Papers};
+    ghost use Rattle.device_core.specs.Papers.{Papers};
     ghost use Rattle.device_core.specs.MemShelf.{papers_of};
 
     ghost Value = { Papers };
@@ -80,8 +80,8 @@ fn keep(
 impl Shelf for MemShelf {
     ghost use Rattle.std.specs.Prelude.{◌≡◌, ◌↔◌, ◌≤◌, List, ℕ, IfOk, OnOk, OnErr, IfErr};
     ghost use Rattle.std.specs.FinMap as map;
-    ghost use Rattle.hand_core.specs.Device.{FaultCause};
-    ghost use Rattle.hand_core.specs.Papers.{Papers, found_bytes, LoadAgrees, StoreAgrees};
+    ghost use Rattle.device_core.specs.Device.{FaultCause};
+    ghost use Rattle.device_core.specs.Papers.{Papers, found_bytes, LoadAgrees, StoreAgrees};
 
     ghost holds = { λ s papers. papers ≡ s };
 

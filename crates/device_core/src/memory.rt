@@ -1,12 +1,12 @@
 //! A hand that keeps its files in memory.
 
 ghost use Rattle.std.specs.Prelude.{◌≡◌, [], ℕ};
-ghost use Rattle.hand_core.specs.Device.{Assignment, Failed};
+ghost use Rattle.device_core.specs.Device.{Assignment, Failed};
 ghost use Rattle.device_core.specs.Files.{HasFiles, files_of, failures_of, more_failures};
 
 use crate::file;
 use crate::file::File;
-use hand_core::hand::{Hand, HandFault, Pen, Stamp};
+use crate::hand::{Hand, HandFault, Pen, Stamp};
 use std::alloc::Global;
 
 // A hand has so many files at most.
@@ -56,9 +56,9 @@ impl Hand for MemHand {
     ghost use Rattle.std.specs.Prelude.{IsOkAnd, OnOk, OnErr, IfErr};
     ghost use Rattle.std.specs.Result.{IsErrOf, IsErr};
     ghost use Rattle.device_core.specs.declared.file.State.TheVariants.{Open, Sealed, Retired, Discarded};
-    ghost use Rattle.hand_core.specs.Device.{Assignment, SealAgrees, ReadAgrees, FaultCause, IsFree};
-    ghost use Rattle.hand_core.specs.Made.{creates, appends, seals, discards, reads, retires, IsDeviceErr, IsSealErr};
-    ghost use Rattle.hand_core.specs.declared.hand.Stamp.{Stamp};
+    ghost use Rattle.device_core.specs.Device.{Assignment, SealAgrees, ReadAgrees, FaultCause, IsFree};
+    ghost use Rattle.device_core.specs.Made.{creates, appends, seals, discards, reads, retires, IsDeviceErr, IsSealErr};
+    ghost use Rattle.device_core.specs.declared.hand.Stamp.{Stamp};
     ghost use Rattle.device_core.specs.MadeFiles.{Makes};
     ghost use Rattle.device_core.specs.Files.{HasFiles, IsOpen, IsKept, Serves, Becomes, files_of, failures_of};
     ghost use Rattle.device_core.specs.Files.{failures_after, more_failures};

@@ -1,7 +1,7 @@
 //! A hand that fails one call.
 
 use crate::failing::{Choice, FailingHand};
-use hand_core::hand::Hand;
+use crate::hand::Hand;
 
 /// The call of number 1 alone.
 #[derive(Clone, Copy, Debug, PartialEq, Eq)]

@@ -3,7 +3,7 @@
 //! A script names its files by their places in a row, `A`, `B`, .. A pen is nothing but the number of its file:
 //! the row keeps the number, and each call gets a pen of it.
 
-use hand_core::hand::{Hand, HandFault, Pen, Stamp};
+use device_core::hand::{Hand, HandFault, Pen, Stamp};
 use std::process::Abort;
 
 /// A call of a hand, of the file at a place of the row, and what it answers. Each call that fails does so for

@@ -5,9 +5,9 @@ use crate::hand_calls::Call::{
     Seal, Stamped,
 };
 use crate::hand_calls::{A, B, C, Call, FileRow};
+use device_core::hand::{Hand, Stamp};
 use device_core::memory::MemHand;
-use hand_core::hand::{Hand, Stamp};
-use hand_core::whole::{fetch, put};
+use device_core::whole::{fetch, put};
 use std::alloc::Global;
 use std::process::Abort;
 

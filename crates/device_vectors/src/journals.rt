@@ -3,12 +3,12 @@
 use crate::scratch::Deed::{self, Has, Lacks, MakeFolder, Remove, RemoveFolder, Write as Put};
 use crate::scratch::Scratch;
 use crate::shelf_calls::Bytes;
-use journal_core::device::{Device, DeviceError};
-use journal_core::folder::FolderFile;
-use journal_core::journal::{Journal, recover};
-use journal_core::memory::Memory;
-use journal_core::round::RoundFault;
-use journal_core::run::Step;
+use post_core::device::{Device, DeviceError};
+use post_core::folder::FolderFile;
+use post_core::journal::{Journal, recover};
+use post_core::memory::Memory;
+use post_core::round::RoundFault;
+use post_core::run::Step;
 use std::alloc::Global;
 use std::io::{self, ErrorKind, Write};
 use std::process;

@@ -1,7 +1,7 @@
 //! Calls of any shelf, as the rows of scripts.
 
-use hand_core::hand::HandFault;
-use hand_core::shelf::Shelf;
+use device_core::hand::HandFault;
+use device_core::shelf::Shelf;
 use std::alloc::Global;
 use std::process::Abort;
 

@@ -4,7 +4,7 @@ use crate::hands::many_bytes;
 use crate::shelf_calls::Entry::{Failures, Load, Nothing, Store};
 use crate::shelf_calls::{Entry, loads, play};
 use device_core::mem_shelf::MemShelf;
-use hand_core::shelf::Shelf;
+use device_core::shelf::Shelf;
 use std::alloc::Global;
 use std::process::Abort;
 

@@ -2,10 +2,10 @@
 
 use crate::proposal::{Pair, place_for_path, proposal};
 use crate::refusal::{Case, push_case};
+use decl_core::analyse::{Refusal, Refused, analyse};
 use decl_core::object::Object;
 use decl_read::fault::DeclFault;
 use decl_read::read::read_objects;
-use exclude_core::analyse::{Refusal, Refused, analyse};
 use explain_fault::fault::{is_want_of_memory, push_fault};
 use note_core::page::{Page, push_help, push_new_line, push_note};
 use note_core::said::Words;

@@ -1,10 +1,10 @@
 //! A path that keeps the operations of an object apart.
 
+use decl_core::analyse::{Refusal, analyse};
+use decl_core::exclude_footprint::footprint;
 use decl_core::object::Object;
 use decl_read::fault::DeclFault;
 use decl_read::read::read_objects;
-use exclude_core::analyse::{Refusal, analyse};
-use exclude_core::footprint::footprint;
 use explain_fault::fault::is_want_of_memory;
 use note_core::span::{behind, front};
 use note_core::tokens::{count_before, count_to, from_last, from_symbol, is_symbol, tokens_from};

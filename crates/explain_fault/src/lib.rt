@@ -1,8 +1,10 @@
 //! What a person is told who asks why a source is not taken: where its fault stands, what is wrong in a sentence, and
 //! what would help.
 //!
-//! `fault::push_fault` gives the text. That it is safe to make, and ends, is proved; what it says is tested by the
-//! cases of `cases/check`.
+//! `fault::push_fault` gives the text. Of holds that are not taken `rules::explain_held` gives it, and
+//! `pairs::explain_pairs` that for each `a; b` that could be held and is not.
+//!
+//! That they are safe to make, and end, is proved; what they say is tested by the cases of `cases/check`.
 #![tactic(auto)]
 
 mod condition;
@@ -10,5 +12,7 @@ pub mod fault;
 mod in_path;
 mod kinds;
 mod operations;
+pub mod pairs;
+pub mod rules;
 mod syntax;
 mod wrong;

@@ -4,17 +4,17 @@ use crate::reply::{call_of, number_in, operation_name, push_numbered};
 use crate::story::{FaultyLine, MOST_CALLS, Story, bytes_of, operation_named, value_of};
 use apply_core::fits::arguments_fit;
 use decl_core::object::{Object, Operation, Part};
-use explain_line::finding::{
+use note_core::alike::are_alike;
+use note_core::finding::{
     Finding, only, push_finding, shown, surplus, two, wrong_call, wrong_data, wrong_name,
     wrong_session, wrong_word,
 };
-use explain_line::line_words::LineWords;
-use line_core::words::is_same_word;
-use note_core::alike::are_alike;
+use note_core::line_words::LineWords;
 use note_core::page::{Page, push_help, push_note};
 use note_core::said::{Said, say};
 use note_core::span::text_at;
 use std::alloc::{AllocError, Global};
+use text_core::words::is_same_word;
 use value_core::datum::Datum;
 use value_core::kind::{Elem, Kind};
 use word_core::number::{integer_of, session_of};

@@ -3,8 +3,8 @@
 use crate::reply::{operation_name, push_counted, push_numbered};
 use crate::story::{FaultyLine, Seen, Story, operation_named};
 use decl_core::object::Object;
-use explain_line::finding::{only, two};
 use itoa::Buffer;
+use note_core::finding::{only, two};
 use note_core::page::{Page, push_help, push_note};
 use note_core::said::Words;
 use note_core::span::Span;

@@ -4,14 +4,14 @@ use crate::story::{LineAt, MOST_CALLS, Seen, Story, reply_to};
 use decl_core::footprint::{is_in, reads};
 use decl_core::id::MOST_PARTS;
 use decl_core::object::Object;
-use explain_line::finding::{only, two};
-use explain_line::line_words::LineWords;
 use itoa::Buffer;
+use note_core::finding::{only, two};
+use note_core::line_words::LineWords;
 use note_core::page::{Page, push_help, push_note};
 use std::alloc::{AllocError, Global};
-use trace_core::reply::push_reply;
 use value_core::value::Value;
 use word_core::number::integer_of;
+use word_core::reply::push_reply;
 use word_core::show::push_value;
 
 // The most bytes of a value that are shown.

@@ -3,14 +3,14 @@
 use apply_core::fits::{arguments_fit, parts_fit};
 use apply_core::reply::Reply;
 use decl_core::object::{Object, Operation, Part};
-use explain_line::line_words::LineWords;
 use hex::FromHexError;
 use known_core::apply::apply_all;
-use line_core::next_line;
-use line_core::words::is_same_word;
+use note_core::line_words::LineWords;
 use note_core::page::Page;
 use note_core::span::Span;
 use std::alloc::{AllocError, Global};
+use text_core::next_line;
+use text_core::words::is_same_word;
 use value_core::datum::Datum;
 use value_core::decode::{DecodeFault, decode_kept};
 use value_core::value::Value;

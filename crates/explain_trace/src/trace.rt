@@ -6,14 +6,14 @@ use crate::reply::{push_not_running, push_wrong_reply};
 use crate::story::{FaultyLine, story_before};
 use audit_core::audit::audit;
 use audit_core::verdict::Verdict;
+use check_core::head::named_object;
+use check_core::open::{Opened, open_script};
+use decl_core::analyse::Accepted;
 use decl_core::object::Object;
-use exclude_core::analyse::Accepted;
-use explain_line::files::Files;
-use explain_line::lacking::{push_lacking, push_unnamed};
-use explain_line::line_words::words_at;
+use note_core::files::Files;
+use note_core::lacking::{push_lacking, push_unnamed};
+use note_core::line_words::words_at;
 use note_core::page::Page;
-use script_open::head::named_object;
-use script_open::open::{Opened, open_script};
 use std::alloc::{AllocError, Global};
 
 // The line of a verdict, if it tells one.

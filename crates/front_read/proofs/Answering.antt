@@ -10,12 +10,12 @@ use Rattle.word_core.specs.Data.{bare_of, datum_word}
 use Rattle.word_core.specs.Ending.{ending_words, ending_of, TellEnding}
 use Rattle.word_core.proofs.Endings.{ending_exact}
 use Rattle.word_core.proofs.Written.{written_datum}
-use Rattle.trace_core.specs.Laws.{IsReply}
-use Rattle.trace_core.specs.Text.{failure_word, reply_ending, reply_words}
-use Rattle.front_core.specs.Front.{IsAnswer}
-use Rattle.front_core.specs.Text.{answer_words}
-use Rattle.front_core.specs.declared.front.Answer.{Answer}
-use Rattle.front_core.specs.declared.front.Answer.TheVariants.{Replied, Cancelled}
+use Rattle.word_core.specs.TraceLaws.{IsReply}
+use Rattle.word_core.specs.Text.{failure_word, reply_ending, reply_words}
+use Rattle.live_core.specs.Front.{IsAnswer}
+use Rattle.live_core.specs.Text.{answer_words}
+use Rattle.live_core.specs.declared.front.Answer.{Answer}
+use Rattle.live_core.specs.declared.front.Answer.TheVariants.{Replied, Cancelled}
 use Rattle.front_read.specs.declared.answer.Ended.TheVariants as ended
 use Rattle.front_read.specs.Answers.{tells_datum, is_some, FindsAnswer}
 use Rattle.front_read.proofs.Calling.{some_same}

@@ -6,11 +6,11 @@ use Rattle.std.proofs.lemmas.List.Elements.{All-cons, All-nil}
 use Rattle.value_core.specs.declared.datum.Datum.{Datum}
 use Rattle.value_core.specs.Datum.{IsDatum}
 use Rattle.decl_core.specs.ObjectForm.{ObjectForm}
-use Rattle.trace_core.specs.Text.{operation_name}
+use Rattle.word_core.specs.Text.{operation_name}
 use Rattle.word_core.specs.Words.{Word}
 use Rattle.word_core.specs.Data.{datum_word, bare_of, data_of}
 use Rattle.word_core.proofs.Clear.{written_data}
-use Rattle.front_core.specs.Front.{Every, IsCall}
+use Rattle.live_core.specs.Front.{Every, IsCall}
 use Rattle.front_read.specs.Calls.{operation_in, IsAsked, asked_words, asked_of}
 use Rattle.front_read.specs.Rows.{Finds}
 

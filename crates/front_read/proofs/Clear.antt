@@ -27,24 +27,24 @@ use Rattle.apply_core.specs.declared.reply.Failure.TheVariants.{Device, Memory, 
 use Rattle.apply_core.specs.declared.reply.Reply.{Reply}
 use Rattle.apply_core.specs.declared.reply.Reply.TheVariants.{Done, Refused, Failed}
 use Rattle.text_core.specs.Plain.{IsPlain}
-use Rattle.line_core.specs.Runs.{NoLineFeed}
+use Rattle.text_core.specs.Runs.{NoLineFeed}
 use Rattle.word_core.specs.Words.{Word, words_text}
 use Rattle.word_core.specs.Data.{datum_word, session_word}
 use Rattle.word_core.proofs.Numerals.{digits}
-use Rattle.trace_core.specs.Text.{failure_word, reply_words, part_words}
-use Rattle.trace_core.specs.Laws.{HasNames, IsReply}
-use Rattle.trace_core.proofs.Plain.{IsSafeByte, IsSafe, IsSafeWord, EachSafe, words_plain}
+use Rattle.word_core.specs.Text.{failure_word, reply_words, part_words}
+use Rattle.word_core.specs.TraceLaws.{HasNames, IsReply}
+use Rattle.word_core.proofs.Plain.{IsSafeByte, IsSafe, IsSafeWord, EachSafe, words_plain}
 use Rattle.std.specs.Int.{w64, to_be_bytes}
-use Rattle.trace_core.specs.Text.{operation_name}
-use Rattle.front_core.specs.declared.past.PastRun.{PastRun}
-use Rattle.front_core.specs.declared.past.PastRun.TheVariants.{Calls, Begins, Ends}
-use Rattle.front_core.specs.declared.front.CarriedCall.{CarriedCall}
-use Rattle.front_core.specs.declared.front.Client.{Client}
-use Rattle.front_core.specs.declared.front.KeptCall.{KeptCall}
-use Rattle.front_core.specs.declared.front.Answer.{Answer}
-use Rattle.front_core.specs.declared.front.Answer.TheVariants.{Replied, Cancelled}
-use Rattle.front_core.specs.Front.{IsOperation, IsCall, IsKey, IsLong, IsRun, IsCarried, IsClient, IsKept, IsAnswer}
-use Rattle.front_core.specs.Text.{object_words, source_words, base_words, run_words, call_words, carried_words, client_words, answer_words, kept_words}
+use Rattle.word_core.specs.Text.{operation_name}
+use Rattle.live_core.specs.declared.past.PastRun.{PastRun}
+use Rattle.live_core.specs.declared.past.PastRun.TheVariants.{Calls, Begins, Ends}
+use Rattle.live_core.specs.declared.front.CarriedCall.{CarriedCall}
+use Rattle.live_core.specs.declared.front.Client.{Client}
+use Rattle.live_core.specs.declared.front.KeptCall.{KeptCall}
+use Rattle.live_core.specs.declared.front.Answer.{Answer}
+use Rattle.live_core.specs.declared.front.Answer.TheVariants.{Replied, Cancelled}
+use Rattle.live_core.specs.Front.{IsOperation, IsCall, IsKey, IsLong, IsRun, IsCarried, IsClient, IsKept, IsAnswer}
+use Rattle.live_core.specs.Text.{object_words, source_words, base_words, run_words, call_words, carried_words, client_words, answer_words, kept_words}
 use Rattle.front_read.specs.Parts.{IsValueOf}
 use Rattle.front_read.specs.Rows.{row_words}
 use Rattle.front_read.proofs.Calling.{all_of}

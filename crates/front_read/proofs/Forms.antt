@@ -15,9 +15,9 @@ use Rattle.decl_core.specs.Bodies.{body_of}
 use Rattle.decl_core.specs.ObjectMap.{params_of, operations_of}
 use Rattle.apply_core.specs.Fits.{ArgumentsFit}
 use Rattle.decl_core.specs.ObjectForm.{OperationForm, ObjectForm}
-use Rattle.trace_core.specs.Events.{form_body, no_body}
-use Rattle.trace_core.specs.Text.{operation_name}
-use Rattle.front_core.specs.Front.{IsOperation}
+use Rattle.word_core.specs.Events.{form_body, no_body}
+use Rattle.word_core.specs.Text.{operation_name}
+use Rattle.live_core.specs.Front.{IsOperation}
 use Rattle.front_read.specs.Calls.{operation_in}
 
 abbrev pub body_among : List OperationForm → ℕ → Body

@@ -7,15 +7,15 @@ use Rattle.value_core.specs.declared.kind.Kind.{Kind}
 use Rattle.value_core.specs.Contents.{Contents}
 use Rattle.decl_core.specs.ObjectForm.{ObjectForm}
 use Rattle.word_core.specs.Words.{Word, line_of}
-use Rattle.trace_core.specs.Laws.{HasNames}
-use Rattle.trace_core.specs.Text.{part_words, lines_of}
-use Rattle.front_core.specs.declared.past.PastRun.{PastRun}
-use Rattle.front_core.specs.declared.past.PastRun.TheVariants.{Calls, Begins, Ends}
-use Rattle.front_core.specs.declared.front.CarriedCall.{CarriedCall}
-use Rattle.front_core.specs.declared.front.Client.{Client}
-use Rattle.front_core.specs.declared.front.KeptCall.{KeptCall}
-use Rattle.front_core.specs.Front.{Every, IsKey, IsLong, IsRun, IsCarried, IsClient, IsKept, Opening}
-use Rattle.front_core.specs.Text.{rows, object_words, source_words, base_words, run_words, carried_words, client_words, kept_words}
+use Rattle.word_core.specs.TraceLaws.{HasNames}
+use Rattle.word_core.specs.Text.{part_words, lines_of}
+use Rattle.live_core.specs.declared.past.PastRun.{PastRun}
+use Rattle.live_core.specs.declared.past.PastRun.TheVariants.{Calls, Begins, Ends}
+use Rattle.live_core.specs.declared.front.CarriedCall.{CarriedCall}
+use Rattle.live_core.specs.declared.front.Client.{Client}
+use Rattle.live_core.specs.declared.front.KeptCall.{KeptCall}
+use Rattle.live_core.specs.Front.{Every, IsKey, IsLong, IsRun, IsCarried, IsClient, IsKept, Opening}
+use Rattle.live_core.specs.Text.{rows, object_words, source_words, base_words, run_words, carried_words, client_words, kept_words}
 use Rattle.front_read.specs.Text.{begins, goes_on, goes_on_with_calls, goes_on_behind_parts}
 use Rattle.front_read.specs.Rows.{IsRow, NoRow, AreRows, Breaks, row_words, has_verb}
 use Rattle.front_read.specs.Parts.{IsValueOf, AreParts}

@@ -6,19 +6,19 @@ use Rattle.std.proofs.lemmas.List.{append-nil}
 use Rattle.std.specs.Prelude.{All}
 use Rattle.std.proofs.lemmas.List.Elements.{All-head, All-tail}
 use Rattle.path_tree.specs.Identifier.{IsName}
-use Rattle.line_core.specs.Runs.{NoLineFeed}
+use Rattle.text_core.specs.Runs.{NoLineFeed}
 use Rattle.value_core.specs.declared.kind.Kind.{Kind}
 use Rattle.value_core.specs.Contents.{Contents, IsContents, kind_of}
 use Rattle.decl_core.specs.ObjectForm.{ObjectForm}
 use Rattle.word_core.specs.Words.{Word, words_text, line_of}
-use Rattle.trace_core.specs.Laws.{HasNames}
-use Rattle.trace_core.specs.Text.{part_words, parts_words, lines_of}
-use Rattle.front_core.specs.declared.past.PastRun.{PastRun}
-use Rattle.front_core.specs.declared.front.CarriedCall.{CarriedCall}
-use Rattle.front_core.specs.declared.front.Client.{Client}
-use Rattle.front_core.specs.declared.front.KeptCall.{KeptCall}
-use Rattle.front_core.specs.Front.{Every, IsRun, IsCarried, IsClient, IsKept, IsKey, IsLong, Opening, HasRows}
-use Rattle.front_core.specs.Text.{rows, run_words, carried_words, client_words, kept_words, object_words, source_words, base_words, runs_text, carried_text, clients_text, kept_text, calls_text, behind_parts, front_text}
+use Rattle.word_core.specs.TraceLaws.{HasNames}
+use Rattle.word_core.specs.Text.{part_words, parts_words, lines_of}
+use Rattle.live_core.specs.declared.past.PastRun.{PastRun}
+use Rattle.live_core.specs.declared.front.CarriedCall.{CarriedCall}
+use Rattle.live_core.specs.declared.front.Client.{Client}
+use Rattle.live_core.specs.declared.front.KeptCall.{KeptCall}
+use Rattle.live_core.specs.Front.{Every, IsRun, IsCarried, IsClient, IsKept, IsKey, IsLong, Opening, HasRows}
+use Rattle.live_core.specs.Text.{rows, run_words, carried_words, client_words, kept_words, object_words, source_words, base_words, runs_text, carried_text, clients_text, kept_text, calls_text, behind_parts, front_text}
 use Rattle.front_read.specs.Text.{begins, goes_on}
 use Rattle.front_read.specs.Rows.{NoRow, Breaks, has_verb, row_words}
 use Rattle.front_read.specs.Parts.{IsValueOf, AreParts}

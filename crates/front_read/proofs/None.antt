@@ -3,11 +3,11 @@ use Rattle.std.proofs.Common.{◌≡◌, ℕ, List, ◌++◌}
 use Rattle.value_core.specs.declared.kind.Kind.{Kind}
 use Rattle.value_core.specs.Contents.{Contents}
 use Rattle.decl_core.specs.ObjectForm.{ObjectForm}
-use Rattle.front_core.specs.declared.past.PastRun.{PastRun}
-use Rattle.front_core.specs.declared.front.CarriedCall.{CarriedCall}
-use Rattle.front_core.specs.declared.front.Client.{Client}
-use Rattle.front_core.specs.declared.front.KeptCall.{KeptCall}
-use Rattle.front_core.specs.Front.{Opening}
+use Rattle.live_core.specs.declared.past.PastRun.{PastRun}
+use Rattle.live_core.specs.declared.front.CarriedCall.{CarriedCall}
+use Rattle.live_core.specs.declared.front.Client.{Client}
+use Rattle.live_core.specs.declared.front.KeptCall.{KeptCall}
+use Rattle.live_core.specs.Front.{Opening}
 use Rattle.front_read.specs.Parts.{AreParts}
 use Rattle.front_read.specs.Read.{OnClients, OnCalls, OnBase, OnPast, BehindSource, BehindObject, OnFront}
 

@@ -10,10 +10,10 @@ use Rattle.value_core.specs.Contents.{Contents}
 use Rattle.value_core.specs.Spelling.{spelling, Spells}
 use Rattle.value_core.proofs.Bytes.{spelling_is_bytes}
 use Rattle.value_core.proofs.Unique.{unique_in}
-use Rattle.trace_core.specs.Text.{part_words}
+use Rattle.word_core.specs.Text.{part_words}
 use Rattle.word_core.specs.Words.{Word}
-use Rattle.front_core.specs.Front.{IsLong}
-use Rattle.front_core.specs.Text.{source_words}
+use Rattle.live_core.specs.Front.{IsLong}
+use Rattle.live_core.specs.Text.{source_words}
 use Rattle.front_read.specs.Words.{hex_of, hash_of}
 use Rattle.front_read.specs.Rows.{Finds}
 use Rattle.front_read.specs.Parts.{IsValueOf, IsHexOf}

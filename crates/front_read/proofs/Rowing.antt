@@ -14,16 +14,16 @@ use Rattle.word_core.specs.Words.{Word, bare, AreWords, line_of}
 use Rattle.word_core.specs.Data.{◌>>=◌, integer_of}
 use Rattle.word_core.proofs.Numerals.{no_digits}
 use Rattle.word_core.proofs.Written.{written_integer}
-use Rattle.trace_core.specs.Text.{operation_name}
-use Rattle.trace_core.specs.Laws.{HasNames}
-use Rattle.front_core.specs.declared.past.PastRun.{PastRun}
-use Rattle.front_core.specs.declared.past.PastRun.TheVariants.{Calls, Begins, Ends}
-use Rattle.front_core.specs.declared.front.CarriedCall.{CarriedCall}
-use Rattle.front_core.specs.declared.front.Client.{Client}
-use Rattle.front_core.specs.declared.front.KeptCall.{KeptCall}
-use Rattle.front_core.specs.declared.front.Answer.{Answer}
-use Rattle.front_core.specs.Front.{IsOperation, IsCall, IsRun, IsCarried, IsClient, IsKept, IsAnswer}
-use Rattle.front_core.specs.Text.{run_words, call_words, carried_words, client_words, answer_words, kept_words}
+use Rattle.word_core.specs.Text.{operation_name}
+use Rattle.word_core.specs.TraceLaws.{HasNames}
+use Rattle.live_core.specs.declared.past.PastRun.{PastRun}
+use Rattle.live_core.specs.declared.past.PastRun.TheVariants.{Calls, Begins, Ends}
+use Rattle.live_core.specs.declared.front.CarriedCall.{CarriedCall}
+use Rattle.live_core.specs.declared.front.Client.{Client}
+use Rattle.live_core.specs.declared.front.KeptCall.{KeptCall}
+use Rattle.live_core.specs.declared.front.Answer.{Answer}
+use Rattle.live_core.specs.Front.{IsOperation, IsCall, IsRun, IsCarried, IsClient, IsKept, IsAnswer}
+use Rattle.live_core.specs.Text.{run_words, call_words, carried_words, client_words, answer_words, kept_words}
 use Rattle.front_read.specs.declared.answer.Ended.{Ended}
 use Rattle.front_read.specs.declared.carried.CarriedHead.{CarriedHead}
 use Rattle.front_read.specs.declared.carried.CarriedRow.{CarriedRow}

@@ -2,14 +2,14 @@
 use Rattle.std.proofs.Common.{◌≡◌, ℕ, List, [], ◌∷◌, ◌++◌, sym, ap, ◌∙◌, subst, append_assoc}
 use Rattle.std.specs.Prelude.{Option, Some, None, Result, Ok, Err, IfOk}
 use Rattle.std.specs.Borrow.{Bor}
-use Rattle.line_core.specs.Runs.{NoLineFeed}
+use Rattle.text_core.specs.Runs.{NoLineFeed}
 use Rattle.std.specs.Global.{Vec}
 use Rattle.word_core.specs.declared.word.Word as declared
 use Rattle.word_core.specs.View.{AreWordsOf, words_of}
 use Rattle.word_core.specs.Words.{Word, AreWords, words_text, line_of}
 use Rattle.word_core.proofs.Cutting.{words_unique}
 use Rattle.word_core.proofs.Written.{written_words}
-use Rattle.trace_core.proofs.Plain.{EachSafe, each_word}
+use Rattle.word_core.proofs.Plain.{EachSafe, each_word}
 use Rattle.front_read.specs.Rows.{Finds, NoRow, Gives, GivesThis, Takes, TakesThis}
 use Rattle.front_read.proofs.Calling.{some_same, not_some}
 use Rattle.front_read.proofs.Clear.{no_feed}

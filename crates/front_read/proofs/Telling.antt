@@ -6,11 +6,11 @@ use Rattle.decl_core.specs.ObjectForm.{ObjectForm}
 use Rattle.word_core.specs.Words.{Word, bare}
 use Rattle.word_core.specs.Data.{◌>>=◌, bare_of, integer_of, session_of, session_word}
 use Rattle.word_core.proofs.Written.{written_integer, written_session}
-use Rattle.front_core.specs.declared.front.CarriedCall.{CarriedCall}
-use Rattle.front_core.specs.declared.front.Client.{Client}
-use Rattle.front_core.specs.declared.front.KeptCall.{KeptCall}
-use Rattle.front_core.specs.Front.{IsSession, IsLong, IsCount, IsKey, IsCarried, IsClient, IsKept}
-use Rattle.front_core.specs.Text.{object_words, base_words, carried_words, client_words, kept_words, call_words, answer_words}
+use Rattle.live_core.specs.declared.front.CarriedCall.{CarriedCall}
+use Rattle.live_core.specs.declared.front.Client.{Client}
+use Rattle.live_core.specs.declared.front.KeptCall.{KeptCall}
+use Rattle.live_core.specs.Front.{IsSession, IsLong, IsCount, IsKey, IsCarried, IsClient, IsKept}
+use Rattle.live_core.specs.Text.{object_words, base_words, carried_words, client_words, kept_words, call_words, answer_words}
 use Rattle.front_read.specs.declared.carried.CarriedHead.{CarriedHead}
 use Rattle.front_read.specs.declared.kept.KeptHead.{KeptHead}
 use Rattle.front_read.specs.Words.{long_of, behind_verb, long_first, key_first, count_first, session_first, carried_head, kept_head, epoch_of, base_of}

@@ -21,14 +21,14 @@ use Rattle.word_core.specs.Data.{bare_of, data_of, datum_of, datum_word}
 use Rattle.word_core.proofs.Clear.{written_data}
 use Rattle.word_core.proofs.Cutting.{words_unique}
 use Rattle.word_core.proofs.Written.{written_words, written_datum}
-use Rattle.trace_core.specs.Laws.{HasNames}
-use Rattle.trace_core.specs.Text.{operation_name, part_words, failure_word}
-use Rattle.trace_core.proofs.Plain.{EachSafe, each_word}
-use Rattle.trace_core.proofs.Reading.{replies_apart}
-use Rattle.front_core.specs.declared.front.Answer.{Answer}
-use Rattle.front_core.specs.declared.front.Answer.TheVariants.{Replied, Cancelled}
-use Rattle.front_core.specs.Front.{IsCall, IsKey, IsLong, IsRun, IsCarried, IsClient, IsKept, IsAnswer}
-use Rattle.front_core.specs.Text.{object_words, source_words, base_words, run_words, call_words, carried_words, client_words, kept_words, answer_words}
+use Rattle.word_core.specs.TraceLaws.{HasNames}
+use Rattle.word_core.specs.Text.{operation_name, part_words, failure_word}
+use Rattle.word_core.proofs.Plain.{EachSafe, each_word}
+use Rattle.word_core.proofs.TraceReading.{replies_apart}
+use Rattle.live_core.specs.declared.front.Answer.{Answer}
+use Rattle.live_core.specs.declared.front.Answer.TheVariants.{Replied, Cancelled}
+use Rattle.live_core.specs.Front.{IsCall, IsKey, IsLong, IsRun, IsCarried, IsClient, IsKept, IsAnswer}
+use Rattle.live_core.specs.Text.{object_words, source_words, base_words, run_words, call_words, carried_words, client_words, kept_words, answer_words}
 use Rattle.front_read.specs.declared.carried.CarriedHead.{CarriedHead}
 use Rattle.front_read.specs.declared.kept.KeptHead.{KeptHead}
 use Rattle.front_read.specs.Words.{epoch_of, base_of, hash_of, hex_of, carried_head, kept_head}

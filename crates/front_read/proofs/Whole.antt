@@ -8,14 +8,14 @@ use Rattle.value_core.specs.Contents.{Contents, kind_of, IsContents}
 use Rattle.path_tree.specs.Identifier.{IsName}
 use Rattle.decl_core.specs.ObjectForm.{ObjectForm}
 use Rattle.word_core.specs.Words.{line_of}
-use Rattle.trace_core.specs.Laws.{HasNames}
-use Rattle.trace_core.specs.Text.{part_words, parts_words, lines_of}
-use Rattle.front_core.specs.Front.{Every, IsKey, IsLong, IsRun, IsCarried, IsClient, IsKept, HasRows, Opening}
-use Rattle.front_core.specs.Text.{object_words, source_words, base_words, runs_text, carried_text, clients_text, kept_text, calls_text, behind_parts, front_text, run_words, carried_words, client_words, kept_words}
-use Rattle.front_core.specs.declared.past.PastRun.{PastRun}
-use Rattle.front_core.specs.declared.front.CarriedCall.{CarriedCall}
-use Rattle.front_core.specs.declared.front.Client.{Client}
-use Rattle.front_core.specs.declared.front.KeptCall.{KeptCall}
+use Rattle.word_core.specs.TraceLaws.{HasNames}
+use Rattle.word_core.specs.Text.{part_words, parts_words, lines_of}
+use Rattle.live_core.specs.Front.{Every, IsKey, IsLong, IsRun, IsCarried, IsClient, IsKept, HasRows, Opening}
+use Rattle.live_core.specs.Text.{object_words, source_words, base_words, runs_text, carried_text, clients_text, kept_text, calls_text, behind_parts, front_text, run_words, carried_words, client_words, kept_words}
+use Rattle.live_core.specs.declared.past.PastRun.{PastRun}
+use Rattle.live_core.specs.declared.front.CarriedCall.{CarriedCall}
+use Rattle.live_core.specs.declared.front.Client.{Client}
+use Rattle.live_core.specs.declared.front.KeptCall.{KeptCall}
 use Rattle.front_read.specs.Text.{goes_on}
 use Rattle.front_read.specs.Rows.{IsRow, AreRows, has_verb}
 use Rattle.front_read.specs.Parts.{IsValueOf, AreParts}

@@ -3,10 +3,10 @@ use Rattle.std.specs.Prelude.{◌≡◌, ℕ, Bool, true, false, List, [], ◌�
 use Rattle.apply_core.specs.declared.reply.Reply.{Reply}
 use Rattle.word_core.specs.Words.{Word}
 use Rattle.word_core.specs.Data.{datum_of}
-use Rattle.front_core.specs.Front.{IsAnswer}
-use Rattle.front_core.specs.Text.{answer_words}
-use Rattle.front_core.specs.declared.front.Answer.{Answer}
-use Rattle.front_core.specs.declared.front.Answer.TheVariants.{Replied, Cancelled}
+use Rattle.live_core.specs.Front.{IsAnswer}
+use Rattle.live_core.specs.Text.{answer_words}
+use Rattle.live_core.specs.declared.front.Answer.{Answer}
+use Rattle.live_core.specs.declared.front.Answer.TheVariants.{Replied, Cancelled}
 use Rattle.front_read.specs.declared.answer.Ended.{Ended}
 use Rattle.front_read.specs.declared.answer.Ended.TheVariants as ended
 

@@ -5,10 +5,10 @@ use Rattle.path_tree.specs.Known.{place_of}
 use Rattle.value_core.specs.declared.datum.Datum.{Datum}
 use Rattle.value_core.specs.Datum.{elem_of}
 use Rattle.decl_core.specs.ObjectForm.{ObjectForm}
-use Rattle.trace_core.specs.Events.{body_at}
+use Rattle.word_core.specs.Events.{body_at}
 use Rattle.word_core.specs.Words.{Word}
-use Rattle.front_core.specs.Front.{IsOperation, IsCall}
-use Rattle.front_core.specs.Text.{call_words}
+use Rattle.live_core.specs.Front.{IsOperation, IsCall}
+use Rattle.live_core.specs.Text.{call_words}
 
 -- the place of the first operation of a name
 abbrev pub operation_in : ObjectForm → List ℕ → Option ℕ

@@ -1,18 +1,18 @@
 -- At which rest of a text no front goes on.
 use Rattle.std.specs.Prelude.{◌≡◌, ℕ, suc, true, false, ◌⊎◌, List, [], ◌∷◌, ◌++◌, codes, Result, MatchResult}
 use Rattle.std.specs.Borrow.{Bor}
-use Rattle.line_core.specs.Runs.{NoLineFeed}
+use Rattle.text_core.specs.Runs.{NoLineFeed}
 use Rattle.value_core.specs.declared.kind.Kind.{Kind}
 use Rattle.value_core.specs.Contents.{Contents}
 use Rattle.decl_core.specs.ObjectForm.{ObjectForm}
-use Rattle.trace_core.specs.Text.{part_words}
-use Rattle.front_core.specs.declared.past.PastRun.{PastRun}
-use Rattle.front_core.specs.declared.front.CarriedCall.{CarriedCall}
-use Rattle.front_core.specs.declared.front.Client.{Client}
-use Rattle.front_core.specs.declared.front.KeptCall.{KeptCall}
-use Rattle.front_core.specs.Front.{IsRun, IsCarried, IsClient, IsKept, IsKey, IsLong, Opening, HasRows}
-use Rattle.front_core.specs.Text.{run_words, carried_words, client_words, kept_words, object_words, source_words}
-use Rattle.front_core.specs.Text.{base_words, front_text}
+use Rattle.word_core.specs.Text.{part_words}
+use Rattle.live_core.specs.declared.past.PastRun.{PastRun}
+use Rattle.live_core.specs.declared.front.CarriedCall.{CarriedCall}
+use Rattle.live_core.specs.declared.front.Client.{Client}
+use Rattle.live_core.specs.declared.front.KeptCall.{KeptCall}
+use Rattle.live_core.specs.Front.{IsRun, IsCarried, IsClient, IsKept, IsKey, IsLong, Opening, HasRows}
+use Rattle.live_core.specs.Text.{run_words, carried_words, client_words, kept_words, object_words, source_words}
+use Rattle.live_core.specs.Text.{base_words, front_text}
 use Rattle.front_read.specs.Text.{goes_on, feeds_in}
 use Rattle.front_read.specs.Rows.{IsRow, NoRow, AreRows, Breaks, has_verb}
 use Rattle.front_read.specs.Parts.{IsValueOf, AreParts}

@@ -4,7 +4,7 @@ use Rattle.hex.specs.Hex.{encode_lower}
 use Rattle.value_core.specs.declared.kind.Kind.{Kind}
 use Rattle.value_core.specs.Contents.{Contents, IsContents, kind_of}
 use Rattle.value_core.specs.Spelling.{spelling}
-use Rattle.trace_core.specs.Text.{part_words}
+use Rattle.word_core.specs.Text.{part_words}
 use Rattle.front_read.specs.Rows.{IsRow}
 
 abbrev pub IsValueOf : Kind → Contents → Type 0

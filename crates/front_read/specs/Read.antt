@@ -3,14 +3,14 @@ use Rattle.std.specs.Prelude.{◌≡◌, ℕ, false, List, codes, Result, MatchR
 use Rattle.std.specs.Borrow.{Bor}
 use Rattle.value_core.specs.Contents.{Contents}
 use Rattle.decl_core.specs.ObjectForm.{ObjectForm}
-use Rattle.front_core.specs.declared.front.Front.{Front}
-use Rattle.front_core.specs.declared.past.PastRun.{PastRun}
-use Rattle.front_core.specs.declared.front.CarriedCall.{CarriedCall}
-use Rattle.front_core.specs.declared.front.Client.{Client}
-use Rattle.front_core.specs.declared.front.KeptCall.{KeptCall}
-use Rattle.front_core.specs.Front.{IsRun, IsCarried, IsClient, IsKept, IsKey, IsLong, Opening, opening_of}
-use Rattle.front_core.specs.Text.{run_words, carried_words, client_words, kept_words, object_words, source_words}
-use Rattle.front_core.specs.Text.{base_words}
+use Rattle.live_core.specs.declared.front.Front.{Front}
+use Rattle.live_core.specs.declared.past.PastRun.{PastRun}
+use Rattle.live_core.specs.declared.front.CarriedCall.{CarriedCall}
+use Rattle.live_core.specs.declared.front.Client.{Client}
+use Rattle.live_core.specs.declared.front.KeptCall.{KeptCall}
+use Rattle.live_core.specs.Front.{IsRun, IsCarried, IsClient, IsKept, IsKey, IsLong, Opening, opening_of}
+use Rattle.live_core.specs.Text.{run_words, carried_words, client_words, kept_words, object_words, source_words}
+use Rattle.live_core.specs.Text.{base_words}
 use Rattle.front_read.specs.Text.{goes_on}
 use Rattle.front_read.specs.Rows.{IsRow, AreRows}
 use Rattle.front_read.specs.Parts.{AreParts}

@@ -8,14 +8,14 @@ use Rattle.value_core.specs.declared.datum.Datum.{Datum}
 use Rattle.decl_core.specs.ObjectForm.{ObjectForm}
 use Rattle.word_core.specs.Words.{Word, bare, line_of}
 use Rattle.word_core.specs.Data.{◌>>=◌, bare_of, only_bare, integer_of}
-use Rattle.front_core.specs.declared.past.PastRun.{PastRun}
-use Rattle.front_core.specs.declared.past.PastRun.TheVariants.{Begins, Ends}
-use Rattle.front_core.specs.declared.front.CarriedCall.{CarriedCall}
-use Rattle.front_core.specs.declared.front.Client.{Client}
-use Rattle.front_core.specs.declared.front.KeptCall.{KeptCall}
-use Rattle.front_core.specs.declared.front.Answer.{Answer}
-use Rattle.front_core.specs.Front.{IsRun, IsCall}
-use Rattle.front_core.specs.Text.{run_words, client_words, call_words}
+use Rattle.live_core.specs.declared.past.PastRun.{PastRun}
+use Rattle.live_core.specs.declared.past.PastRun.TheVariants.{Begins, Ends}
+use Rattle.live_core.specs.declared.front.CarriedCall.{CarriedCall}
+use Rattle.live_core.specs.declared.front.Client.{Client}
+use Rattle.live_core.specs.declared.front.KeptCall.{KeptCall}
+use Rattle.live_core.specs.declared.front.Answer.{Answer}
+use Rattle.live_core.specs.Front.{IsRun, IsCall}
+use Rattle.live_core.specs.Text.{run_words, client_words, call_words}
 use Rattle.front_read.specs.declared.carried.CarriedRow.{CarriedRow}
 use Rattle.front_read.specs.declared.client.ClientRow.{ClientRow}
 use Rattle.front_read.specs.declared.kept.KeptHead.{KeptHead}

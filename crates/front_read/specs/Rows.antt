@@ -3,9 +3,9 @@ use Rattle.std.specs.Prelude.{◌≡◌, ℕ, Bool, true, false, List, [], ◌�
 use Rattle.std.specs.Prelude.{Some, option_map}
 use Rattle.std.specs.Borrow.{Bor}
 use Rattle.word_core.specs.Words.{Word, bare, line_of}
-use Rattle.trace_core.specs.Text.{lines_of}
-use Rattle.front_core.specs.Front.{Every}
-use Rattle.front_core.specs.Text.{rows}
+use Rattle.word_core.specs.Text.{lines_of}
+use Rattle.live_core.specs.Front.{Every}
+use Rattle.live_core.specs.Text.{rows}
 use Rattle.front_read.specs.Text.{begins}
 
 -- what these words stand for was found, where they stand for something

@@ -5,16 +5,16 @@ ghost use Rattle.path_tree.specs.Known.{place_of};
 ghost use Rattle.value_core.specs.Datum.{IsDatum};
 ghost use Rattle.decl_core.specs.ObjectMap.{object_of, operations_of};
 ghost use Rattle.word_core.specs.View.{words_of as words_in};
-ghost use Rattle.front_core.specs.Front.{Every, IsCall};
+ghost use Rattle.live_core.specs.Front.{Every, IsCall};
 ghost use Rattle.front_read.specs.Rows.{Finds};
 ghost use Rattle.front_read.specs.Calls.{operation_in, IsAsked, asked_words, asked_of, FindsBy};
 
 use apply_core::fits::arguments_fit;
 use decl_core::object::{Object, Operation};
-use line_core::words::is_same_word;
 use path_tree::node::OpId;
 use std::alloc::{AllocError, Global};
 use std::sync::Arc;
+use text_core::words::is_same_word;
 use value_core::datum::Datum;
 use word_core::word::Word;
 use word_core::words::{bare_of, data_of};

@@ -2,15 +2,15 @@
 
 ghost use Rattle.std.specs.Prelude.{◌≡◌, IfOk, codes, option_map};
 ghost use Rattle.word_core.specs.View.{words_of as words_in};
-ghost use Rattle.front_core.specs.Front.{IsClient};
-ghost use Rattle.front_core.specs.Text.{client_words};
+ghost use Rattle.live_core.specs.Front.{IsClient};
+ghost use Rattle.live_core.specs.Text.{client_words};
 ghost use Rattle.front_read.specs.Rows.{Takes, TakesThis, row_words};
 ghost use Rattle.front_read.specs.Row.{client_row, client_of as client_in, TakesNamed};
 
 use crate::number::{behind_verb, long_first, session_first};
 use crate::text::{behind, first_line};
-use front_core::front::Client;
-use front_core::write::push_client;
+use live_core::front::Client;
+use live_core::write::push_client;
 use path_tree::name::Name;
 use std::alloc::{AllocError, Global};
 use word_core::word::Word;

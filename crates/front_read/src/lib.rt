@@ -1,7 +1,7 @@
 //! The front of an epoch of a kept object, read from its text.
 //!
 //! `read::read_front` takes the front at the beginning of a text, and tells how many bytes it has. Nothing but what
-//! `front_core` writes is read: each row is written again and compared. A row is read in three steps: `text` cuts its
+//! `live_core` writes is read: each row is written again and compared. A row is read in three steps: `text` cuts its
 //! line, `word_core` makes words of it, and the module of the row takes these for what they stand for.
 #![tactic(auto)]
 

@@ -3,7 +3,7 @@
 ghost use Rattle.std.specs.Prelude.{All};
 ghost use Rattle.path_tree.specs.Identifier.{IsName};
 ghost use Rattle.decl_core.specs.ObjectMap.{object_of, parts_of, operations_of};
-ghost use Rattle.trace_core.specs.Laws.{HasNames};
+ghost use Rattle.word_core.specs.TraceLaws.{HasNames};
 
 use decl_core::object::{Object, Operation, Part};
 use std::sync::Arc;

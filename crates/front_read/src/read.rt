@@ -2,9 +2,9 @@
 
 ghost use Rattle.std.specs.Prelude.{◌≡◌, ◌++◌, ◌≤◌, ℕ, suc, List, [], IfOk, IfErr, MatchResult, codes, length, take, true, false};
 ghost use Rattle.decl_core.specs.ObjectMap.{object_of, parts_of};
-ghost use Rattle.trace_core.specs.Laws.{HasNames};
-ghost use Rattle.front_core.specs.Front.{IsRun, IsCarried, IsClient, IsKept, HasRows, Opening, opening_of};
-ghost use Rattle.front_core.specs.Text.{run_words, carried_words, client_words, kept_words, front_text};
+ghost use Rattle.word_core.specs.TraceLaws.{HasNames};
+ghost use Rattle.live_core.specs.Front.{IsRun, IsCarried, IsClient, IsKept, HasRows, Opening, opening_of};
+ghost use Rattle.live_core.specs.Text.{run_words, carried_words, client_words, kept_words, front_text};
 ghost use Rattle.front_read.specs.Text.{goes_on as goes_on_in, feeds_in as feeds};
 ghost use Rattle.front_read.specs.Rows.{TakesAll};
 ghost use Rattle.front_read.specs.Fault.{IsFirstFault, TakesParts};
@@ -18,8 +18,8 @@ use crate::names::object_has_names;
 use crate::run::take_run;
 use crate::text::{begins_with, feeds_in, goes_on};
 use decl_core::object::{Object, Part};
-use front_core::front::{CarriedCall, Client, Front, KeptCall};
-use front_core::past::PastRun;
+use live_core::front::{CarriedCall, Client, Front, KeptCall};
+use live_core::past::PastRun;
 use std::alloc::{AllocError, Global};
 use value_core::value::Value;
 
@@ -341,7 +341,7 @@ fn front_at<'a>(
 /// The front of an epoch of this object at the beginning of a text, and how many bytes it has; or the number of the
 /// first line, from 1, at which no front goes on.
 ///
-/// Each line is spelled as `front_core::write` spells it, and no other spelling is read. The front ends before the first
+/// Each line is spelled as `live_core::write` spells it, and no other spelling is read. The front ends before the first
 /// line that does not begin with `object`, `source`, `part`, `past`, `base`, `carried`, `client` or `kept` and a space:
 /// what stands from there on is not looked at. Whether sessions, names or keys stand twice, whether a past can have
 /// happened, and whether the source is that of the object is not looked at either.

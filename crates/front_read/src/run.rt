@@ -6,9 +6,9 @@
 ghost use Rattle.std.specs.Prelude.{◌≡◌, IfOk, codes, option_map};
 ghost use Rattle.decl_core.specs.ObjectMap.{object_of};
 ghost use Rattle.word_core.specs.View.{words_of as words_in};
-ghost use Rattle.trace_core.specs.Laws.{HasNames};
-ghost use Rattle.front_core.specs.Front.{IsRun};
-ghost use Rattle.front_core.specs.Text.{run_words};
+ghost use Rattle.word_core.specs.TraceLaws.{HasNames};
+ghost use Rattle.live_core.specs.Front.{IsRun};
+ghost use Rattle.live_core.specs.Text.{run_words};
 ghost use Rattle.front_read.specs.Rows.{Finds, Takes, TakesThis, row_words};
 ghost use Rattle.front_read.specs.Row.{FindsRun, two_in, event_in, count_in};
 
@@ -17,11 +17,11 @@ use crate::names::object_has_names;
 use crate::number::behind_verb;
 use crate::text::{behind, first_line};
 use decl_core::object::Object;
-use front_core::past::PastRun;
-use front_core::write::push_past;
-use line_core::words::is_same_word;
+use live_core::past::PastRun;
+use live_core::write::push_past;
 use path_tree::node::OpId;
 use std::alloc::{AllocError, Global};
+use text_core::words::is_same_word;
 use word_core::number::integer_of;
 use word_core::word::Word;
 use word_core::words::{bare_of, only_bare, words_of};

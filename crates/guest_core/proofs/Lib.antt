@@ -9,3 +9,7 @@ pub mod Seating
 pub mod Sound
 pub mod Telling
 pub mod Whole
+pub mod Given
+pub mod Ending
+pub mod Undoing
+pub mod Newest

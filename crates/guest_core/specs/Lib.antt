@@ -8,3 +8,8 @@ pub mod RollView
 pub mod Seats
 pub mod SeatsView
 pub mod Steps
+pub mod Held
+pub mod Places
+pub mod Undo
+pub mod Laws
+pub mod Views

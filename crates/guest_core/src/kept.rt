@@ -3,9 +3,9 @@
 ghost use Rattle.std.specs.Prelude.{◌≡◌, ◌↔◌, IsTrue, IfOk, Some, None};
 
 use apply_core::reply::Reply;
+use apply_core::short::Short;
+use apply_core::slim::Slims;
 use path_tree::node::OpId;
-use short_core::short::Short;
-use short_core::slim::Slims;
 use std::alloc::{AllocError, Global};
 use value_core::datum::Datum;
 

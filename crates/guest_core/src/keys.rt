@@ -6,8 +6,8 @@ ghost use Rattle.guest_core.specs.Keys.{fresh_keys, withdrawn, remembered};
 
 use crate::kept::{Asked, Kept};
 use apply_core::reply::Reply;
+use apply_core::short::Short;
 use path_tree::node::OpId;
-use short_core::short::Short;
 use std::alloc::{AllocError, Global};
 use std::marker::Model;
 use text_core::limits::MOST_TEXT_BYTES;

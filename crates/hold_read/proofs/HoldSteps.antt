@@ -8,9 +8,9 @@ use Rattle.std.proofs.lemmas.Option.{slice_get-map}
 use Rattle.std.proofs.lemmas.List.Folds.{list_any-append}
 use Rattle.decl_core.specs.declared.object.Operation.{Operation}
 use Rattle.decl_core.specs.declared.object.Param.{Param}
-use Rattle.hold_form.specs.HoldForm.{signatures_of, signature_of}
+use Rattle.decl_core.specs.HoldForm.{signatures_of, signature_of}
 use Rattle.decl_core.specs.ObjectMap.{operation_of, operations_of, params_of}
-use Rattle.hold_form.specs.HoldForm.{HoldForm, Signature, signature, is_one_of, named_in, ending_in}
+use Rattle.decl_core.specs.HoldForm.{HoldForm, Signature, signature, is_one_of, named_in, ending_in}
 
 or_assoc : (x y z : Bool) → (x || (y || z)) ≡ (x || y || z)
 or_assoc true y z = refl

@@ -13,8 +13,8 @@ use Rattle.body_read.specs.Scopes.{operation_names}
 use Rattle.body_read.specs.Series.{IsSeries, series_at}
 use Rattle.body_read.proofs.Exact.{Exact, bind_some, read_is, series_exact}
 use Rattle.decl_core.specs.ObjectForm.{OperationForm}
-use Rattle.hold_form.specs.HoldForm.{signatures_of, signature_of}
-use Rattle.hold_form.specs.HoldForm.{HoldForm, EveryForm, Signature, MayEnd, IsEvery, is_one_of, named_in, ending_in, called_in}
+use Rattle.decl_core.specs.HoldForm.{signatures_of, signature_of}
+use Rattle.decl_core.specs.HoldForm.{HoldForm, EveryForm, Signature, MayEnd, IsEvery, is_one_of, named_in, ending_in, called_in}
 use Rattle.hold_read.specs.declared.words.Word.{Word}
 use Rattle.hold_read.specs.declared.words.Word.TheVariants as words
 use Rattle.hold_read.specs.Words.{word, word_text, word_at, begins_word}

@@ -5,8 +5,8 @@ use Rattle.std.proofs.lemmas.Option.{slice_get-get_or, slice_get_within, slice_g
 use Rattle.value_core.specs.declared.kind.Elem.{Elem}
 use Rattle.value_core.specs.declared.kind.Elem.TheVariants as elem
 use Rattle.decl_core.specs.ObjectForm.{OperationForm}
-use Rattle.hold_form.specs.HoldForm.{signatures_of, signature_of}
-use Rattle.hold_form.specs.HoldForm.{Signature, signature, reply_sorts, Fits, MayEnd}
+use Rattle.decl_core.specs.HoldForm.{signatures_of, signature_of}
+use Rattle.decl_core.specs.HoldForm.{Signature, signature, reply_sorts, Fits, MayEnd}
 use Rattle.hold_read.specs.HoldReading.{same_elem, is_one_sort, takes_held, takes_none, replies_none, may_end_by, is_bare_by}
 use Rattle.decl_read.proofs.Fronts.{both_are}
 

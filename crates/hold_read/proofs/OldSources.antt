@@ -14,7 +14,7 @@ use Rattle.decl_read.specs.Sources.{AreObjectsOf}
 use Rattle.decl_read.specs.DeclarationReading.{file_in}
 use Rattle.decl_read.proofs.Files.{file_read}
 use Rattle.decl_read.proofs.Sources.{one_of_some}
-use Rattle.hold_form.specs.HoldForm.{RulesForm, no_rules}
+use Rattle.decl_core.specs.HoldForm.{RulesForm, no_rules}
 use Rattle.hold_read.specs.Sections.{lexemes_in, begins_rules, behind_object, rules_at, without, cut_by}
 use Rattle.hold_read.specs.HeldSources.{AreRuled, no_object, an_object, IsRuled, AreHeldObjectsOf, SayNothing}
 use Rattle.hold_read.specs.OldSources.{nothing_of_each}

@@ -14,8 +14,8 @@ use Rattle.decl_read.specs.declared.fault.DeclFault.{DeclFault}
 use Rattle.decl_read.specs.declared.fault.DeclFault.TheVariants as faults
 use Rattle.decl_read.specs.Sources.{AreObjectsOf, text_fault_told}
 use Rattle.decl_read.proofs.Sources.{one_of_some}
-use Rattle.hold_form.specs.HoldForm.{RulesForm, no_rules}
-use Rattle.hold_form.specs.HoldMap.{all_rules_of}
+use Rattle.decl_core.specs.HoldForm.{RulesForm, no_rules}
+use Rattle.decl_core.specs.HoldMap.{all_rules_of}
 use Rattle.hold_read.specs.declared.read.Held.{Held}
 use Rattle.hold_read.specs.Sections.{cut_by}
 use Rattle.hold_read.specs.HeldSources.{AreHeldObjectsOf, AreRuled, SayNothing, all_rules_in}

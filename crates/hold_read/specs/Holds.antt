@@ -6,8 +6,8 @@ use Rattle.path_tree.specs.Known.{place_of}
 use Rattle.body_read.specs.Scopes.{operation_names}
 use Rattle.body_read.specs.Series.{IsSeries}
 use Rattle.decl_core.specs.ObjectForm.{OperationForm}
-use Rattle.hold_form.specs.HoldForm.{HoldForm, EveryForm, RulesForm, rules_with, MayEnd, IsEvery, is_one_of, named_in}
-use Rattle.hold_form.specs.HoldForm.{called_in, signatures_of}
+use Rattle.decl_core.specs.HoldForm.{HoldForm, EveryForm, RulesForm, rules_with, MayEnd, IsEvery, is_one_of, named_in}
+use Rattle.decl_core.specs.HoldForm.{called_in, signatures_of}
 use Rattle.decl_read.specs.Declarations.{begins, is_object_word}
 use Rattle.hold_read.specs.declared.words.Word.TheVariants as words
 use Rattle.hold_read.specs.Words.{word, word_at, begins_word}

@@ -2,7 +2,7 @@
 use Rattle.std.specs.Prelude.{◌≡◌, ◌↔◌, ℕ, List, map}
 use Rattle.decl_core.specs.ObjectForm.{ObjectForm}
 use Rattle.decl_read.specs.Sources.{AreObjectsOf}
-use Rattle.hold_form.specs.HoldForm.{RulesForm, no_rules}
+use Rattle.decl_core.specs.HoldForm.{RulesForm, no_rules}
 use Rattle.hold_read.specs.HeldSources.{AreHeldObjectsOf}
 
 -- each of these objects says nothing of clients that are gone and of time

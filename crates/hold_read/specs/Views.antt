@@ -4,10 +4,10 @@ use Rattle.std.specs.Borrow.{Bor}
 use Rattle.std.specs.Global.{Vec}
 use Rattle.path_tree.specs.Lexeme.{lexemes, Lexeme}
 use Rattle.path_tree.specs.declared.token.Token.{Token}
-use Rattle.hold_form.specs.declared.hold.Hold.{Hold}
-use Rattle.hold_form.specs.declared.hold.Every.{Every}
-use Rattle.hold_form.specs.HoldForm.{HoldForm, EveryForm}
-use Rattle.hold_form.specs.HoldMap.{holds_of, everies_of}
+use Rattle.decl_core.specs.declared.hold.Hold.{Hold}
+use Rattle.decl_core.specs.declared.hold.Every.{Every}
+use Rattle.decl_core.specs.HoldForm.{HoldForm, EveryForm}
+use Rattle.decl_core.specs.HoldMap.{holds_of, everies_of}
 
 abbrev pub numbers_read : Vec ℕ × Bor (List Token) → List ℕ × List Lexeme
 numbers_read x = (x.0.items, lexemes x.1.now)

@@ -2,7 +2,7 @@
 use Rattle.std.proofs.Common.{◌≡◌, ◌≢◌, ◌∙◌, ap, sym, subst, arith, ℕ, zero, suc, List, [], ◌∷◌, ◌++◌}
 use Rattle.std.specs.Prelude.{Some, slice_get}
 use Rattle.std.proofs.lemmas.Option.{same_Some}
-use Rattle.trace_core.specs.Events.{Called}
+use Rattle.word_core.specs.Events.{Called}
 use Rattle.live_core.specs.Hall.{Hall, Told, Every, EachPair, IsHeld}
 use Rattle.live_core.specs.Steps.{Leaves}
 use Rattle.hosted_core.specs.Calls.{LetsGo, TellsCancel, Cancels, IsCancelLine}

@@ -1,8 +1,8 @@
 -- An epoch that follows.
 use Rattle.std.proofs.Common.{◌≡◌, ℕ, suc, ◌+◌, ◌-◌, ◌^◌, List, [], ◌∷◌, length, map, refl, sym, ap, ◌∙◌, subst}
 use Rattle.std.specs.Prelude.{min}
-use Rattle.trace_core.specs.Events.{Called}
-use Rattle.past_core.specs.declared.past.PastEvent.{PastEvent}
+use Rattle.word_core.specs.Events.{Called}
+use Rattle.path_count.specs.declared.past.PastEvent.{PastEvent}
 use Rattle.live_core.specs.Epochs.{IsBegun, numbered_from, told_behind}
 use Rattle.live_core.specs.Hall.{Hall, Told, IsHeld}
 use Rattle.guest_core.specs.Seats.{renewed}

@@ -4,7 +4,7 @@ use Rattle.std.specs.Prelude.{All, slice_get, slice_set}
 use Rattle.value_core.specs.declared.datum.Datum.{Datum}
 use Rattle.value_core.specs.Datum.{IsDatum}
 use Rattle.decl_core.specs.ObjectMap.{object_of}
-use Rattle.trace_core.specs.Events.{Called}
+use Rattle.word_core.specs.Events.{Called}
 use Rattle.live_core.specs.declared.call.Ran.{Ran}
 use Rattle.live_core.specs.declared.live.Taken.{Taken}
 use Rattle.live_core.specs.Hall.{Hall, Told, Every, IsHeld}

@@ -6,13 +6,13 @@ use Rattle.std.proofs.lemmas.List.{take_more, append-nil}
 use Rattle.decl_core.specs.ObjectForm.{ObjectForm}
 use Rattle.decl_core.specs.ObjectMap.{object_of}
 use Rattle.word_core.specs.Words.{Word, bare, line_of}
-use Rattle.trace_core.specs.Events.{Called}
-use Rattle.trace_core.specs.Text.{lines_of, parts_words}
-use Rattle.front_core.specs.declared.front.KeptCall.{KeptCall}
-use Rattle.front_core.specs.declared.past.PastRun.{PastRun}
-use Rattle.front_core.specs.Front.{Every, IsLong}
-use Rattle.front_core.specs.Text.{rows, carried_words, client_words, kept_words, runs_text, carried_text, clients_text, kept_text}
-use Rattle.front_core.specs.Text.{object_words, source_words, base_words, calls_text, behind_parts}
+use Rattle.word_core.specs.Events.{Called}
+use Rattle.word_core.specs.Text.{lines_of, parts_words}
+use Rattle.live_core.specs.declared.front.KeptCall.{KeptCall}
+use Rattle.live_core.specs.declared.past.PastRun.{PastRun}
+use Rattle.live_core.specs.Front.{Every, IsLong}
+use Rattle.live_core.specs.Text.{rows, carried_words, client_words, kept_words, runs_text, carried_text, clients_text, kept_text}
+use Rattle.live_core.specs.Text.{object_words, source_words, base_words, calls_text, behind_parts}
 use Rattle.guest_core.specs.declared.guest.Guest.{Guest}
 use Rattle.guest_core.specs.declared.kept.Kept.{Kept}
 use Rattle.hosted_core.specs.Scene.{Scene}

@@ -1,8 +1,8 @@
 -- How an object that was served before begins again.
 use Rattle.std.specs.Prelude.{◌≡◌, ℕ, ◌+◌, ◌-◌, ◌^◌, List, [], length, map, min}
 use Rattle.decl_core.specs.declared.object.Object.{Object}
-use Rattle.past_core.specs.declared.past.PastEvent.{PastEvent}
-use Rattle.past_core.specs.Found.{LeavesSame}
+use Rattle.path_count.specs.declared.past.PastEvent.{PastEvent}
+use Rattle.path_count.specs.Found.{LeavesSame}
 use Rattle.live_core.specs.declared.call.Limits.{Limits}
 use Rattle.live_core.specs.Answers.{IsSetUp}
 use Rattle.live_core.specs.Epochs.{told_behind}

@@ -4,9 +4,9 @@ use Rattle.std.specs.Prelude.{ℕ, ◌<◌, ◌≤◌, All, Option, Some, None}
 use Rattle.path_tree.specs.Identifier.{IsName}
 use Rattle.value_core.specs.Datum.{IsDatum}
 use Rattle.apply_core.specs.declared.reply.Reply.{Reply}
-use Rattle.front_core.specs.declared.past.PastRun.{PastRun}
-use Rattle.front_core.specs.declared.past.PastRun.TheVariants.{Calls, Begins, Ends}
-use Rattle.front_core.specs.Front.{Every, IsLong}
+use Rattle.live_core.specs.declared.past.PastRun.{PastRun}
+use Rattle.live_core.specs.declared.past.PastRun.TheVariants.{Calls, Begins, Ends}
+use Rattle.live_core.specs.Front.{Every, IsLong}
 use Rattle.guest_core.specs.declared.guest.Guest.{Guest}
 use Rattle.guest_core.specs.declared.kept.Kept.{Kept}
 use Rattle.hosted_core.specs.Calls.{RepliesDatum}

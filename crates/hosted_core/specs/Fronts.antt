@@ -3,19 +3,19 @@ use Rattle.std.specs.Prelude.{◌≡◌, ℕ, ◌+◌, ◌-◌, List, [], ◌∷
 use Rattle.std.specs.List.{flat_map}
 use Rattle.apply_core.specs.declared.reply.Reply.{Reply}
 use Rattle.decl_core.specs.ObjectMap.{object_of}
-use Rattle.trace_core.specs.Events.{Called}
-use Rattle.past_core.specs.Found.{LeavesSame}
-use Rattle.past_core.specs.declared.past.PastEvent.{PastEvent}
-use Rattle.front_core.specs.declared.past.PastRun.{PastRun}
-use Rattle.front_core.specs.declared.front.Answer.{Answer}
-use Rattle.front_core.specs.declared.front.Answer.TheVariants.{Replied, Cancelled}
-use Rattle.front_core.specs.declared.front.CarriedCall.{CarriedCall}
-use Rattle.front_core.specs.declared.front.Client.{Client}
-use Rattle.front_core.specs.declared.front.KeptCall.{KeptCall}
+use Rattle.word_core.specs.Events.{Called}
+use Rattle.path_count.specs.Found.{LeavesSame}
+use Rattle.path_count.specs.declared.past.PastEvent.{PastEvent}
+use Rattle.live_core.specs.declared.past.PastRun.{PastRun}
+use Rattle.live_core.specs.declared.front.Answer.{Answer}
+use Rattle.live_core.specs.declared.front.Answer.TheVariants.{Replied, Cancelled}
+use Rattle.live_core.specs.declared.front.CarriedCall.{CarriedCall}
+use Rattle.live_core.specs.declared.front.Client.{Client}
+use Rattle.live_core.specs.declared.front.KeptCall.{KeptCall}
 use Rattle.value_core.specs.Contents.{IsContents}
-use Rattle.front_core.specs.Front.{Every, IsLong, Opening}
-use Rattle.front_core.specs.Past.{events_in}
-use Rattle.front_core.specs.Text.{calls_text, behind_parts, front_text}
+use Rattle.live_core.specs.Front.{Every, IsLong, Opening}
+use Rattle.live_core.specs.Past.{events_in}
+use Rattle.live_core.specs.Text.{calls_text, behind_parts, front_text}
 use Rattle.guest_core.specs.declared.guest.Guest.{Guest}
 use Rattle.guest_core.specs.declared.kept.Kept.{Kept}
 use Rattle.hosted_core.specs.Fits.{GuestFits, RunFits}

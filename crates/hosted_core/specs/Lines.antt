@@ -3,8 +3,8 @@ use Rattle.std.specs.Prelude.{ℕ, List, [], ◌∷◌, codes, decimal, map, Res
 use Rattle.decl_core.specs.ObjectForm.{ObjectForm}
 use Rattle.word_core.specs.Data.{datum_word, session_word}
 use Rattle.word_core.specs.Words.{Word, bare, line_of}
-use Rattle.trace_core.specs.Events.{Called}
-use Rattle.trace_core.specs.Text.{operation_name}
+use Rattle.word_core.specs.Events.{Called}
+use Rattle.word_core.specs.Text.{operation_name}
 use Rattle.guest_core.specs.declared.guests.Entered.{Entered}
 use Rattle.guest_core.specs.declared.guests.EnterFault.{EnterFault}
 

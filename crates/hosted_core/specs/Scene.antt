@@ -1,6 +1,6 @@
 -- An object with its clients.
 use Rattle.std.specs.Prelude.{ℕ, ◌+◌, ◌-◌, ◌^◌, ◌&&◌, Bool, List, length, min, nat_lt, not, slice_index_or}
-use Rattle.past_core.specs.declared.past.PastEvent.{PastEvent}
+use Rattle.path_count.specs.declared.past.PastEvent.{PastEvent}
 use Rattle.guest_core.specs.Guests.{Guests}
 use Rattle.live_core.specs.Hall.{Hall}
 

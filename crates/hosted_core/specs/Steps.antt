@@ -3,8 +3,8 @@ use Rattle.std.specs.Prelude.{◌≡◌, ℕ, ◌-◌, ◌^◌, List, [], ◌++�
 use Rattle.path_tree.specs.Identifier.{IsName}
 use Rattle.value_core.specs.declared.datum.Datum.{Datum}
 use Rattle.decl_core.specs.ObjectMap.{object_of}
-use Rattle.trace_core.specs.Events.{Called}
-use Rattle.past_core.specs.declared.past.PastEvent.{PastEvent}
+use Rattle.word_core.specs.Events.{Called}
+use Rattle.path_count.specs.declared.past.PastEvent.{PastEvent}
 use Rattle.live_core.specs.declared.live.Taken.{Taken}
 use Rattle.live_core.specs.Epochs.{IsBegun, told_behind}
 use Rattle.live_core.specs.Hall.{Told, IsHeld}

@@ -4,13 +4,13 @@ ghost use Rattle.std.specs.Prelude.{◌≡◌, ◌+◌, ◌<◌, ◌≤◌, ◌+
 ghost use Rattle.std.specs.Prelude.{◌-◌, ◌^◌, codes, length, map, min};
 ghost use Rattle.decl_core.specs.ObjectMap.{object_of};
 ghost use Rattle.word_core.specs.Words.{bare, line_of};
-ghost use Rattle.trace_core.specs.Events.{Called};
-ghost use Rattle.front_core.specs.Text.{carried_words, client_words, kept_words, carried_text, clients_text, kept_text};
+ghost use Rattle.word_core.specs.Events.{Called};
+ghost use Rattle.live_core.specs.Text.{carried_words, client_words, kept_words, carried_text, clients_text, kept_text};
 ghost use Rattle.guest_core.specs.Seats.{renewed};
 ghost use Rattle.hosted_core.specs.Fronts.{carried_as, carried_from, client_of, kept_as, kept_below, kept_of};
 ghost use Rattle.hosted_core.specs.Fronts.{TellsCalls, TellsPast, TellsRuns, TellsFront, IsPastOf, AddsFirst, IsNextBehind, IsNextFront};
-ghost use Rattle.front_core.specs.Front.{Every, IsLong};
-ghost use Rattle.front_core.specs.Past.{events_in};
+ghost use Rattle.live_core.specs.Front.{Every, IsLong};
+ghost use Rattle.live_core.specs.Past.{events_in};
 ghost use Rattle.hosted_core.specs.Fits.{CallFits, GuestFits, RunFits};
 ghost use Rattle.hosted_core.specs.Scene.{told_of, next_base, next_epoch};
 ghost use Rattle.hosted_core.specs.Steps.{IsFollowed, BeginsBy};
@@ -19,17 +19,17 @@ use crate::data::{are_contents, are_data, is_data};
 use crate::hosted::Hosted;
 use crate::runs::are_runs;
 use decl_core::object::Object;
-use front_core::past::{PastRun, runs_of};
-use front_core::write::{
-    push_base, push_carried, push_client, push_kept, push_object, push_parts, push_past,
-    push_source,
-};
 use guest_core::guest::Guest;
 use guest_core::kept::Kept;
 use live_core::call::Call;
 use live_core::hall::MOST_NUMBERS;
-use past_core::finder::short_past;
-use past_core::past::{PastEvent, counters_behind};
+use live_core::past::{PastRun, runs_of};
+use live_core::write::{
+    push_base, push_carried, push_client, push_kept, push_object, push_parts, push_past,
+    push_source,
+};
+use path_count::finder::short_past;
+use path_count::past::{PastEvent, counters_behind};
 use path_tree::node::OpId;
 use std::alloc::{AllocError, Global};
 

@@ -3,7 +3,7 @@
 ghost use Rattle.std.specs.Prelude.{◌≡◌, ◌++◌, OnOk};
 ghost use Rattle.decl_core.specs.ObjectMap.{object_of};
 ghost use Rattle.word_core.specs.Words.{line_of};
-ghost use Rattle.trace_core.specs.Text.{operation_name};
+ghost use Rattle.word_core.specs.Text.{operation_name};
 ghost use Rattle.hosted_core.specs.Lines.{cancel_words, name_words};
 
 use decl_core::object::Object;

@@ -2,8 +2,8 @@
 
 ghost use Rattle.std.specs.Prelude.{◌≡◌, ◌≢◌, ℕ, [], true, false, IsTrue, IfOk, IfSome, IfNone, Some, slice_get};
 ghost use Rattle.decl_core.specs.ObjectMap.{object_of};
-ghost use Rattle.trace_core.specs.Events.{Called};
-ghost use Rattle.trace_core.specs.Text.{operation_name};
+ghost use Rattle.word_core.specs.Events.{Called};
+ghost use Rattle.word_core.specs.Text.{operation_name};
 ghost use Rattle.guest_core.specs.declared.guest.Guest.{Guest as AGuest};
 ghost use Rattle.guest_core.specs.declared.seats.Seat.TheVariants.{Nameless};
 ghost use Rattle.guest_core.specs.Entering.{Leaves};
@@ -19,13 +19,13 @@ use crate::event::name_of;
 use crate::size::{MOST_NAME, most_told};
 use apply_core::fits::arguments_fit;
 use apply_core::reply::Reply;
-use ask_core::answer::{Cancelled, KeyedFault};
+use board_core::answer::{Cancelled, KeyedFault};
 use decl_core::object::Object;
 use guest_core::guests::Guests;
 use guest_core::keys::Judged;
 use live_core::call::Call;
 use live_core::live::Live;
-use past_core::past::PastEvent;
+use path_count::past::PastEvent;
 use path_tree::name::Name;
 use path_tree::node::OpId;
 use std::alloc::{AllocError, Global};
@@ -61,7 +61,7 @@ pub struct Begun {
     pub past: Vec<PastEvent>,
     /// Which epoch it is, from 1.
     pub epoch: u64,
-    /// What the declaration of the object gives (`front_core::source`).
+    /// What the declaration of the object gives (`live_core::source`).
     pub source: u64,
     /// What is added to the number of a call where it is told.
     pub base: u64,

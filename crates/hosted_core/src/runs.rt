@@ -1,10 +1,10 @@
 //! What lines of a past tell: each says something by itself.
 
 ghost use Rattle.std.specs.Prelude.{IsTrue};
-ghost use Rattle.front_core.specs.Front.{Every};
+ghost use Rattle.live_core.specs.Front.{Every};
 ghost use Rattle.hosted_core.specs.Fits.{RunFits};
 
-use front_core::past::PastRun;
+use live_core::past::PastRun;
 
 /// The most calls of which one line tells.
 const MOST_CALLS: u32 = 65_536;

@@ -4,14 +4,14 @@ use Rattle.std.specs.Prelude.{Bool, true, false, Option, flat_map, sum, if◌the
 use Rattle.std.specs.List.{fold}
 use Rattle.std.proofs.lemmas.List.{take_more}
 use Rattle.decl_core.specs.ObjectMap.{object_of}
-use Rattle.trace_core.specs.Events.{Called}
+use Rattle.word_core.specs.Events.{Called}
 use Rattle.hosted_core.specs.Scene.{Scene}
 use Rattle.client_core.specs.declared.client.Opened.{Opened}
-use Rattle.hold_form.specs.HoldForm.{HoldForm}
-use Rattle.hold_core.specs.Held.{HeldCall}
-use Rattle.hold_text.specs.HeldTold.{holds_line}
+use Rattle.decl_core.specs.HoldForm.{HoldForm}
+use Rattle.guest_core.specs.Held.{HeldCall}
+use Rattle.check_core.specs.HeldTold.{holds_line}
 use Rattle.inside_text.specs.Who.{Sitting, Refused, seat_line, waits_line, who_line}
-use Rattle.told_core.specs.Inside.{Crowd, IsSeatOf, AreSeats, IsWaitOf, AreWaits, AreSitting, last_told, is_between, waiting_in, held_in, IsWho}
+use Rattle.client_core.specs.ToldInside.{Crowd, IsSeatOf, AreSeats, IsWaitOf, AreWaits, AreSitting, last_told, is_between, waiting_in, held_in, IsWho}
 use Rattle.inside_core.specs.Adds.{AddsSeats, AddsWaits, AddsHeld}
 
 flat_map-append : {X Y : Type 0} (f : X → List Y) (xs ys : List X) → flat_map f (xs ++ ys) ≡ flat_map f xs ++ flat_map f ys

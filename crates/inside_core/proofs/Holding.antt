@@ -4,10 +4,10 @@ use Rattle.std.specs.Prelude.{Bool, true, false, Option, flat_map, if◌then◌e
 use Rattle.std.proofs.lemmas.List.{length-append, take_all, take-append-drop, take-append-le, take_more}
 use Rattle.std.proofs.lemmas.Grind.{flat_map-append}
 use Rattle.decl_core.specs.ObjectForm.{ObjectForm}
-use Rattle.hold_form.specs.HoldForm.{HoldForm}
-use Rattle.hold_core.specs.Held.{HeldCall}
-use Rattle.hold_text.specs.HeldTold.{holds_line}
-use Rattle.told_core.specs.Inside.{is_between, held_in}
+use Rattle.decl_core.specs.HoldForm.{HoldForm}
+use Rattle.guest_core.specs.Held.{HeldCall}
+use Rattle.check_core.specs.HeldTold.{holds_line}
+use Rattle.client_core.specs.ToldInside.{is_between, held_in}
 use Rattle.inside_core.specs.Adds.{AddsHeld}
 
 held_none : (o : ObjectForm) (holds : List HoldForm) (out : List ℕ) → AddsHeld o holds [] 0 out out

@@ -4,3 +4,6 @@ pub mod Listing
 pub mod People
 pub mod Sitting
 pub mod Whys
+mod Looking
+mod Counting
+mod StatusAdding

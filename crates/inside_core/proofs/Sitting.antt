@@ -6,8 +6,8 @@ use Rattle.std.proofs.lemmas.List.{take_more, take_all, drop_all, length-take}
 use Rattle.std.proofs.lemmas.List.Sorted.{length_permutation}
 use Rattle.std.proofs.lemmas.Option.{slice_get-get_or}
 use Rattle.client_core.specs.declared.client.Opened.{Opened}
-use Rattle.told_core.specs.State.{Peer, nobody, opened_in}
-use Rattle.told_core.specs.Inside.{sits_in, sitting_from, AreSitting}
+use Rattle.client_core.specs.State.{Peer, nobody, opened_in}
+use Rattle.client_core.specs.ToldInside.{sits_in, sitting_from, AreSitting}
 
 sits_push : (n at from : ℕ) (peers : List Peer) (p : Peer) →
     sitting_from n at from (peers ++ p ∷ []) ≡ sitting_from n at from peers ++ sits_in at from (n + length peers) p.opened

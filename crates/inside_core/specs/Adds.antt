@@ -2,19 +2,19 @@
 use Rattle.std.specs.Prelude.{◌≡◌, ℕ, List, ◌++◌, map, flat_map, length, sum}
 use Rattle.decl_core.specs.ObjectForm.{ObjectForm}
 use Rattle.decl_core.specs.ObjectMap.{object_of}
-use Rattle.trace_core.specs.Events.{Called}
+use Rattle.word_core.specs.Events.{Called}
 use Rattle.live_core.specs.Hall.{Every}
 use Rattle.hosted_core.specs.Scene.{Scene}
 use Rattle.client_core.specs.declared.client.Opened.{Opened}
 use Rattle.client_core.specs.declared.clients.Clients.{Clients}
 use Rattle.client_core.specs.People.{people_of}
-use Rattle.hold_form.specs.HoldForm.{HoldForm}
-use Rattle.hold_core.specs.Held.{HeldCall}
-use Rattle.hold_text.specs.HeldTold.{holds_line}
+use Rattle.decl_core.specs.HoldForm.{HoldForm}
+use Rattle.guest_core.specs.Held.{HeldCall}
+use Rattle.check_core.specs.HeldTold.{holds_line}
 use Rattle.inside_text.specs.Who.{Sitting, Refused, seat_line, waits_line}
-use Rattle.told_core.specs.State.{peers_of}
-use Rattle.why_core.specs.Found.{whys_of}
-use Rattle.told_core.specs.Inside.{Crowd, AreSeats, AreWaits, AreWhys}
+use Rattle.client_core.specs.State.{peers_of}
+use Rattle.inside_text.specs.Found.{whys_of}
+use Rattle.client_core.specs.ToldInside.{Crowd, AreSeats, AreWaits, AreWhys}
 use Rattle.inside_core.specs.declared.who.Refusing.{Refusing}
 use Rattle.inside_core.specs.declared.who.Whom.{Whom}
 

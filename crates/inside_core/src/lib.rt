@@ -1,10 +1,28 @@
-//! What is told to one that asks to see inside a kept object: `why N`, `who` and `list`.
+//! All that can be seen of kept objects from outside: by their clients, who ask `why N`, `who` and `list`, and by a
+//! status.
 //!
-//! Each answer is a text of its own, made of an object and of what is held of it, of all objects, or of the connections,
-//! which stay as they are.
-//! `told_core` says what is told. An error is that memory was refused.
+//! Each answer (`why`, `who`, `list`) is a text of its own, made of an object and of what is held of it, of all
+//! objects, or of the connections, which stay as they are. `client_core` says what is told. An error is that memory was
+//! refused.
+//!
+//! `tallies::Tallies` has of each object how many calls were taken, and of each of its operations how many calls ended,
+//! by how: all since it was made. `laws` says that the counts are those of the calls that ran, and that their sum grows
+//! as the history does.
+//!
+//! A status is a text in the format of Prometheus. `server::push_server` writes what is outside of a server's objects:
+//! its time, its connections, its journals; `objects::push_objects` what its objects know: their calls, by how they
+//! ended, and who waits; `look::write_look` makes both of what stands between two turns. Of each metric comes what it
+//! is about, its kind, and then its samples; `specs/Looks.antt` says what stands in it. No argument and no reply of a
+//! call is in it: a status may be shown to more people than the values.
 #![tactic(auto)]
 
+pub mod laws;
 pub mod list;
+pub mod look;
+mod metric;
+pub mod numbers;
+pub mod objects;
+pub mod server;
+pub mod tallies;
 pub mod who;
 pub mod why;

@@ -4,7 +4,7 @@ ghost use Rattle.std.specs.Prelude.{◌≡◌, ◌++◌, map, flat_map, length, 
 ghost use Rattle.decl_core.specs.ObjectMap.{object_of};
 ghost use Rattle.hosted_core.specs.Scene.{Scene};
 ghost use Rattle.inside_text.specs.List.{object_line, open_count, open_text};
-ghost use Rattle.told_core.specs.Inside.{form_at, IsList};
+ghost use Rattle.client_core.specs.ToldInside.{form_at, IsList};
 
 use hosted_core::hosted::Hosted;
 use inside_text::list::{push_list, push_object, push_operations};

@@ -6,29 +6,29 @@ ghost use Rattle.std.specs.List.Sorted.{IsPermutation, IsNonDecreasingBy};
 ghost use Rattle.client_core.specs.declared.client.Opened.{Opened as AnOpened};
 ghost use Rattle.client_core.specs.People.{people_of, name_in, since_in, called_in};
 ghost use Rattle.live_core.specs.Hall.{Every};
-ghost use Rattle.told_core.specs.State.{peers_of, opened_in};
-ghost use Rattle.told_core.specs.Inside.{is_asked, sits_in, sitting_from, AreSitting, seat_name, last_told, is_between, waiting_in};
-ghost use Rattle.told_core.specs.Inside.{is_caller, calls_at, AreWhys, WaitsFor, held_in, IsWho};
+ghost use Rattle.client_core.specs.State.{peers_of, opened_in};
+ghost use Rattle.client_core.specs.ToldInside.{is_asked, sits_in, sitting_from, AreSitting, seat_name, last_told, is_between, waiting_in};
+ghost use Rattle.client_core.specs.ToldInside.{is_caller, calls_at, AreWhys, WaitsFor, held_in, IsWho};
 ghost use Rattle.decl_core.specs.ObjectMap.{object_of};
 ghost use Rattle.hosted_core.specs.Scene.{Scene, told_of};
-ghost use Rattle.why_core.specs.Found.{whys_of};
+ghost use Rattle.inside_text.specs.Found.{whys_of};
 ghost use Rattle.inside_text.specs.Who.{waits_line};
-ghost use Rattle.hold_form.specs.HoldMap.{holds_of};
+ghost use Rattle.decl_core.specs.HoldMap.{holds_of};
 ghost use Rattle.inside_core.specs.Adds.{crowd_of, AddsSeats, AddsWaits, AddsHeld, AreKnown};
 
 use crate::why::reasons_of;
+use check_core::held::push_held_call;
 use client_core::client::Opened;
 use client_core::clients::Clients;
-use hold_core::held::HeldCall;
-use hold_form::hold::Hold;
-use hold_text::held::push_held_call;
+use decl_core::hold::Hold;
+use guest_core::held::HeldCall;
 use hosted_core::hosted::Hosted;
+use inside_text::reason::Reason;
 use inside_text::who::{Seat, Waiting, push_seat, push_waits, push_who};
 use live_core::call::Call;
 use path_tree::name::Name;
 use path_tree::node::OpId;
 use std::alloc::{AllocError, Global};
-use why_core::reason::Reason;
 
 // At most so many sessions are told.
 const MOST_TOLD: usize = 256;

@@ -3,7 +3,7 @@ use Rattle.std.specs.Prelude.{ℕ, ◌+◌, List, [], ◌∷◌, ◌++◌, Optio
 use Rattle.decl_core.specs.ObjectForm.{ObjectForm}
 use Rattle.word_core.specs.Words.{Word, bare, line_of}
 use Rattle.word_core.specs.Data.{session_word}
-use Rattle.why_core.specs.Lacks.{Why}
+use Rattle.inside_text.specs.Lacks.{Why}
 use Rattle.inside_text.specs.Why.{name_word, node_words}
 use Rattle.inside_text.specs.declared.who.Seat.{Seat}
 use Rattle.inside_text.specs.declared.who.Waiting.{Waiting}

@@ -1,12 +1,12 @@
 -- The answer to `why N`.
 use Rattle.std.specs.Prelude.{ℕ, ◌+◌, List, [], ◌∷◌, ◌++◌, map, flat_map, length, codes, decimal}
 use Rattle.decl_core.specs.ObjectForm.{ObjectForm}
-use Rattle.trace_core.specs.Text.{operation_name}
+use Rattle.word_core.specs.Text.{operation_name}
 use Rattle.word_core.specs.Words.{Word, bare, line_of}
 use Rattle.word_core.specs.Data.{session_word}
-use Rattle.why_core.specs.Lacks.{Why}
-use Rattle.why_core.specs.declared.reason.Lack.{Lack}
-use Rattle.why_core.specs.declared.reason.Lack.TheVariants as lacks
+use Rattle.inside_text.specs.Lacks.{Why}
+use Rattle.inside_text.specs.declared.reason.Lack.{Lack}
+use Rattle.inside_text.specs.declared.reason.Lack.TheVariants as lacks
 use Rattle.inside_text.specs.declared.why.State.{State}
 use Rattle.inside_text.specs.declared.why.State.TheVariants as states
 use Rattle.inside_text.specs.declared.why.Running.{Running}

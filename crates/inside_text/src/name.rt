@@ -2,7 +2,7 @@
 
 ghost use Rattle.std.specs.Prelude.{◌≡◌};
 ghost use Rattle.decl_core.specs.ObjectMap.{object_of};
-ghost use Rattle.trace_core.specs.Text.{operation_name};
+ghost use Rattle.word_core.specs.Text.{operation_name};
 
 use decl_core::object::Object;
 use path_tree::node::OpId;

@@ -3,16 +3,16 @@
 ghost use Rattle.std.specs.Prelude.{◌≡◌, ◌++◌, [], decimal, flat_map, OnOk, option_map};
 ghost use Rattle.decl_core.specs.ObjectMap.{object_of};
 ghost use Rattle.word_core.specs.Words.{words_text, behind_word};
-ghost use Rattle.why_core.specs.Found.{why_of, whys_of};
+ghost use Rattle.inside_text.specs.Found.{why_of, whys_of};
 ghost use Rattle.inside_text.specs.Why.{node_words};
 ghost use Rattle.inside_text.specs.Who.{who_line, seat_words, count_words, time_words, seat_line, call_words, waits_line};
 
 use crate::name::name_of;
+use crate::reason::{Lack, Reason};
 use decl_core::object::Object;
 use path_tree::name::Name;
 use path_tree::node::OpId;
 use std::alloc::AllocError;
-use why_core::reason::{Lack, Reason};
 use word_core::line::push_line;
 use word_core::print::push_integer;
 use word_core::word::Written;

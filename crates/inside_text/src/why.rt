@@ -3,14 +3,14 @@
 ghost use Rattle.std.specs.Prelude.{◌≡◌, ◌++◌, ◌∷◌, [], ◌+◌, map, flat_map, OnOk};
 ghost use Rattle.decl_core.specs.ObjectMap.{object_of};
 ghost use Rattle.word_core.specs.Words.{words_text, behind_word};
-ghost use Rattle.why_core.specs.Found.{why_of, whys_of};
+ghost use Rattle.inside_text.specs.Found.{why_of, whys_of};
 ghost use Rattle.inside_text.specs.Why.{state_word, state_line, name_word, needs_words, path_line, run_line, why_line, why_text};
 
 use crate::name::name_of;
+use crate::reason::{Lack, Reason};
 use decl_core::object::Object;
 use path_tree::node::OpId;
 use std::alloc::AllocError;
-use why_core::reason::{Lack, Reason};
 use word_core::line::{push_line, push_more, push_words};
 use word_core::word::Written;
 

@@ -5,19 +5,19 @@ use Rattle.std.specs.FinMap.{insert}
 use Rattle.std.proofs.lemmas.List.{length-take}
 use Rattle.std.proofs.lemmas.Option.{none-some}
 use Rattle.std.proofs.lemmas.Bool.{false≢true}
-use Rattle.line_core.specs.declared.machine.LinesFault.{LinesFault}
-use Rattle.line_core.specs.declared.machine.LinesFault.TheVariants.{WriteFault, Memory}
+use Rattle.text_core.specs.declared.machine.LinesFault.{LinesFault}
+use Rattle.text_core.specs.declared.machine.LinesFault.TheVariants.{WriteFault, Memory}
 use Rattle.decl_core.specs.declared.object.Object.{Object}
 use Rattle.decl_core.specs.declared.object.Part.{Part}
-use Rattle.hand_core.specs.declared.hand.HandFault.{HandFault}
-use Rattle.hand_core.specs.declared.hand.HandFault.TheVariants as hand
-use Rattle.hand_core.specs.declared.hand.Stamp.{Stamp}
-use Rattle.hand_core.specs.Device.{Assignment}
-use Rattle.hand_core.specs.Papers.{Papers, part_key}
-use Rattle.store_core.specs.declared.save.SaveFault.{SaveFault}
-use Rattle.store_core.specs.declared.save.SaveFault.TheVariants.{Damaged, Device}
-use Rattle.store_core.specs.declared.save.SaveFault.TheVariants as save
-use Rattle.store_core.specs.Saved.{IsFetched, AreFetched, with_parts, IsDamagedPin, IsSavedTo, MaySave, PartLeaves, PartLeft, PinSaveCause, SaveLeaves, StoreLeaves}
+use Rattle.device_core.specs.declared.hand.HandFault.{HandFault}
+use Rattle.device_core.specs.declared.hand.HandFault.TheVariants as hand
+use Rattle.device_core.specs.declared.hand.Stamp.{Stamp}
+use Rattle.device_core.specs.Device.{Assignment}
+use Rattle.device_core.specs.Papers.{Papers, part_key}
+use Rattle.page_core.specs.declared.save.SaveFault.{SaveFault}
+use Rattle.page_core.specs.declared.save.SaveFault.TheVariants.{Damaged, Device}
+use Rattle.page_core.specs.declared.save.SaveFault.TheVariants as save
+use Rattle.page_core.specs.Saved.{IsFetched, AreFetched, with_parts, IsDamagedPin, IsSavedTo, MaySave, PartLeaves, PartLeft, PinSaveCause, SaveLeaves, StoreLeaves}
 use Rattle.board_core.specs.Lists.{Every, Among}
 use Rattle.keep_core.specs.declared.trouble.Trouble.{Trouble}
 use Rattle.keep_core.specs.Troubles.{first_of, fault_in}

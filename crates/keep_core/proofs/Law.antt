@@ -13,23 +13,23 @@ use Rattle.std.specs.Option.{option_map}
 use Rattle.value_core.specs.declared.kind.Kind.{Kind}
 use Rattle.value_core.specs.Spelling.{Spells}
 use Rattle.decl_core.specs.declared.object.Part.{Part}
-use Rattle.hand_core.specs.declared.hand.Stamp.{Stamp}
-use Rattle.hand_core.specs.Device.{Assignment}
-use Rattle.hand_core.specs.Papers.{Papers, part_key}
+use Rattle.device_core.specs.declared.hand.Stamp.{Stamp}
+use Rattle.device_core.specs.Device.{Assignment}
+use Rattle.device_core.specs.Papers.{Papers, part_key}
 use Rattle.page_core.specs.Bytes.{list_bytes}
-use Rattle.store_core.specs.Opened.{ArePinned}
+use Rattle.page_core.specs.Opened.{ArePinned}
 use Rattle.apply_core.specs.History.{IsLegal}
 use Rattle.board_core.specs.Lists.{Every}
 use Rattle.board_core.specs.Board.{Board}
 use Rattle.board_core.specs.Chain.{ShowContents, history_of}
 use Rattle.board_core.specs.Sound.{kinds_of}
-use Rattle.slip_core.specs.Slips.{StandsIn, IsTrueTold}
+use Rattle.office_core.specs.Slips.{StandsIn, IsTrueTold}
 use Rattle.office_core.proofs.Law.{slips_are_legal}
 use Rattle.keep_core.specs.Kept.{Stored, with_stores, IsOfPart, IsOfPin, HasStore}
 use Rattle.keep_core.specs.Ends.{Ended, IsAtEnd, IsClosed}
 use Rattle.keep_core.specs.Laws.{AreApart, KeptIsHistory, OpeningIsKept}
 use Rattle.keep_core.specs.Opening.{values_of}
-use Rattle.keep_core.proofs.Ending.{closed_has_all}
+use Rattle.keep_core.proofs.KeepEnding.{closed_has_all}
 use Rattle.keep_core.proofs.Showing.{pins_show, kinds_are}
 
 -- under this name stand the bytes of these pages

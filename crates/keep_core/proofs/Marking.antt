@@ -6,7 +6,7 @@ use Rattle.std.proofs.lemmas.Option.{same_Some, slice_get_within}
 use Rattle.std.proofs.lemmas.Bool.{false≢true, cases_lt}
 use Rattle.board_core.specs.Lists.{Among}
 use Rattle.board_core.specs.Calls.{Noted}
-use Rattle.slip_core.specs.Slips.{Told}
+use Rattle.office_core.specs.Slips.{Told}
 use Rattle.office_core.specs.Receipts.{HaveSlips}
 use Rattle.keep_core.specs.Marks.{mark_at, marked}
 

@@ -4,12 +4,12 @@ use Rattle.std.specs.Prelude.{slice_get}
 use Rattle.value_core.specs.declared.kind.Kind.{Kind}
 use Rattle.value_core.specs.Contents.{Contents, kind_of}
 use Rattle.decl_core.specs.declared.object.Part.{Part}
-use Rattle.hand_core.specs.declared.hand.Stamp.{Stamp}
-use Rattle.hand_core.specs.Device.{Assignment}
+use Rattle.device_core.specs.declared.hand.Stamp.{Stamp}
+use Rattle.device_core.specs.Device.{Assignment}
 use Rattle.page_core.specs.Bytes.{ArePages}
 use Rattle.page_core.proofs.ListBytes.{holds_page, pages_bytes}
-use Rattle.store_core.specs.Pages.{AreHeld}
-use Rattle.store_core.specs.Opened.{IsPinned, ArePinned}
+use Rattle.page_core.specs.Pages.{AreHeld}
+use Rattle.page_core.specs.Opened.{IsPinned, ArePinned}
 use Rattle.board_core.specs.Chain.{ShowContents, Shows}
 
 one_is : {X : Type 0} {x y : X} → Some x ≡ Some y → x ≡ y

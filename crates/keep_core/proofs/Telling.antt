@@ -7,9 +7,9 @@ use Rattle.std.specs.declared.alloc.AllocError.{AllocError}
 use Rattle.std.proofs.lemmas.List.{append-nil, append_assoc, take_all}
 use Rattle.std.proofs.lemmas.List.Folds.{concat-append}
 use Rattle.std.proofs.lemmas.Option.{none-some}
-use Rattle.line_core.specs.declared.machine.LinesFault.{LinesFault}
-use Rattle.line_core.specs.declared.machine.LinesFault.TheVariants.{WriteFault, Memory}
-use Rattle.line_core.proofs.Known.{Appends-none, Appends-kept, Appends-then}
+use Rattle.text_core.specs.declared.machine.LinesFault.{LinesFault}
+use Rattle.text_core.specs.declared.machine.LinesFault.TheVariants.{WriteFault, Memory}
+use Rattle.text_core.proofs.Known.{Appends-none, Appends-kept, Appends-then}
 use Rattle.keep_core.specs.Troubles.{first_of}
 use Rattle.keep_core.specs.Lines.{AreFronts, AreSaid, AreTold, IsOfClosing, IsWritten}
 

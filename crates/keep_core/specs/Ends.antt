@@ -1,18 +1,18 @@
 -- What becomes of an object at the end.
 use Rattle.std.specs.Prelude.{◌≡◌, ◌⊎◌, ℕ, List, [], ◌∷◌, ◌++◌, length, Bool, true, false, cond, IsTrue, Option, None}
-use Rattle.line_core.specs.declared.machine.LinesFault.{LinesFault}
+use Rattle.text_core.specs.declared.machine.LinesFault.{LinesFault}
 use Rattle.value_core.specs.Contents.{Contents}
 use Rattle.decl_core.specs.ObjectMap.{object_of}
-use Rattle.hand_core.specs.Device.{Assignment}
-use Rattle.hand_core.specs.Papers.{Papers}
-use Rattle.trace_core.specs.Text.{trace_text as text_of}
+use Rattle.device_core.specs.Device.{Assignment}
+use Rattle.device_core.specs.Papers.{Papers}
+use Rattle.word_core.specs.Text.{trace_text as text_of}
 use Rattle.board_core.specs.Lists.{Every}
 use Rattle.board_core.specs.Board.{Board}
 use Rattle.board_core.specs.Sound.{IsSound}
 use Rattle.desk_core.specs.Told.{lines_told}
-use Rattle.held_core.specs.Held.{CanBeTold}
-use Rattle.slip_core.specs.Slips.{Told, StandsIn}
-use Rattle.seat_core.specs.declared.seat.Seat.{Seat}
+use Rattle.desk_core.specs.Held.{CanBeTold}
+use Rattle.office_core.specs.Slips.{Told, StandsIn}
+use Rattle.office_core.specs.declared.client_seat.Seat.{Seat}
 use Rattle.office_core.specs.declared.inside.CloseFault.{CloseFault}
 use Rattle.office_core.specs.Insides.{InsideView}
 use Rattle.office_core.specs.Closing.{IsIdle, AreSeatsOf, IsWhyBy, place_told}

@@ -2,18 +2,18 @@
 use Rattle.std.specs.Prelude.{◌≡◌, ℕ, zero, suc, ◌<◌, ◌≤◌, List, [], ◌∷◌, length, Bool, true, false, IsTrue}
 use Rattle.std.specs.Prelude.{Option, Some, None, slice_get}
 use Rattle.std.specs.FinMap.{insert}
-use Rattle.line_core.specs.declared.machine.LinesFault.{LinesFault}
-use Rattle.line_core.specs.declared.machine.LinesFault.TheVariants.{WriteFault, Memory}
+use Rattle.text_core.specs.declared.machine.LinesFault.{LinesFault}
+use Rattle.text_core.specs.declared.machine.LinesFault.TheVariants.{WriteFault, Memory}
 use Rattle.decl_core.specs.declared.object.Object.{Object}
 use Rattle.decl_core.specs.declared.object.Part.{Part}
-use Rattle.hand_core.specs.declared.hand.HandFault.{HandFault}
-use Rattle.hand_core.specs.declared.hand.HandFault.TheVariants as hand
-use Rattle.hand_core.specs.declared.hand.Stamp.{Stamp}
-use Rattle.hand_core.specs.Device.{Assignment}
-use Rattle.hand_core.specs.Papers.{Papers, part_key}
-use Rattle.store_core.specs.declared.save.SaveFault.{SaveFault}
-use Rattle.store_core.specs.declared.save.SaveFault.TheVariants as save
-use Rattle.store_core.specs.Saved.{IsFetched, IsDamagedPin}
+use Rattle.device_core.specs.declared.hand.HandFault.{HandFault}
+use Rattle.device_core.specs.declared.hand.HandFault.TheVariants as hand
+use Rattle.device_core.specs.declared.hand.Stamp.{Stamp}
+use Rattle.device_core.specs.Device.{Assignment}
+use Rattle.device_core.specs.Papers.{Papers, part_key}
+use Rattle.page_core.specs.declared.save.SaveFault.{SaveFault}
+use Rattle.page_core.specs.declared.save.SaveFault.TheVariants as save
+use Rattle.page_core.specs.Saved.{IsFetched, IsDamagedPin}
 use Rattle.board_core.specs.Lists.{Every, Among}
 use Rattle.keep_core.specs.declared.trouble.Trouble.{Trouble}
 use Rattle.keep_core.specs.Troubles.{first_of}

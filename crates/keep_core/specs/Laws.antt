@@ -4,15 +4,15 @@ use Rattle.std.specs.FinMap.{get}
 use Rattle.value_core.specs.Contents.{Contents}
 use Rattle.value_core.specs.Spelling.{Spells}
 use Rattle.decl_core.specs.declared.object.Part.{Part}
-use Rattle.hand_core.specs.Device.{Assignment}
-use Rattle.hand_core.specs.Papers.{Papers, part_key}
+use Rattle.device_core.specs.Device.{Assignment}
+use Rattle.device_core.specs.Papers.{Papers, part_key}
 use Rattle.apply_core.specs.History.{IsLegal, leads_to}
 use Rattle.board_core.specs.Lists.{Every}
 use Rattle.board_core.specs.Chain.{ShowContents, history_of}
 use Rattle.board_core.specs.Sound.{kinds_of}
-use Rattle.slip_core.specs.Slips.{IsTrueTold}
+use Rattle.office_core.specs.Slips.{IsTrueTold}
 use Rattle.keep_core.specs.Kept.{AreStored}
-use Rattle.store_core.specs.Opened.{ArePinned}
+use Rattle.page_core.specs.Opened.{ArePinned}
 use Rattle.keep_core.specs.Ends.{Ended, IsAtEnd}
 use Rattle.keep_core.specs.Opening.{values_of}
 

@@ -5,3 +5,7 @@ pub mod Lines
 pub mod Marks
 pub mod Opening
 pub mod Troubles
+pub mod First
+pub mod Saved
+pub mod Ending
+pub mod Behind

@@ -4,10 +4,10 @@ use Rattle.std.specs.Prelude.{decimal, slice_get}
 use Rattle.std.specs.List.{concat}
 use Rattle.std.specs.Io.KnownBytes.{Appends, Keeps}
 use Rattle.std.specs.declared.alloc.AllocError.{AllocError}
-use Rattle.line_core.specs.declared.machine.LinesFault.{LinesFault}
-use Rattle.line_core.specs.declared.machine.LinesFault.TheVariants.{ReadFault, WriteFault, Memory}
-use Rattle.line_core.specs.Reply.{reply}
-use Rattle.hand_core.specs.declared.hand.Stamp.{Stamp}
+use Rattle.text_core.specs.declared.machine.LinesFault.{LinesFault}
+use Rattle.text_core.specs.declared.machine.LinesFault.TheVariants.{ReadFault, WriteFault, Memory}
+use Rattle.text_core.specs.Reply.{reply}
+use Rattle.device_core.specs.declared.hand.Stamp.{Stamp}
 use Rattle.decl_core.specs.declared.object.Object.{Object}
 use Rattle.decl_core.specs.declared.object.Part.{Part}
 use Rattle.keep_core.specs.Troubles.{fault_in}

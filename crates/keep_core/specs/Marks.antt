@@ -1,6 +1,6 @@
 -- Marks for the places of a history.
 use Rattle.std.specs.Prelude.{ℕ, zero, suc, List, [], ◌∷◌, slice_set, Bool, true}
-use Rattle.slip_core.specs.Slips.{Told}
+use Rattle.office_core.specs.Slips.{Told}
 
 -- marks with one for this place; places count from 1, and beyond the last one none is set
 abbrev pub mark_at : List Bool → ℕ → List Bool

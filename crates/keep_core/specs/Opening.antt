@@ -2,10 +2,10 @@
 use Rattle.std.specs.Prelude.{◌≡◌, ℕ, List, map}
 use Rattle.value_core.specs.Contents.{Contents, kind_of}
 use Rattle.decl_core.specs.declared.object.Object.{Object}
-use Rattle.line_core.specs.declared.machine.LinesFault.TheVariants.{ReadFault, WriteFault, Memory}
-use Rattle.hand_core.specs.Device.{Assignment}
-use Rattle.hand_core.specs.Papers.{Papers}
-use Rattle.store_core.specs.Opened.{ArePinned, IsFirstDamaged}
+use Rattle.text_core.specs.declared.machine.LinesFault.TheVariants.{ReadFault, WriteFault, Memory}
+use Rattle.device_core.specs.Device.{Assignment}
+use Rattle.device_core.specs.Papers.{Papers}
+use Rattle.page_core.specs.Opened.{ArePinned, IsFirstDamaged}
 use Rattle.board_core.specs.Board.{Board}
 use Rattle.board_core.specs.Sound.{kinds_of}
 use Rattle.keep_core.specs.declared.open.NotOpened.{NotOpened}

@@ -1,8 +1,8 @@
 -- What a server met.
 use Rattle.std.specs.Prelude.{Option, Some, None, Result, Ok, Err}
 use Rattle.std.specs.declared.alloc.AllocError.{AllocError}
-use Rattle.line_core.specs.declared.machine.LinesFault.{LinesFault}
-use Rattle.line_core.specs.declared.machine.LinesFault.TheVariants.{Memory}
+use Rattle.text_core.specs.declared.machine.LinesFault.{LinesFault}
+use Rattle.text_core.specs.declared.machine.LinesFault.TheVariants.{Memory}
 
 -- the first of two faults, each of which may not be there
 abbrev pub first_of : Option LinesFault → Option LinesFault → Option LinesFault

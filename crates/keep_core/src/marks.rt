@@ -5,7 +5,7 @@ ghost use Rattle.office_core.specs.Receipts.{HaveSlips};
 ghost use Rattle.keep_core.specs.Marks.{mark_at, marked};
 
 use board_core::entry::Entry;
-use slip_core::slip::Slip;
+use office_core::slip::Slip;
 use std::alloc::{AllocError, Global};
 use std::marker::Model;
 

@@ -1,25 +1,25 @@
 //! The office of an accepted object, whose parts are read from a folder.
 
 ghost use Rattle.std.specs.Prelude.{◌≡◌, ◌⊎◌, ◌++◌, length, IfOk, IfErr, OnOk};
-ghost use Rattle.hand_core.specs.Device.{Assignment, Failed as DeviceFailed};
-ghost use Rattle.hand_core.specs.Papers.{Papers};
-ghost use Rattle.store_core.specs.Opened.{AreLoaded, ArePinned};
+ghost use Rattle.device_core.specs.Device.{Assignment, Failed as DeviceFailed};
+ghost use Rattle.device_core.specs.Papers.{Papers};
+ghost use Rattle.page_core.specs.Opened.{AreLoaded, ArePinned};
 ghost use Rattle.keep_core.specs.Lines.{part_text, damaged_line};
 ghost use Rattle.keep_core.specs.Opening.{IsNotOpened, IsSealed, values_of};
 
 use crate::close::Closing;
 use crate::opening::Opening;
+use decl_core::analyse::Accepted;
 use decl_core::object::Object;
-use exclude_core::analyse::Accepted;
-use hand_core::hand::Hand;
-use hand_core::shelf::Shelf;
-use line_core::LinesFault;
+use device_core::hand::Hand;
+use device_core::shelf::Shelf;
 use office_core::inside::Inside;
 use office_core::office::Office;
+use page_core::open::{OpenFault, open_parts};
 use page_core::pins::Pins;
 use path_tree::name::Name;
 use std::alloc::{AllocError, Global};
-use store_core::open::{OpenFault, open_parts};
+use text_core::LinesFault;
 use value_core::value::Value;
 
 /// An object that is open: its name, its office, and what its parts opened with.
@@ -41,7 +41,7 @@ pub enum NotOpened {
 
 impl From<AllocError> for NotOpened {
     ghost use Rattle.std.specs.Prelude.{◌≡◌};
-    ghost use Rattle.line_core.specs.declared.machine.LinesFault.TheVariants.{Memory};
+    ghost use Rattle.text_core.specs.declared.machine.LinesFault.TheVariants.{Memory};
     ghost use Rattle.keep_core.specs.declared.open.NotOpened.TheVariants.{Fault};
 
     ghost from_gives = { λ _ e. e ≡ Fault Memory };

@@ -6,7 +6,7 @@ ghost use Rattle.keep_core.specs.Opening.{BeganWith};
 
 use decl_core::object::Part;
 use desk_core::desk::Desk;
-use hand_core::hand::Stamp;
+use device_core::hand::Stamp;
 use page_core::page_list::PageList;
 use page_core::pins::Pins;
 use value_core::value::Value;

@@ -3,9 +3,9 @@
 ghost use Rattle.std.specs.Prelude.{◌≡◌, true};
 ghost use Rattle.keep_core.specs.Troubles.{first_of, fault_in, memory_in};
 
-use line_core::LinesFault;
 use std::alloc::AllocError;
 use std::io::{Error, ErrorKind};
+use text_core::LinesFault;
 
 /// The fault of an error of the system while something is read.
 pub fn fault_of(error: Error) -> LinesFault {

@@ -4,7 +4,7 @@ use Rattle.std.specs.Prelude.{Option, Some, None, Result, Ok, Err, OnOk, OnErr}
 use Rattle.std.specs.Io.KnownBytes.{Appends}
 use Rattle.std.proofs.lemmas.List.{append-nil}
 use Rattle.jiff_core.specs.declared.civil.datetime.DateTime.{DateTime}
-use Rattle.log_core.specs.declared.line.LineForm.{LineForm}
+use Rattle.keep_log.specs.declared.line.LineForm.{LineForm}
 use Rattle.keep_log.specs.Told.{Tells, TellsFront}
 
 take_all : (bytes : List ℕ) → take (length bytes) bytes ≡ bytes

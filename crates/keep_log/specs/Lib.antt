@@ -1,1 +1,4 @@
 pub mod Told
+pub mod Moment
+pub mod Lines
+pub mod Events

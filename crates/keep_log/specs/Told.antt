@@ -2,7 +2,7 @@
 use Rattle.std.specs.Prelude.{◌≡◌, ℕ, List, Option, Some, None, take}
 use Rattle.std.specs.Io.KnownBytes.{Appends}
 use Rattle.jiff_core.specs.declared.civil.datetime.DateTime.{DateTime}
-use Rattle.log_core.specs.declared.line.LineForm.{LineForm}
+use Rattle.keep_log.specs.declared.line.LineForm.{LineForm}
 
 -- a front of these bytes: a writer may fail
 abbrev pub TellsFront : Option (List ℕ) → Option (List ℕ) → List ℕ → Type 0

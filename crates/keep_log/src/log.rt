@@ -2,19 +2,19 @@
 
 ghost use Rattle.std.specs.Prelude.{◌≡◌, OnOk, OnErr};
 ghost use Rattle.keep_log.specs.Told.{Tells, TellsFront};
-ghost use Rattle.log_core.specs.Events.{begins, carries_on, changes, ends, fails, keeps, lacks, lets_go, starts};
+ghost use Rattle.keep_log.specs.Events.{begins, carries_on, changes, ends, fails, keeps, lacks, lets_go, starts};
 
-use jiff_core::civil::DateTime;
-use line_core::write_whole;
-use log_core::event::{
+use crate::event::{
     LetGo, Work, push_begun, push_epoch, push_failed, push_let_go, push_no_epoch, push_no_status,
     push_recovered, push_start, push_stop,
 };
-use log_core::line::LineForm;
-use log_core::moment::moment_of;
+use crate::line::LineForm;
+use crate::moment::moment_of;
+use jiff_core::civil::DateTime;
 use std::alloc::{AllocError, Global};
 use std::io::Write;
 use std::time::{Clock, SystemTime};
+use text_core::write_whole;
 
 /// A log in this form, or none: then nothing is written. Where a line cannot be made or written the log lacks it, or its
 /// end, and nothing else changes.

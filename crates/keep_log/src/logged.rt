@@ -2,9 +2,9 @@
 
 ghost use Rattle.std.specs.Prelude.{◌≡◌};
 
+use crate::event::{LetGo, Work};
 use crate::log::Log;
 use keep_loop::{Fault, Outside, Read};
-use log_core::event::{LetGo, Work};
 use std::alloc::AllocError;
 use std::io::Write;
 use std::time::Clock;

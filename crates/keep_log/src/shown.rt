@@ -1,12 +1,12 @@
 //! Connections, a clock and journals, with a status.
 
 ghost use Rattle.std.specs.Prelude.{◌≡◌, ◌++◌, ℕ, List, OnOk, IfOk};
-ghost use Rattle.status_text.specs.Server.{outside_text};
+ghost use Rattle.inside_core.specs.Server.{outside_text};
 
 use crate::sink::Sink;
+use inside_core::numbers::{Server, Stored};
+use inside_core::server::push_server;
 use keep_loop::{Fault, Outside, Read, Visible};
-use status_text::numbers::{Server, Stored};
-use status_text::server::push_server;
 use std::alloc::{AllocError, Global};
 
 /// What another one has outside of the loop, with a status, which is put at the first look and then every so many seconds;

@@ -13,8 +13,8 @@ use Rattle.value_core.specs.declared.kind.Kind.TheVariants as kind
 use Rattle.value_core.specs.Datum.{IsElement}
 use Rattle.value_core.specs.Contents.{Contents, array, queue, table, kind_of, IsContents}
 use Rattle.value_core.specs.Spelling.{spelling}
-use Rattle.piece_core.specs.Pages.{HasFrame, page_at, page_of}
-use Rattle.piece_core.proofs.Spelled.{all_bytes_spell, frame_is_due, pages_tell}
+use Rattle.apply_core.specs.Pages.{HasFrame, page_at, page_of}
+use Rattle.apply_core.proofs.PieceSpelled.{all_bytes_spell, frame_is_due, pages_tell}
 use Rattle.known_core.specs.Known.{AgreeAt, KeepsAt}
 use Rattle.known_core.specs.Filled.{by_page, WholeIsSpelled, FilledIsSpelled, PagesAfter, ContentsAfter}
 use Rattle.known_core.proofs.Agreeing.{same_length}

@@ -11,7 +11,7 @@ use Rattle.value_core.specs.declared.kind.Kind.TheVariants as kind
 use Rattle.value_core.specs.Contents.{Contents, array, queue, table, kind_of, IsContents}
 use Rattle.decl_core.specs.Form.{Body}
 use Rattle.decl_core.specs.Meaning.{part_at, apply_body}
-use Rattle.piece_core.specs.Pages.{page_of}
+use Rattle.apply_core.specs.Pages.{page_of}
 use Rattle.known_core.specs.Known.{Known, HasPlace, IsUnknown}
 use Rattle.known_core.specs.Partly.{needs, partly_done}
 use Rattle.known_core.specs.Laws.{Means}

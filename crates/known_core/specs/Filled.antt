@@ -5,7 +5,7 @@ use Rattle.value_core.specs.declared.kind.Kind.TheVariants as kind
 use Rattle.value_core.specs.Contents.{Contents, kind_of, IsContents}
 use Rattle.value_core.specs.Spelling.{Spells, spelling}
 use Rattle.value_core.specs.Laws.{AreBytes}
-use Rattle.piece_core.specs.Pages.{page_at, page_of}
+use Rattle.apply_core.specs.Pages.{page_at, page_of}
 use Rattle.known_core.specs.Known.{AgreeAt, KeepsAt}
 
 -- an element is known where its page is

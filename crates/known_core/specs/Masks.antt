@@ -2,7 +2,7 @@
 use Rattle.std.specs.Prelude.{◌≡◌, ◌≢◌, ℕ, zero, suc, ◌+◌, ◌-◌, ◌==◌, List, slice_index}
 use Rattle.std.specs.List.{sum_by}
 use Rattle.std.specs.Int.{bit_at}
-use Rattle.piece_core.specs.Pages.{page_of}
+use Rattle.apply_core.specs.Pages.{page_of}
 use Rattle.known_core.specs.Known.{Known}
 
 -- bit k of the mask of a part stands for page k: an element is known where its page is

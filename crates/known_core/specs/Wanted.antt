@@ -5,7 +5,7 @@ use Rattle.value_core.specs.declared.kind.Elem.TheVariants as elem
 use Rattle.value_core.specs.declared.kind.Kind.{Kind}
 use Rattle.value_core.specs.declared.kind.Kind.TheVariants as kind
 use Rattle.decl_core.specs.declared.object.Operation.{Operation}
-use Rattle.piece_core.specs.Pages.{page_bytes}
+use Rattle.apply_core.specs.Pages.{page_bytes}
 use Rattle.apply_core.specs.Fits.{IsNamed}
 use Rattle.known_core.specs.Masks.{IsOneMore, most_pages}
 

@@ -17,12 +17,12 @@ ghost use Rattle.decl_core.specs.Meaning.{part_at};
 ghost use Rattle.known_core.specs.Partly.{◌>>>◌, if_known, with_contents, after_known, all_known};
 ghost use Rattle.known_core.specs.Masks.{known_by};
 ghost use Rattle.apply_core.specs.Fitting.{IsAt, IsAtOf, StatementFits, StatementsFit};
-ghost use Rattle.known_core.specs.Log.{taken_back};
 ghost use Rattle.known_core.specs.Breaks.{stop_of, stop_for, changing, Leaves};
 ghost use Rattle.known_core.specs.declared.act.Stop.TheVariants.{Refused, Memory};
 
 use crate::eval::{Break, holds, integer, text};
 use crate::pages::Pages;
+use crate::parts::PartValues;
 use decl_core::expr::{Expr, IntegerExpr, TextExpr};
 use decl_core::id::PartId;
 use decl_core::stmt::Stmt;
@@ -31,8 +31,6 @@ use std::alloc::AllocError;
 use text_core::text::Text;
 use value_core::datum::Datum;
 use value_core::refusal::{GrowFault, Refusal};
-use value_core::undo::Undo;
-use value_core::value::Value;
 
 /// Why a body stopped.
 #[derive(Clone, Copy)]
@@ -95,27 +93,22 @@ impl From<GrowFault> for Stop {
 }
 
 // Puts an element into an array, where it is known.
-#[tactic(auto, using(apply_core::proofs::KindsKept::kinds_kept))]
-fn set(
-    parts: &mut Vec<Value>,
+fn set<P: PartValues>(
+    parts: &mut P,
     part: PartId,
     index: u32,
     datum: Datum,
     known: &Pages,
-    log: &mut Vec<(PartId, Undo)>,
 ) -> Result<(), Stop>
-    requires at { IsAtOf (map kind_of parts.old.items) IsArray part (elem_of datum) }
+    requires at { IsAtOf (map kind_of (P.values parts.old)) IsArray part (elem_of datum) }
     ensures left { (reply : Option Datum) →
-        Leaves result (with_contents (changing parts.old.items reply) part
-        (with_element (part_at parts.old.items part) index datum) >>> λ x. if_known (known_by known.now) part index x)
-        (changing parts.new.items reply) }
-    ensures kinds { map kind_of parts.new.items ≡ map kind_of parts.old.items }
-    ensures back { taken_back log.new.items parts.new.items ≡ taken_back log.old.items parts.old.items }
+        Leaves result (with_contents (changing (P.values parts.old) reply) part
+        (with_element (part_at (P.values parts.old) part) index datum) >>> λ x. if_known (known_by known.now) part index x)
+        (changing (P.values parts.new) reply) }
+    ensures kinds { map kind_of (P.values parts.new) ≡ map kind_of (P.values parts.old) }
+    ensures origin { P.origin parts.new ≡ P.origin parts.old }
 {
-    log.reserve(1)?;
-    let value = &mut parts[part.place() as usize];
-    let undo = value.set(index, datum)?;
-    log.push_reserved((part, undo));
+    parts.set(part, index, datum)?;
     if known.has(part, index) {
         Ok(())
     } else {
@@ -123,323 +116,229 @@ fn set(
     }
 }
 
-// Adds an element to a queue.
-#[tactic(auto, using(apply_core::proofs::KindsKept::kinds_kept))]
-fn append(
-    parts: &mut Vec<Value>,
-    part: PartId,
-    datum: Datum,
-    log: &mut Vec<(PartId, Undo)>,
-) -> Result<(), Stop>
-    requires at { IsAtOf (map kind_of parts.old.items) IsQueue part (elem_of datum) }
-    ensures left { (reply : Option Datum) →
-        Leaves result (with_contents (changing parts.old.items reply) part
-        (with_newest (part_at parts.old.items part) datum)) (changing parts.new.items reply) }
-    ensures kinds { map kind_of parts.new.items ≡ map kind_of parts.old.items }
-    ensures back { taken_back log.new.items parts.new.items ≡ taken_back log.old.items parts.old.items }
-{
-    log.reserve(1)?;
-    let value = &mut parts[part.place() as usize];
-    let undo = value.append(datum)?;
-    log.push_reserved((part, undo));
-    Ok(())
-}
-
-// Removes the oldest element of a queue.
-#[tactic(auto, using(apply_core::proofs::KindsKept::kinds_kept))]
-fn take(parts: &mut Vec<Value>, part: PartId, log: &mut Vec<(PartId, Undo)>) -> Result<(), Stop>
-    requires at { IsAt (map kind_of parts.old.items) IsQueue part }
-    ensures left { (reply : Option Datum) →
-        Leaves result (with_contents (changing parts.old.items reply) part
-        (without_oldest (part_at parts.old.items part))) (changing parts.new.items reply) }
-    ensures kinds { map kind_of parts.new.items ≡ map kind_of parts.old.items }
-    ensures back { taken_back log.new.items parts.new.items ≡ taken_back log.old.items parts.old.items }
-{
-    log.reserve(1)?;
-    let value = &mut parts[part.place() as usize];
-    let undo = value.take()?;
-    log.push_reserved((part, undo));
-    Ok(())
-}
-
-// Puts an element under a key of a table.
-#[tactic(auto, using(apply_core::proofs::KindsKept::kinds_kept))]
-fn store(
-    parts: &mut Vec<Value>,
-    part: PartId,
-    key: Text,
-    datum: Datum,
-    log: &mut Vec<(PartId, Undo)>,
-) -> Result<(), Stop>
-    requires at { IsAtOf (map kind_of parts.old.items) IsTable part (elem_of datum) }
-    ensures left { (reply : Option Datum) →
-        Leaves result (with_contents (changing parts.old.items reply) part
-        (with_row (part_at parts.old.items part) key datum)) (changing parts.new.items reply) }
-    ensures kinds { map kind_of parts.new.items ≡ map kind_of parts.old.items }
-    ensures back { taken_back log.new.items parts.new.items ≡ taken_back log.old.items parts.old.items }
-{
-    log.reserve(1)?;
-    let value = &mut parts[part.place() as usize];
-    let undo = value.store(key, datum)?;
-    log.push_reserved((part, undo));
-    Ok(())
-}
-
-// Removes a key of a table.
-#[tactic(auto, using(apply_core::proofs::KindsKept::kinds_kept))]
-fn erase(
-    parts: &mut Vec<Value>,
-    part: PartId,
-    key: Text,
-    log: &mut Vec<(PartId, Undo)>,
-) -> Result<(), Stop>
-    requires at { IsAt (map kind_of parts.old.items) IsTable part }
-    ensures left { (reply : Option Datum) →
-        Leaves result (with_contents (changing parts.old.items reply) part
-        (without_key (part_at parts.old.items part) key)) (changing parts.new.items reply) }
-    ensures kinds { map kind_of parts.new.items ≡ map kind_of parts.old.items }
-    ensures back { taken_back log.new.items parts.new.items ≡ taken_back log.old.items parts.old.items }
-{
-    log.reserve(1)?;
-    let value = &mut parts[part.place() as usize];
-    let undo = value.erase(&key)?;
-    log.push_reserved((part, undo));
-    Ok(())
-}
-
 // `v[i] := e`, where e is an integer.
-fn set_integer(
+fn set_integer<P: PartValues>(
     part: PartId,
     index: &IntegerExpr,
     e: &IntegerExpr,
     args: &[Datum],
-    parts: &mut Vec<Value>,
+    parts: &mut P,
     known: &Pages,
-    log: &mut Vec<(PartId, Undo)>,
 ) -> Result<(), Stop>
-    requires fits { StatementFits (map kind_of parts.old.items) (set_element_form part (integers_of index.now)
+    requires fits { StatementFits (map kind_of (P.values parts.old)) (set_element_form part (integers_of index.now)
         (an_integer (integers_of e.now))) }
     ensures left { (reply : Option Datum) →
         Leaves result (after_known (known_by known.now) args.now (set_element_form part (integers_of index.now)
-        (an_integer (integers_of e.now))) (changing parts.old.items reply)) (changing parts.new.items reply) }
-    ensures kinds { map kind_of parts.new.items ≡ map kind_of parts.old.items }
-    ensures back { taken_back log.new.items parts.new.items ≡ taken_back log.old.items parts.old.items }
+        (an_integer (integers_of e.now))) (changing (P.values parts.old) reply)) (changing (P.values parts.new) reply) }
+    ensures kinds { map kind_of (P.values parts.new) ≡ map kind_of (P.values parts.old) }
+    ensures origin { P.origin parts.new ≡ P.origin parts.old }
 {
     let index = integer(index, args, parts, known)?;
     let n = integer(e, args, parts, known)?;
-    set(parts, part, index, Datum::Integer(n), known, log)
+    set(parts, part, index, Datum::Integer(n), known)
 }
 
 // `v[i] := e`, where e is a text.
-fn set_text(
+fn set_text<P: PartValues>(
     part: PartId,
     index: &IntegerExpr,
     e: &TextExpr,
     args: &[Datum],
-    parts: &mut Vec<Value>,
+    parts: &mut P,
     known: &Pages,
-    log: &mut Vec<(PartId, Undo)>,
 ) -> Result<(), Stop>
-    requires fits { StatementFits (map kind_of parts.old.items) (set_element_form part (integers_of index.now)
+    requires fits { StatementFits (map kind_of (P.values parts.old)) (set_element_form part (integers_of index.now)
         (a_text (texts_of e.now))) }
     ensures left { (reply : Option Datum) →
         Leaves result (after_known (known_by known.now) args.now (set_element_form part (integers_of index.now)
-        (a_text (texts_of e.now))) (changing parts.old.items reply)) (changing parts.new.items reply) }
-    ensures kinds { map kind_of parts.new.items ≡ map kind_of parts.old.items }
-    ensures back { taken_back log.new.items parts.new.items ≡ taken_back log.old.items parts.old.items }
+        (a_text (texts_of e.now))) (changing (P.values parts.old) reply)) (changing (P.values parts.new) reply) }
+    ensures kinds { map kind_of (P.values parts.new) ≡ map kind_of (P.values parts.old) }
+    ensures origin { P.origin parts.new ≡ P.origin parts.old }
 {
     let place = integer(index, args, parts, known)?;
     let text = text(e, args, parts, known)?;
-    set(parts, part, place, Datum::Text(text), known, log)
+    set(parts, part, place, Datum::Text(text), known)
 }
 
 // `v[i] := e`. Each sort has a function of its own, since a function clears all its data before it begins.
-fn do_set_element(
+fn do_set_element<P: PartValues>(
     part: PartId,
     index: &IntegerExpr,
     e: &Expr,
     args: &[Datum],
-    parts: &mut Vec<Value>,
+    parts: &mut P,
     known: &Pages,
-    log: &mut Vec<(PartId, Undo)>,
 ) -> Result<(), Stop>
-    requires fits { StatementFits (map kind_of parts.old.items) (set_element_form part (integers_of index.now)
+    requires fits { StatementFits (map kind_of (P.values parts.old)) (set_element_form part (integers_of index.now)
         (form_of e.now)) }
     ensures left { (reply : Option Datum) →
         Leaves result (after_known (known_by known.now) args.now (set_element_form part (integers_of index.now)
-        (form_of e.now)) (changing parts.old.items reply)) (changing parts.new.items reply) }
-    ensures kinds { map kind_of parts.new.items ≡ map kind_of parts.old.items }
-    ensures back { taken_back log.new.items parts.new.items ≡ taken_back log.old.items parts.old.items }
+        (form_of e.now)) (changing (P.values parts.old) reply)) (changing (P.values parts.new) reply) }
+    ensures kinds { map kind_of (P.values parts.new) ≡ map kind_of (P.values parts.old) }
+    ensures origin { P.origin parts.new ≡ P.origin parts.old }
 {
     match e {
-        Expr::Integer(e) => set_integer(part, index, e, args, parts, known, log),
-        Expr::Text(e) => set_text(part, index, e, args, parts, known, log),
+        Expr::Integer(e) => set_integer(part, index, e, args, parts, known),
+        Expr::Text(e) => set_text(part, index, e, args, parts, known),
     }
 }
 
 // `append(q, e)`, where e is an integer.
-fn append_integer(
+fn append_integer<P: PartValues>(
     part: PartId,
     e: &IntegerExpr,
     args: &[Datum],
-    parts: &mut Vec<Value>,
+    parts: &mut P,
     known: &Pages,
-    log: &mut Vec<(PartId, Undo)>,
 ) -> Result<(), Stop>
-    requires fits { StatementFits (map kind_of parts.old.items) (append_form part (an_integer (integers_of e.now))) }
+    requires fits { StatementFits (map kind_of (P.values parts.old)) (append_form part (an_integer (integers_of e.now))) }
     ensures left { (reply : Option Datum) →
         Leaves result (after_known (known_by known.now) args.now (append_form part (an_integer (integers_of e.now)))
-        (changing parts.old.items reply)) (changing parts.new.items reply) }
-    ensures kinds { map kind_of parts.new.items ≡ map kind_of parts.old.items }
-    ensures back { taken_back log.new.items parts.new.items ≡ taken_back log.old.items parts.old.items }
+        (changing (P.values parts.old) reply)) (changing (P.values parts.new) reply) }
+    ensures kinds { map kind_of (P.values parts.new) ≡ map kind_of (P.values parts.old) }
+    ensures origin { P.origin parts.new ≡ P.origin parts.old }
 {
     let n = integer(e, args, parts, known)?;
-    append(parts, part, Datum::Integer(n), log)
+    parts.append(part, Datum::Integer(n))
 }
 
 // `append(q, e)`, where e is a text.
-fn append_text(
+fn append_text<P: PartValues>(
     part: PartId,
     e: &TextExpr,
     args: &[Datum],
-    parts: &mut Vec<Value>,
+    parts: &mut P,
     known: &Pages,
-    log: &mut Vec<(PartId, Undo)>,
 ) -> Result<(), Stop>
-    requires fits { StatementFits (map kind_of parts.old.items) (append_form part (a_text (texts_of e.now))) }
+    requires fits { StatementFits (map kind_of (P.values parts.old)) (append_form part (a_text (texts_of e.now))) }
     ensures left { (reply : Option Datum) →
         Leaves result (after_known (known_by known.now) args.now (append_form part (a_text (texts_of e.now)))
-        (changing parts.old.items reply)) (changing parts.new.items reply) }
-    ensures kinds { map kind_of parts.new.items ≡ map kind_of parts.old.items }
-    ensures back { taken_back log.new.items parts.new.items ≡ taken_back log.old.items parts.old.items }
+        (changing (P.values parts.old) reply)) (changing (P.values parts.new) reply) }
+    ensures kinds { map kind_of (P.values parts.new) ≡ map kind_of (P.values parts.old) }
+    ensures origin { P.origin parts.new ≡ P.origin parts.old }
 {
     let text = text(e, args, parts, known)?;
-    append(parts, part, Datum::Text(text), log)
+    parts.append(part, Datum::Text(text))
 }
 
 // `append(q, e)`
-fn do_append(
+fn do_append<P: PartValues>(
     part: PartId,
     e: &Expr,
     args: &[Datum],
-    parts: &mut Vec<Value>,
+    parts: &mut P,
     known: &Pages,
-    log: &mut Vec<(PartId, Undo)>,
 ) -> Result<(), Stop>
-    requires fits { StatementFits (map kind_of parts.old.items) (append_form part (form_of e.now)) }
+    requires fits { StatementFits (map kind_of (P.values parts.old)) (append_form part (form_of e.now)) }
     ensures left { (reply : Option Datum) →
         Leaves result (after_known (known_by known.now) args.now (append_form part (form_of e.now))
-        (changing parts.old.items reply)) (changing parts.new.items reply) }
-    ensures kinds { map kind_of parts.new.items ≡ map kind_of parts.old.items }
-    ensures back { taken_back log.new.items parts.new.items ≡ taken_back log.old.items parts.old.items }
+        (changing (P.values parts.old) reply)) (changing (P.values parts.new) reply) }
+    ensures kinds { map kind_of (P.values parts.new) ≡ map kind_of (P.values parts.old) }
+    ensures origin { P.origin parts.new ≡ P.origin parts.old }
 {
     match e {
-        Expr::Integer(e) => append_integer(part, e, args, parts, known, log),
-        Expr::Text(e) => append_text(part, e, args, parts, known, log),
+        Expr::Integer(e) => append_integer(part, e, args, parts, known),
+        Expr::Text(e) => append_text(part, e, args, parts, known),
     }
 }
 
 // `store(t, k, e)`, where e is an integer.
-fn store_integer(
+fn store_integer<P: PartValues>(
     part: PartId,
     key: &TextExpr,
     e: &IntegerExpr,
     args: &[Datum],
-    parts: &mut Vec<Value>,
+    parts: &mut P,
     known: &Pages,
-    log: &mut Vec<(PartId, Undo)>,
 ) -> Result<(), Stop>
-    requires fits { StatementFits (map kind_of parts.old.items) (store_form part (texts_of key.now)
+    requires fits { StatementFits (map kind_of (P.values parts.old)) (store_form part (texts_of key.now)
         (an_integer (integers_of e.now))) }
     ensures left { (reply : Option Datum) →
         Leaves result (after_known (known_by known.now) args.now (store_form part (texts_of key.now)
-        (an_integer (integers_of e.now))) (changing parts.old.items reply)) (changing parts.new.items reply) }
-    ensures kinds { map kind_of parts.new.items ≡ map kind_of parts.old.items }
-    ensures back { taken_back log.new.items parts.new.items ≡ taken_back log.old.items parts.old.items }
+        (an_integer (integers_of e.now))) (changing (P.values parts.old) reply)) (changing (P.values parts.new) reply) }
+    ensures kinds { map kind_of (P.values parts.new) ≡ map kind_of (P.values parts.old) }
+    ensures origin { P.origin parts.new ≡ P.origin parts.old }
 {
     let key = text(key, args, parts, known)?;
     let n = integer(e, args, parts, known)?;
-    store(parts, part, key, Datum::Integer(n), log)
+    parts.store(part, key, Datum::Integer(n))
 }
 
 // `store(t, k, e)`, where e is a text.
-fn store_text(
+fn store_text<P: PartValues>(
     part: PartId,
     key: &TextExpr,
     e: &TextExpr,
     args: &[Datum],
-    parts: &mut Vec<Value>,
+    parts: &mut P,
     known: &Pages,
-    log: &mut Vec<(PartId, Undo)>,
 ) -> Result<(), Stop>
-    requires fits { StatementFits (map kind_of parts.old.items) (store_form part (texts_of key.now)
+    requires fits { StatementFits (map kind_of (P.values parts.old)) (store_form part (texts_of key.now)
         (a_text (texts_of e.now))) }
     ensures left { (reply : Option Datum) →
         Leaves result (after_known (known_by known.now) args.now (store_form part (texts_of key.now)
-        (a_text (texts_of e.now))) (changing parts.old.items reply)) (changing parts.new.items reply) }
-    ensures kinds { map kind_of parts.new.items ≡ map kind_of parts.old.items }
-    ensures back { taken_back log.new.items parts.new.items ≡ taken_back log.old.items parts.old.items }
+        (a_text (texts_of e.now))) (changing (P.values parts.old) reply)) (changing (P.values parts.new) reply) }
+    ensures kinds { map kind_of (P.values parts.new) ≡ map kind_of (P.values parts.old) }
+    ensures origin { P.origin parts.new ≡ P.origin parts.old }
 {
     let key = text(key, args, parts, known)?;
     let text = text(e, args, parts, known)?;
-    store(parts, part, key, Datum::Text(text), log)
+    parts.store(part, key, Datum::Text(text))
 }
 
 // `store(t, k, e)`
-fn do_store(
+fn do_store<P: PartValues>(
     part: PartId,
     key: &TextExpr,
     e: &Expr,
     args: &[Datum],
-    parts: &mut Vec<Value>,
+    parts: &mut P,
     known: &Pages,
-    log: &mut Vec<(PartId, Undo)>,
 ) -> Result<(), Stop>
-    requires fits { StatementFits (map kind_of parts.old.items) (store_form part (texts_of key.now) (form_of e.now)) }
+    requires fits { StatementFits (map kind_of (P.values parts.old)) (store_form part (texts_of key.now) (form_of e.now)) }
     ensures left { (reply : Option Datum) →
         Leaves result (after_known (known_by known.now) args.now (store_form part (texts_of key.now) (form_of e.now))
-        (changing parts.old.items reply)) (changing parts.new.items reply) }
-    ensures kinds { map kind_of parts.new.items ≡ map kind_of parts.old.items }
-    ensures back { taken_back log.new.items parts.new.items ≡ taken_back log.old.items parts.old.items }
+        (changing (P.values parts.old) reply)) (changing (P.values parts.new) reply) }
+    ensures kinds { map kind_of (P.values parts.new) ≡ map kind_of (P.values parts.old) }
+    ensures origin { P.origin parts.new ≡ P.origin parts.old }
 {
     match e {
-        Expr::Integer(e) => store_integer(part, key, e, args, parts, known, log),
-        Expr::Text(e) => store_text(part, key, e, args, parts, known, log),
+        Expr::Integer(e) => store_integer(part, key, e, args, parts, known),
+        Expr::Text(e) => store_text(part, key, e, args, parts, known),
     }
 }
 
 // `erase(t, k)`
-fn do_erase(
+fn do_erase<P: PartValues>(
     part: PartId,
     key: &TextExpr,
     args: &[Datum],
-    parts: &mut Vec<Value>,
+    parts: &mut P,
     known: &Pages,
-    log: &mut Vec<(PartId, Undo)>,
 ) -> Result<(), Stop>
-    requires fits { StatementFits (map kind_of parts.old.items) (erase_form part (texts_of key.now)) }
+    requires fits { StatementFits (map kind_of (P.values parts.old)) (erase_form part (texts_of key.now)) }
     ensures left { (reply : Option Datum) →
         Leaves result (after_known (known_by known.now) args.now (erase_form part (texts_of key.now))
-        (changing parts.old.items reply)) (changing parts.new.items reply) }
-    ensures kinds { map kind_of parts.new.items ≡ map kind_of parts.old.items }
-    ensures back { taken_back log.new.items parts.new.items ≡ taken_back log.old.items parts.old.items }
+        (changing (P.values parts.old) reply)) (changing (P.values parts.new) reply) }
+    ensures kinds { map kind_of (P.values parts.new) ≡ map kind_of (P.values parts.old) }
+    ensures origin { P.origin parts.new ≡ P.origin parts.old }
 {
     let key = text(key, args, parts, known)?;
-    erase(parts, part, key, log)
+    parts.erase(part, key)
 }
 
 // `f := e`, where f is the function itself, and e is an integer.
-fn reply_integer(
+fn reply_integer<P: PartValues>(
     e: &IntegerExpr,
     args: &[Datum],
-    parts: &[Value],
+    parts: &P,
     known: &Pages,
     reply: &mut Option<Datum>,
 ) -> Result<(), Stop>
-    requires fits { StatementFits (map kind_of parts.now) (set_result_form (an_integer (integers_of e.now))) }
+    requires fits { StatementFits (map kind_of (P.values parts.now)) (set_result_form (an_integer (integers_of e.now))) }
     ensures left { Leaves result
         (after_known (known_by known.now) args.now (set_result_form (an_integer (integers_of e.now)))
-        (changing parts.now reply.old)) (changing parts.now reply.new) }
+        (changing (P.values parts.now) reply.old)) (changing (P.values parts.now) reply.new) }
     ensures memory { IsErrOf result Stop.Memory → ⊥ }
 {
     let n = integer(e, args, parts, known)?;
@@ -448,17 +347,17 @@ fn reply_integer(
 }
 
 // `f := e`, where f is the function itself, and e is a text.
-fn reply_text(
+fn reply_text<P: PartValues>(
     e: &TextExpr,
     args: &[Datum],
-    parts: &[Value],
+    parts: &P,
     known: &Pages,
     reply: &mut Option<Datum>,
 ) -> Result<(), Stop>
-    requires fits { StatementFits (map kind_of parts.now) (set_result_form (a_text (texts_of e.now))) }
+    requires fits { StatementFits (map kind_of (P.values parts.now)) (set_result_form (a_text (texts_of e.now))) }
     ensures left { Leaves result
         (after_known (known_by known.now) args.now (set_result_form (a_text (texts_of e.now)))
-        (changing parts.now reply.old)) (changing parts.now reply.new) }
+        (changing (P.values parts.now) reply.old)) (changing (P.values parts.now) reply.new) }
     ensures memory { IsErrOf result Stop.Memory → ⊥ }
 {
     let text = text(e, args, parts, known)?;
@@ -467,17 +366,17 @@ fn reply_text(
 }
 
 // `f := e`, where f is the function itself
-fn do_set_result(
+fn do_set_result<P: PartValues>(
     e: &Expr,
     args: &[Datum],
-    parts: &[Value],
+    parts: &P,
     known: &Pages,
     reply: &mut Option<Datum>,
 ) -> Result<(), Stop>
-    requires fits { StatementFits (map kind_of parts.now) (set_result_form (form_of e.now)) }
+    requires fits { StatementFits (map kind_of (P.values parts.now)) (set_result_form (form_of e.now)) }
     ensures left { Leaves result
-        (after_known (known_by known.now) args.now (set_result_form (form_of e.now)) (changing parts.now reply.old))
-        (changing parts.now reply.new) }
+        (after_known (known_by known.now) args.now (set_result_form (form_of e.now)) (changing (P.values parts.now) reply.old))
+        (changing (P.values parts.now) reply.new) }
     ensures memory { IsErrOf result Stop.Memory → ⊥ }
 {
     match e {
@@ -496,35 +395,32 @@ fn do_refuse(word: &RefusalWord) -> Result<(), Stop>
 // Does a statement; `reply` is what the function is to reply. A statement that stops may leave
 // parts changed.
 #[cycle(acting)]
-fn act(
+fn act<P: PartValues>(
     s: &Stmt,
     args: &[Datum],
-    parts: &mut Vec<Value>,
+    parts: &mut P,
     known: &Pages,
     reply: &mut Option<Datum>,
-    log: &mut Vec<(PartId, Undo)>,
 ) -> Result<(), Stop>
-    requires fits { StatementFits (map kind_of parts.old.items) (statement_of s.now) }
+    requires fits { StatementFits (map kind_of (P.values parts.old)) (statement_of s.now) }
     ensures left { Leaves result (after_known (known_by known.now) args.now (statement_of s.now)
-        (changing parts.old.items reply.old)) (changing parts.new.items reply.new) }
-    ensures kinds { map kind_of parts.new.items ≡ map kind_of parts.old.items }
-    ensures back { taken_back log.new.items parts.new.items ≡ taken_back log.old.items parts.old.items }
-    ensures memory { IsErrOf result Stop.Memory → 0 < length (map kind_of parts.old.items) }
+        (changing (P.values parts.old) reply.old)) (changing (P.values parts.new) reply.new) }
+    ensures kinds { map kind_of (P.values parts.new) ≡ map kind_of (P.values parts.old) }
+    ensures origin { P.origin parts.new ≡ P.origin parts.old }
+    ensures memory { IsErrOf result Stop.Memory → 0 < length (map kind_of (P.values parts.old)) }
 {
     match s {
-        Stmt::Block(all) => act_all(all, args, parts, known, reply, log),
-        Stmt::SetElement(part, index, e) => do_set_element(
-            *part, index, e, args, parts, known, log,
-        ),
+        Stmt::Block(all) => act_all(all, args, parts, known, reply),
+        Stmt::SetElement(part, index, e) => do_set_element(*part, index, e, args, parts, known),
         Stmt::SetResult(e) => do_set_result(e, args, parts, known, reply),
-        Stmt::Append(part, e) => do_append(*part, e, args, parts, known, log),
-        Stmt::Take(part) => take(parts, *part, log),
-        Stmt::Store(part, key, e) => do_store(*part, key, e, args, parts, known, log),
-        Stmt::Erase(part, key) => do_erase(*part, key, args, parts, known, log),
+        Stmt::Append(part, e) => do_append(*part, e, args, parts, known),
+        Stmt::Take(part) => parts.take(*part),
+        Stmt::Store(part, key, e) => do_store(*part, key, e, args, parts, known),
+        Stmt::Erase(part, key) => do_erase(*part, key, args, parts, known),
         Stmt::If(c, s, t) => if holds(c, args, parts, known)? {
-            act(s, args, parts, known, reply, log)
+            act(s, args, parts, known, reply)
         } else {
-            act(t, args, parts, known, reply, log)
+            act(t, args, parts, known, reply)
         },
         Stmt::Refuse(word) => do_refuse(word),
     }
@@ -532,23 +428,22 @@ fn act(
 
 // Does statements in order, until one stops.
 #[cycle(acting)]
-pub(crate) fn act_all(
+pub(crate) fn act_all<P: PartValues>(
     all: &[Stmt],
     args: &[Datum],
-    parts: &mut Vec<Value>,
+    parts: &mut P,
     known: &Pages,
     reply: &mut Option<Datum>,
-    log: &mut Vec<(PartId, Undo)>,
 ) -> Result<(), Stop>
-    requires fits { StatementsFit (map kind_of parts.old.items) (all_of all.now) }
+    requires fits { StatementsFit (map kind_of (P.values parts.old)) (all_of all.now) }
     ensures left { Leaves result (all_known (known_by known.now) args.now (all_of all.now)
-        (changing parts.old.items reply.old)) (changing parts.new.items reply.new) }
-    ensures kinds { map kind_of parts.new.items ≡ map kind_of parts.old.items }
-    ensures back { taken_back log.new.items parts.new.items ≡ taken_back log.old.items parts.old.items }
-    ensures memory { IsErrOf result Stop.Memory → 0 < length (map kind_of parts.old.items) }
+        (changing (P.values parts.old) reply.old)) (changing (P.values parts.new) reply.new) }
+    ensures kinds { map kind_of (P.values parts.new) ≡ map kind_of (P.values parts.old) }
+    ensures origin { P.origin parts.new ≡ P.origin parts.old }
+    ensures memory { IsErrOf result Stop.Memory → 0 < length (map kind_of (P.values parts.old)) }
 {
     for s in all {
-        match act(s, args, parts, known, reply, log) {
+        match act(s, args, parts, known, reply) {
             Ok(()) => {}
             Err(stop) => return Err(stop),
         }

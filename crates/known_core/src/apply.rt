@@ -1,18 +1,21 @@
 //! Bodies of operations on whole values, in place.
 
-ghost use Rattle.std.specs.Prelude.{◌≡◌, map, IfOk, OnOk, OnErr};
+ghost use Rattle.std.specs.Prelude.{◌≡◌, [], map, IfOk, OnOk, OnErr};
 ghost use Rattle.value_core.specs.Contents.{kind_of};
 ghost use Rattle.decl_core.specs.Bodies.{body_of};
 ghost use Rattle.decl_core.specs.Meaning.{apply_body};
 ghost use Rattle.apply_core.specs.Fits.{ArgumentsFit, HoldsReads};
 ghost use Rattle.apply_core.specs.Replies.{ReplyTells};
 ghost use Rattle.known_core.specs.Breaks.{RepliesTo};
+ghost use Rattle.known_core.specs.Log.{taken_back as backs};
 
 use crate::log::undo_all;
+use crate::logged::LoggedValues;
 use crate::whole::{WholeStop, evaluate_whole};
 use apply_core::reply::Reply;
 use decl_core::object::Operation;
 use std::alloc::{AllocError, Global};
+use std::mem;
 use value_core::datum::Datum;
 use value_core::value::Value;
 
@@ -36,15 +39,39 @@ pub fn apply_all(
     ensures unchanged { OnErr result (parts.new.items ≡ parts.old.items) }
     ensures kinds { map kind_of parts.new.items ≡ map kind_of parts.old.items }
 {
-    let mut log = Vec::new(alloc);
+    let mut logged = logged(alloc, parts);
     let mut reply = None;
-    match evaluate_whole(operation, args, parts, &mut reply, &mut log) {
-        Ok(()) => Ok(Reply::Done(reply)),
+    match evaluate_whole(operation, args, &mut logged, &mut reply) {
+        Ok(()) => {
+            *parts = logged.values;
+            Ok(Reply::Done(reply))
+        }
         Err(stop) => {
-            undo_all(log, parts);
+            taken_back(logged, parts);
             refusal(stop)
         }
     }
+}
+
+// These values, with no change; in their place is left none.
+fn logged(alloc: Global, parts: &mut Vec<Value>) -> LoggedValues
+    ensures values { result.values.items ≡ parts.old.items }
+    ensures none { result.log.items ≡ [] }
+{
+    let values = mem::replace(parts, Vec::new(alloc));
+    LoggedValues {
+        values,
+        log: Vec::new(alloc),
+    }
+}
+
+// The values once all changes are taken back.
+fn taken_back(logged: LoggedValues, parts: &mut Vec<Value>)
+    ensures { parts.new.items ≡ backs logged.log.items logged.values.items }
+{
+    let mut values = logged.values;
+    undo_all(logged.log, &mut values);
+    *parts = values;
 }
 
 // What is replied where a body was refused.

@@ -18,6 +18,7 @@ ghost use Rattle.apply_core.specs.Fitting.{ConditionFits};
 ghost use Rattle.known_core.specs.Sums.{seeing, with_signed, with_terms};
 
 use crate::pages::Pages;
+use crate::parts::PartValues;
 use decl_core::expr::{IntegerExpr, Signed, Source, TextExpr};
 use decl_core::id::{ParamId, PartId};
 use decl_core::stmt::{Cond, Relation};
@@ -25,7 +26,6 @@ use text_core::text::Text;
 use value_core::arithmetic::{add, sub};
 use value_core::datum::Datum;
 use value_core::refusal::Refusal;
-use value_core::value::Value;
 
 /// Why an expression has no value.
 #[derive(Clone, Copy)]
@@ -53,15 +53,6 @@ fn if_known(part: PartId, index: u32, datum: Datum, known: &Pages) -> Result<Dat
     } else {
         Err(Break::Needs(part, index))
     }
-}
-
-// The value of a part.
-fn value_of(parts: &[Value], part: PartId) -> &Value
-    requires { part < length (map kind_of parts.now) }
-    ensures value { result.now ≡ part_at parts.now part }
-    ensures kind { kind_of result.now ≡ kind_at (map kind_of parts.now) part }
-{
-    &parts[part.place() as usize]
 }
 
 // The argument for a parameter.
@@ -106,54 +97,59 @@ fn text_in(datum: Datum) -> Text
 
 // The element of a part at an index.
 #[cycle(evaluating)]
-fn element_in(
+fn element_in<P: PartValues>(
     part: PartId,
     index: &IntegerExpr,
     args: &[Datum],
-    parts: &[Value],
+    parts: &P,
     known: &Pages,
 ) -> Result<Datum, Break>
-    requires fits { FromFits (map kind_of parts.now) (element part (integers_of index.now)) }
-    ensures { datum_known (known_by known.now) (seeing args.now parts.now) (element part (integers_of index.now))
+    requires fits { FromFits (map kind_of (P.values parts.now)) (element part (integers_of index.now)) }
+    ensures { datum_known (known_by known.now) (seeing args.now (P.values parts.now)) (element part (integers_of index.now))
         ≡ given result }
 {
     let index = integer(index, args, parts, known)?;
-    let datum = value_of(parts, part).element(index)?;
+    let datum = parts.element(part, index)?;
     if_known(part, index, datum, known)
 }
 
 // The oldest element of a part.
-fn oldest_in(part: PartId, parts: &[Value]) -> Result<Datum, Break>
-    requires fits { FromFits (map kind_of parts.now) (oldest part) }
-    ensures { worded (oldest_of (part_at parts.now part)) ≡ given result }
+fn oldest_in<P: PartValues>(part: PartId, parts: &P) -> Result<Datum, Break>
+    requires fits { FromFits (map kind_of (P.values parts.now)) (oldest part) }
+    ensures { worded (oldest_of (part_at (P.values parts.now) part)) ≡ given result }
 {
-    let datum = value_of(parts, part).first()?;
+    let datum = parts.first(part)?;
     Ok(datum)
 }
 
 // What stands under a key of a part.
 #[cycle(evaluating)]
-fn under_in(
+fn under_in<P: PartValues>(
     part: PartId,
     key: &TextExpr,
     args: &[Datum],
-    parts: &[Value],
+    parts: &P,
     known: &Pages,
 ) -> Result<Datum, Break>
-    requires fits { FromFits (map kind_of parts.now) (under part (texts_of key.now)) }
-    ensures { datum_known (known_by known.now) (seeing args.now parts.now) (under part (texts_of key.now))
+    requires fits { FromFits (map kind_of (P.values parts.now)) (under part (texts_of key.now)) }
+    ensures { datum_known (known_by known.now) (seeing args.now (P.values parts.now)) (under part (texts_of key.now))
         ≡ given result }
 {
     let key = text(key, args, parts, known)?;
-    let datum = value_of(parts, part).lookup(&key)?;
+    let datum = parts.lookup(part, &key)?;
     Ok(datum)
 }
 
 // What is taken from there. Each form has a function of its own, since a function clears all its data before it begins.
 #[cycle(evaluating)]
-fn from(source: &Source, args: &[Datum], parts: &[Value], known: &Pages) -> Result<Datum, Break>
-    requires fits { FromFits (map kind_of parts.now) (from_of source.now) }
-    ensures { datum_known (known_by known.now) (seeing args.now parts.now) (from_of source.now) ≡ given result }
+fn from<P: PartValues>(
+    source: &Source,
+    args: &[Datum],
+    parts: &P,
+    known: &Pages,
+) -> Result<Datum, Break>
+    requires fits { FromFits (map kind_of (P.values parts.now)) (from_of source.now) }
+    ensures { datum_known (known_by known.now) (seeing args.now (P.values parts.now)) (from_of source.now) ≡ given result }
 {
     match source {
         Source::Parameter(param) => Ok(argument(args, *param)),
@@ -165,19 +161,19 @@ fn from(source: &Source, args: &[Datum], parts: &[Value], known: &Pages) -> Resu
 
 // The element of an array of integers at an index.
 #[cycle(evaluating)]
-fn integer_element(
+fn integer_element<P: PartValues>(
     part: PartId,
     index: &IntegerExpr,
     args: &[Datum],
-    parts: &[Value],
+    parts: &P,
     known: &Pages,
 ) -> Result<u32, Break>
-    requires fits { FromFits (map kind_of parts.now) (element part (integers_of index.now)) }
-    ensures { integer_known (known_by known.now) (seeing args.now parts.now)
+    requires fits { FromFits (map kind_of (P.values parts.now)) (element part (integers_of index.now)) }
+    ensures { integer_known (known_by known.now) (seeing args.now (P.values parts.now))
         (taken_integer (element part (integers_of index.now))) ≡ given result }
 {
     let index = integer(index, args, parts, known)?;
-    let element = value_of(parts, part).element(index)?;
+    let element = parts.element(part, index)?;
     if !known.has(part, index) {
         return Err(Break::Needs(part, index));
     }
@@ -185,42 +181,42 @@ fn integer_element(
 }
 
 // The oldest element of a queue of integers.
-fn integer_oldest(part: PartId, parts: &[Value]) -> Result<u32, Break>
-    requires fits { FromFits (map kind_of parts.now) (oldest part) }
-    ensures { (worded (oldest_of (part_at parts.now part)) >>> λ d. Ok (in_integer d)) ≡ given result }
+fn integer_oldest<P: PartValues>(part: PartId, parts: &P) -> Result<u32, Break>
+    requires fits { FromFits (map kind_of (P.values parts.now)) (oldest part) }
+    ensures { (worded (oldest_of (part_at (P.values parts.now) part)) >>> λ d. Ok (in_integer d)) ≡ given result }
 {
-    let datum = value_of(parts, part).first()?;
+    let datum = parts.first(part)?;
     Ok(integer_in(&datum))
 }
 
 // The integer under a key of a table.
 #[cycle(evaluating)]
-fn integer_under(
+fn integer_under<P: PartValues>(
     part: PartId,
     key: &TextExpr,
     args: &[Datum],
-    parts: &[Value],
+    parts: &P,
     known: &Pages,
 ) -> Result<u32, Break>
-    requires fits { FromFits (map kind_of parts.now) (under part (texts_of key.now)) }
-    ensures { integer_known (known_by known.now) (seeing args.now parts.now)
+    requires fits { FromFits (map kind_of (P.values parts.now)) (under part (texts_of key.now)) }
+    ensures { integer_known (known_by known.now) (seeing args.now (P.values parts.now))
         (taken_integer (under part (texts_of key.now))) ≡ given result }
 {
     let key = text(key, args, parts, known)?;
-    let datum = value_of(parts, part).lookup(&key)?;
+    let datum = parts.lookup(part, &key)?;
     Ok(integer_in(&datum))
 }
 
 // The integer that is taken from there, each form in a function of its own.
 #[cycle(evaluating)]
-fn integer_from(
+fn integer_from<P: PartValues>(
     source: &Source,
     args: &[Datum],
-    parts: &[Value],
+    parts: &P,
     known: &Pages,
 ) -> Result<u32, Break>
-    requires fits { IntegersFit (map kind_of parts.now) (taken_integer (from_of source.now)) }
-    ensures { integer_known (known_by known.now) (seeing args.now parts.now) (taken_integer (from_of source.now))
+    requires fits { IntegersFit (map kind_of (P.values parts.now)) (taken_integer (from_of source.now)) }
+    ensures { integer_known (known_by known.now) (seeing args.now (P.values parts.now)) (taken_integer (from_of source.now))
         ≡ given result }
 {
     match source {
@@ -233,19 +229,19 @@ fn integer_from(
 
 // The value of an expression that is an integer.
 #[cycle(evaluating)]
-pub(crate) fn integer(
+pub(crate) fn integer<P: PartValues>(
     e: &IntegerExpr,
     args: &[Datum],
-    parts: &[Value],
+    parts: &P,
     known: &Pages,
 ) -> Result<u32, Break>
-    requires fits { IntegersFit (map kind_of parts.now) (integers_of e.now) }
-    ensures { integer_known (known_by known.now) (seeing args.now parts.now) (integers_of e.now) ≡ given result }
+    requires fits { IntegersFit (map kind_of (P.values parts.now)) (integers_of e.now) }
+    ensures { integer_known (known_by known.now) (seeing args.now (P.values parts.now)) (integers_of e.now) ≡ given result }
 {
     match e {
         IntegerExpr::Number(n) => Ok(*n),
         IntegerExpr::From(source) => integer_from(source, args, parts, known),
-        IntegerExpr::Count(part) => Ok(value_of(parts, *part).count()),
+        IntegerExpr::Count(part) => Ok(parts.count(*part)),
         IntegerExpr::Sum(first, terms) => match integer(first, args, parts, known) {
             Ok(first) => sum(first, terms, args, parts, known),
             Err(stop) => Err(stop),
@@ -255,15 +251,15 @@ pub(crate) fn integer(
 
 // A value with terms added and subtracted, from left to right.
 #[cycle(evaluating)]
-fn sum(
+fn sum<P: PartValues>(
     first: u32,
     terms: &[Signed],
     args: &[Datum],
-    parts: &[Value],
+    parts: &P,
     known: &Pages,
 ) -> Result<u32, Break>
-    requires fits { TermsFit (map kind_of parts.now) terms.now }
-    ensures { with_terms (known_by known.now) (seeing args.now parts.now) first terms.now ≡ given result }
+    requires fits { TermsFit (map kind_of (P.values parts.now)) terms.now }
+    ensures { with_terms (known_by known.now) (seeing args.now (P.values parts.now)) first terms.now ≡ given result }
 {
     let mut total = first;
     for term in terms {
@@ -274,15 +270,15 @@ fn sum(
 
 // A value with a term added or subtracted.
 #[cycle(evaluating)]
-fn with(
+fn with<P: PartValues>(
     so_far: u32,
     term: &Signed,
     args: &[Datum],
-    parts: &[Value],
+    parts: &P,
     known: &Pages,
 ) -> Result<u32, Break>
-    requires fits { SignedFits (map kind_of parts.now) term.now }
-    ensures { with_signed (known_by known.now) (seeing args.now parts.now) so_far term.now ≡ given result }
+    requires fits { SignedFits (map kind_of (P.values parts.now)) term.now }
+    ensures { with_signed (known_by known.now) (seeing args.now (P.values parts.now)) so_far term.now ≡ given result }
 {
     match term {
         Signed::Plus(e) => {
@@ -300,14 +296,14 @@ fn with(
 
 // The value of an expression that is a text.
 #[cycle(evaluating)]
-pub(crate) fn text(
+pub(crate) fn text<P: PartValues>(
     e: &TextExpr,
     args: &[Datum],
-    parts: &[Value],
+    parts: &P,
     known: &Pages,
 ) -> Result<Text, Break>
-    requires fits { TextsFit (map kind_of parts.now) (texts_of e.now) }
-    ensures { text_known (known_by known.now) (seeing args.now parts.now) (texts_of e.now) ≡ given result }
+    requires fits { TextsFit (map kind_of (P.values parts.now)) (texts_of e.now) }
+    ensures { text_known (known_by known.now) (seeing args.now (P.values parts.now)) (texts_of e.now) ≡ given result }
 {
     match e {
         TextExpr::Literal(content) => Ok(**content),
@@ -333,15 +329,15 @@ fn compares(relation: Relation, first: u32, second: u32) -> bool
 }
 
 // Whether two texts are the same.
-fn are_same(
+fn are_same<P: PartValues>(
     a: &TextExpr,
     b: &TextExpr,
     args: &[Datum],
-    parts: &[Value],
+    parts: &P,
     known: &Pages,
 ) -> Result<bool, Break>
-    requires fits { ConditionFits (map kind_of parts.now) (same_texts (texts_of a.now) (texts_of b.now)) }
-    ensures { holds_known (known_by known.now) (seeing args.now parts.now)
+    requires fits { ConditionFits (map kind_of (P.values parts.now)) (same_texts (texts_of a.now) (texts_of b.now)) }
+    ensures { holds_known (known_by known.now) (seeing args.now (P.values parts.now))
         (same_texts (texts_of a.now) (texts_of b.now))
         ≡ given result }
 {
@@ -351,15 +347,15 @@ fn are_same(
 }
 
 // Whether two texts are not the same.
-fn are_other(
+fn are_other<P: PartValues>(
     a: &TextExpr,
     b: &TextExpr,
     args: &[Datum],
-    parts: &[Value],
+    parts: &P,
     known: &Pages,
 ) -> Result<bool, Break>
-    requires fits { ConditionFits (map kind_of parts.now) (other_texts (texts_of a.now) (texts_of b.now)) }
-    ensures { holds_known (known_by known.now) (seeing args.now parts.now)
+    requires fits { ConditionFits (map kind_of (P.values parts.now)) (other_texts (texts_of a.now) (texts_of b.now)) }
+    ensures { holds_known (known_by known.now) (seeing args.now (P.values parts.now))
         (other_texts (texts_of a.now) (texts_of b.now))
         ≡ given result }
 {
@@ -369,25 +365,30 @@ fn are_other(
 }
 
 // Whether a part has a key.
-fn has_key(
+fn has_key<P: PartValues>(
     part: PartId,
     key: &TextExpr,
     args: &[Datum],
-    parts: &[Value],
+    parts: &P,
     known: &Pages,
 ) -> Result<bool, Break>
-    requires fits { ConditionFits (map kind_of parts.now) (has part (texts_of key.now)) }
-    ensures { holds_known (known_by known.now) (seeing args.now parts.now) (has part (texts_of key.now))
+    requires fits { ConditionFits (map kind_of (P.values parts.now)) (has part (texts_of key.now)) }
+    ensures { holds_known (known_by known.now) (seeing args.now (P.values parts.now)) (has part (texts_of key.now))
         ≡ given result }
 {
     let key = text(key, args, parts, known)?;
-    Ok(value_of(parts, part).has(&key))
+    Ok(parts.has(part, &key))
 }
 
 // Whether a condition holds.
-pub(crate) fn holds(c: &Cond, args: &[Datum], parts: &[Value], known: &Pages) -> Result<bool, Break>
-    requires fits { ConditionFits (map kind_of parts.now) (condition_of c.now) }
-    ensures { holds_known (known_by known.now) (seeing args.now parts.now) (condition_of c.now) ≡ given result }
+pub(crate) fn holds<P: PartValues>(
+    c: &Cond,
+    args: &[Datum],
+    parts: &P,
+    known: &Pages,
+) -> Result<bool, Break>
+    requires fits { ConditionFits (map kind_of (P.values parts.now)) (condition_of c.now) }
+    ensures { holds_known (known_by known.now) (seeing args.now (P.values parts.now)) (condition_of c.now) ≡ given result }
 {
     match c {
         Cond::Integers(relation, a, b) => {

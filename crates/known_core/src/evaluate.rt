@@ -8,66 +8,61 @@ ghost use Rattle.decl_core.specs.Bodies.{body_of};
 ghost use Rattle.decl_core.specs.Meaning.{reply_before};
 ghost use Rattle.apply_core.specs.Fits.{ArgumentsFit, HoldsReads};
 ghost use Rattle.known_core.specs.Breaks.{StopTells, changing, Leaves};
-ghost use Rattle.known_core.specs.Log.{taken_back};
 ghost use Rattle.known_core.specs.Masks.{known_by};
 ghost use Rattle.known_core.specs.Partly.{partly_done};
 
 use crate::act::{Stop, act_all};
 use crate::pages::Pages;
-use decl_core::id::PartId;
+use crate::parts::PartValues;
 use decl_core::object::Operation;
 use text_core::text::Text;
 use value_core::datum::Datum;
 use value_core::kind::Elem;
-use value_core::undo::Undo;
-use value_core::value::Value;
 
 /// Does the body of an operation on values, in place: that of part p stands at place p, where the operation reads it,
 /// and in the place of an element that is not known stands any. A body that ends otherwise leaves them changed in part.
-pub fn evaluate(
+pub fn evaluate<P: PartValues>(
     operation: &Operation,
     args: &[Datum],
-    parts: &mut Vec<Value>,
+    parts: &mut P,
     known: &Pages,
-    log: &mut Vec<(PartId, Undo)>,
 ) -> Result<Option<Datum>, Stop>
     requires fits { ArgumentsFit operation.now args.now }
-    requires held { HoldsReads operation.now parts.old.items }
+    requires held { HoldsReads operation.now (P.values parts.old) }
     ensures done { IfOk result (λ reply. partly_done (known_by known.now) (body_of operation.now) args.now
-        parts.old.items ≡ Ok (changing parts.new.items reply)) }
+        (P.values parts.old) ≡ Ok (changing (P.values parts.new) reply)) }
     ensures stopped { IfErr result (λ stop.
-        StopTells (partly_done (known_by known.now) (body_of operation.now) args.now parts.old.items) stop) }
-    ensures kinds { map kind_of parts.new.items ≡ map kind_of parts.old.items }
-    ensures back { taken_back log.new.items parts.new.items ≡ taken_back log.old.items parts.old.items }
+        StopTells (partly_done (known_by known.now) (body_of operation.now) args.now (P.values parts.old)) stop) }
+    ensures kinds { map kind_of (P.values parts.new) ≡ map kind_of (P.values parts.old) }
+    ensures origin { P.origin parts.new ≡ P.origin parts.old }
     // Only a body that changes a part takes memory.
-    ensures memory { IsErrOf result Stop.Memory → 0 < length parts.old.items }
+    ensures memory { IsErrOf result Stop.Memory → 0 < length (P.values parts.old) }
 {
     let mut reply = None;
-    match evaluate_into(operation, args, parts, known, &mut reply, log) {
+    match evaluate_into(operation, args, parts, known, &mut reply) {
         Ok(()) => Ok(reply),
         Err(stop) => Err(stop),
     }
 }
 
 // As `evaluate`, but it writes the reply where the caller keeps it, since that has room for a kilobyte.
-pub(crate) fn evaluate_into(
+pub(crate) fn evaluate_into<P: PartValues>(
     operation: &Operation,
     args: &[Datum],
-    parts: &mut Vec<Value>,
+    parts: &mut P,
     known: &Pages,
     reply: &mut Option<Datum>,
-    log: &mut Vec<(PartId, Undo)>,
 ) -> Result<(), Stop>
     requires fits { ArgumentsFit operation.now args.now }
-    requires held { HoldsReads operation.now parts.old.items }
-    ensures left { Leaves result (partly_done (known_by known.now) (body_of operation.now) args.now parts.old.items)
-        (changing parts.new.items reply.new) }
-    ensures kinds { map kind_of parts.new.items ≡ map kind_of parts.old.items }
-    ensures back { taken_back log.new.items parts.new.items ≡ taken_back log.old.items parts.old.items }
-    ensures memory { IsErrOf result Stop.Memory → 0 < length parts.old.items }
+    requires held { HoldsReads operation.now (P.values parts.old) }
+    ensures left { Leaves result (partly_done (known_by known.now) (body_of operation.now) args.now (P.values parts.old))
+        (changing (P.values parts.new) reply.new) }
+    ensures kinds { map kind_of (P.values parts.new) ≡ map kind_of (P.values parts.old) }
+    ensures origin { P.origin parts.new ≡ P.origin parts.old }
+    ensures memory { IsErrOf result Stop.Memory → 0 < length (P.values parts.old) }
 {
     begin(operation.result, reply);
-    act_all(&operation.body, args, parts, known, reply, log)
+    act_all(&operation.body, args, parts, known, reply)
 }
 
 // The empty text, as what is replied.

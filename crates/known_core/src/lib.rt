@@ -15,5 +15,7 @@ mod eval;
 pub mod evaluate;
 pub mod laws;
 mod log;
+mod logged;
 pub mod pages;
+pub mod parts;
 mod whole;

@@ -7,10 +7,10 @@ ghost use Rattle.decl_core.specs.Touched.{Reads};
 ghost use Rattle.known_core.specs.Masks.{known_by, IsOneMore, unread};
 ghost use Rattle.known_core.specs.Wanted.{are_integers, AreFull, AreMasksFor, IsWanted, IsFitOf};
 
+use apply_core::page::page_of;
 use decl_core::footprint::{is_in, reads};
 use decl_core::id::{MOST_PARTS, PartId};
 use decl_core::object::Operation;
-use piece_core::page::page_of;
 use std::marker::Model;
 use value_core::kind::{Elem, Kind};
 
@@ -79,7 +79,7 @@ impl Pages {
         }
     }
 
-    /// These, where of this part the first page alone is known. Parts count from 0, below 16.
+    /// These, where of this part the first page alone is known. PartValues count from 0, below 16.
     pub fn front(self, part: usize) -> Pages
         requires { part < 16 }
         ensures first { slice_index result part ≡ 1 }

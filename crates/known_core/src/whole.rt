@@ -12,12 +12,11 @@ ghost use Rattle.known_core.specs.declared.act.Stop.TheVariants.{Needs};
 
 use crate::act::Stop;
 use crate::evaluate::evaluate_into;
+use crate::logged::LoggedValues;
 use crate::pages::Pages;
-use decl_core::id::PartId;
 use decl_core::object::Operation;
 use text_core::text::Text;
 use value_core::datum::Datum;
-use value_core::undo::Undo;
 use value_core::value::Value;
 
 // Why a body on whole values stopped.
@@ -35,24 +34,23 @@ pub(crate) enum WholeStop {
 pub(crate) fn evaluate_whole(
     operation: &Operation,
     args: &[Datum],
-    parts: &mut Vec<Value>,
+    parts: &mut LoggedValues,
     reply: &mut Option<Datum>,
-    log: &mut Vec<(PartId, Undo)>,
 ) -> Result<(), WholeStop>
     requires fits { ArgumentsFit operation.now args.now }
-    requires held { HoldsReads operation.now parts.old.items }
-    ensures done { IfOk result (λ _. apply_body (body_of operation.now) args.now parts.old.items
-        ≡ (done reply.new, parts.new.items)) }
+    requires held { HoldsReads operation.now parts.old.values.items }
+    ensures done { IfOk result (λ _. apply_body (body_of operation.now) args.now parts.old.values.items
+        ≡ (done reply.new, parts.new.values.items)) }
     ensures stopped { IfErr result (λ stop.
-        WholeTells (apply_body (body_of operation.now) args.now parts.old.items).0 stop) }
-    ensures kinds { map kind_of parts.new.items ≡ map kind_of parts.old.items }
-    ensures back { taken_back log.new.items parts.new.items ≡ taken_back log.old.items parts.old.items }
+        WholeTells (apply_body (body_of operation.now) args.now parts.old.values.items).0 stop) }
+    ensures kinds { map kind_of parts.new.values.items ≡ map kind_of parts.old.values.items }
+    ensures back { taken_back parts.new.log.items parts.new.values.items ≡ taken_back parts.old.log.items parts.old.values.items }
     // Only a body that changes a part takes memory.
-    ensures memory { IsErrOf result WholeStop.Memory → 0 < length parts.old.items }
+    ensures memory { IsErrOf result WholeStop.Memory → 0 < length parts.old.values.items }
 {
-    match evaluate_into(operation, args, parts, &Pages::full(), reply, log) {
+    match evaluate_into(operation, args, parts, &Pages::full(), reply) {
         Ok(()) => Ok(()),
-        Err(stop) => Err(needing_nothing(stop, parts)),
+        Err(stop) => Err(needing_nothing(stop, &parts.values)),
     }
 }
 

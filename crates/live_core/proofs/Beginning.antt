@@ -8,10 +8,10 @@ use Rattle.path_count.specs.Program.{start_steps}
 use Rattle.path_count.specs.Object.{programs_of, all_have_room}
 use Rattle.path_count.specs.Stands.{StandsFor}
 use Rattle.path_count.proofs.Objects.{all_decide}
-use Rattle.past_core.specs.declared.past.PastEvent.{PastEvent}
-use Rattle.past_core.specs.Past.{events_of}
+use Rattle.path_count.specs.declared.past.PastEvent.{PastEvent}
+use Rattle.path_count.specs.Past.{events_of}
 use Rattle.decl_core.specs.ObjectMap.{object_of}
-use Rattle.trace_core.specs.Events.{Called}
+use Rattle.word_core.specs.Events.{Called}
 use Rattle.live_core.specs.Hall.{Hall, Told, trace, Every, EachPair, IsKept, IsWaiting, Rests, MayBegin}
 use Rattle.live_core.specs.Epochs.{told_behind, numbered_from, IsShortOf, IsBegun}
 use Rattle.live_core.proofs.Opening.{fresh_before}

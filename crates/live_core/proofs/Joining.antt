@@ -1,7 +1,7 @@
 -- A call that joins those that wait.
 use Rattle.std.proofs.Common.{◌≡◌, ◌≢◌, ℕ, List, ◌+◌, ◌<◌, ◌≤◌, [], ◌∷◌, arith, length-append}
 use Rattle.decl_core.specs.ObjectMap.{object_of}
-use Rattle.trace_core.specs.Events.{Called, Happened, began, ended}
+use Rattle.word_core.specs.Events.{Called, Happened, began, ended}
 use Rattle.live_core.specs.Hall.{Hall, Told, Every, IsKept, IsWaiting, IsCallOf, AreNumbered}
 use Rattle.live_core.specs.Steps.{joined}
 use Rattle.live_core.proofs.Listing.{every_map, every_snoc, pairs_snoc}

@@ -10,7 +10,7 @@ use Rattle.decl_core.specs.ObjectMap.{object_of}
 use Rattle.apply_core.specs.declared.reply.Reply.{Reply}
 use Rattle.apply_core.specs.History.{IsReplyOn, left_by, leads_to, IsLegal}
 use Rattle.apply_core.proofs.Histories.{legal_by_one, leads_by_one}
-use Rattle.trace_core.specs.Events.{Called, call_of, history_of, body_at, end_of}
+use Rattle.word_core.specs.Events.{Called, call_of, history_of, body_at, end_of}
 use Rattle.live_core.specs.declared.call.Ran.{Ran}
 use Rattle.live_core.specs.Hall.{Hall, Told, trace, Every, EachPair, IsKept, IsWaiting, IsCallOf, Rests, AreNumbered}
 use Rattle.live_core.specs.Bodies.{IsFirstAt, FailsForMemory}

@@ -1,7 +1,7 @@
 -- A waiting call that is taken out.
 use Rattle.std.proofs.Common.{◌≡◌, ◌≢◌, ◌<◌, List, ◌∷◌, ◌++◌, length, ap, subst, arith}
 use Rattle.decl_core.specs.ObjectMap.{object_of}
-use Rattle.trace_core.specs.Events.{Called}
+use Rattle.word_core.specs.Events.{Called}
 use Rattle.live_core.specs.Hall.{Hall, Told, Every, EachPair, IsKept, IsWaiting, Rests, MayBegin}
 use Rattle.live_core.proofs.Listing.{every_map, every_without, pairs_without, length_without}
 

@@ -9,3 +9,4 @@ pub mod Numbering
 pub mod Opening
 pub mod Settling
 pub mod Written
+mod Adding

@@ -1,7 +1,7 @@
 -- Calls that get their numbers one by one.
 use Rattle.std.proofs.Common.{◌≡◌, ℕ, zero, suc, ◌+◌, ◌<◌, List, [], ◌∷◌, ◌++◌, length, get_or, take, drop, ◌∙◌, ap, subst, arith}
 use lib.ListN.{set}
-use Rattle.trace_core.specs.Events.{Called}
+use Rattle.word_core.specs.Events.{Called}
 use Rattle.live_core.specs.Epochs.{numbered_from}
 
 step : (n k : ℕ) (old : List Called) (r new : Called) → k < length old → r ≡ get_or (numbered_from n (take k old) ++ drop k old) k r → new ≡ record r { number = n + k + 1 } →

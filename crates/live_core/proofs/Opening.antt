@@ -3,8 +3,8 @@ use Rattle.std.proofs.Common.{◌≡◌, ℕ, ◌≤◌, List, [], ◌∷◌, le
 use Rattle.path_tree.specs.Trace.{Event, Start, End, IsFresh, running_calls}
 use Rattle.path_count.specs.State.{State}
 use Rattle.path_count.specs.Stands.{StandsFor, started_calls}
-use Rattle.past_core.specs.declared.past.PastEvent.{PastEvent}
-use Rattle.past_core.specs.Past.{events_of, AreBefore}
+use Rattle.path_count.specs.declared.past.PastEvent.{PastEvent}
+use Rattle.path_count.specs.Past.{events_of, AreBefore}
 use Rattle.value_core.specs.Contents.{Contents, kind_of}
 use Rattle.decl_core.specs.declared.object.Object.{Object}
 use Rattle.decl_core.specs.declared.object.Part.{Part}

@@ -2,13 +2,13 @@
 use Rattle.std.specs.Prelude.{◌∷◌, [], ◌≡◌, ◌≢◌, ℕ, ◌+◌, ◌*◌, ◌<◌, ◌≤◌, ◌⊎◌, List, length}
 use Rattle.value_core.specs.declared.datum.Datum.{Datum}
 use Rattle.decl_core.specs.ObjectMap.{object_of}
-use Rattle.trace_core.specs.Events.{Called}
+use Rattle.word_core.specs.Events.{Called}
 use Rattle.live_core.specs.declared.hall.Refusal.{Refusal}
 use Rattle.live_core.specs.declared.hall.Refusal.TheVariants.{Gone, UnknownOp, BadArgs, SessionBusy, Full, HistoryFull}
 use Rattle.live_core.specs.declared.hall.Refusal.TheVariants.{Memory}
 use Rattle.live_core.specs.declared.call.Carried.{Carried}
 use Rattle.live_core.specs.declared.call.Limits.{Limits}
-use Rattle.past_core.specs.declared.past.PastEvent.{PastEvent}
+use Rattle.path_count.specs.declared.past.PastEvent.{PastEvent}
 use Rattle.decl_core.specs.declared.object.Object.{Object}
 use Rattle.live_core.specs.Hall.{Hall, Every, IsCallOf}
 

@@ -5,9 +5,9 @@ use Rattle.path_count.specs.State.{State}
 use Rattle.path_count.specs.Stands.{StandsFor, started_calls}
 use Rattle.value_core.specs.Contents.{Contents}
 use Rattle.decl_core.specs.ObjectForm.{ObjectForm}
-use Rattle.trace_core.specs.Events.{Called}
-use Rattle.past_core.specs.declared.past.PastEvent.{PastEvent}
-use Rattle.past_core.specs.Past.{events_of, AreBefore}
+use Rattle.word_core.specs.Events.{Called}
+use Rattle.path_count.specs.declared.past.PastEvent.{PastEvent}
+use Rattle.path_count.specs.Past.{events_of, AreBefore}
 use Rattle.live_core.specs.Hall.{Hall, Told}
 
 -- an epoch in which nothing has happened, behind this past and with these contents

@@ -10,7 +10,7 @@ use Rattle.decl_core.specs.declared.object.Object.{Object}
 use Rattle.decl_core.specs.ObjectForm.{ObjectForm}
 use Rattle.decl_core.specs.ObjectMap.{object_of}
 use Rattle.apply_core.specs.History.{IsLegal, leads_to}
-use Rattle.trace_core.specs.Events.{Called, Happened, began, ended, trace_of, history_of, body_at}
+use Rattle.word_core.specs.Events.{Called, Happened, began, ended, trace_of, history_of, body_at}
 
 -- it holds of each item
 abbrev pub Every : {X : Type 0} → (X → Type 0) → List X → Type 0

@@ -6,3 +6,6 @@ pub mod Lines
 pub mod Settles
 pub mod Steps
 pub mod View
+pub mod Front
+pub mod Past
+pub mod Text

@@ -3,7 +3,7 @@ use Rattle.std.specs.Prelude.{◌≡◌, ℕ, List, [], ◌∷◌, ◌++◌}
 use Rattle.value_core.specs.Contents.{Contents}
 use Rattle.decl_core.specs.ObjectForm.{ObjectForm}
 use Rattle.word_core.specs.Words.{line_of}
-use Rattle.trace_core.specs.Text.{start_words, end_words, trace_text, told_of}
+use Rattle.word_core.specs.Text.{start_words, end_words, trace_text, told_of}
 use Rattle.live_core.specs.declared.call.Ran.{Ran}
 use Rattle.live_core.specs.Hall.{Told}
 use Rattle.live_core.specs.Settles.{with_all}

@@ -4,7 +4,7 @@ use Rattle.std.specs.Prelude.{List, [], ◌∷◌, ◌++◌}
 use Rattle.value_core.specs.Contents.{Contents}
 use Rattle.decl_core.specs.ObjectForm.{ObjectForm}
 use Rattle.apply_core.specs.History.{IsReplyOn, leads_to}
-use Rattle.trace_core.specs.Events.{Called, began, ended, history_of, body_at}
+use Rattle.word_core.specs.Events.{Called, began, ended, history_of, body_at}
 use Rattle.live_core.specs.declared.call.Ran.{Ran}
 use Rattle.live_core.specs.Bodies.{FailsForMemory}
 use Rattle.live_core.specs.Hall.{Every, Told, MayBegin, Rests}

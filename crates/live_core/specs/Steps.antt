@@ -1,7 +1,7 @@
 -- What each step of a hand makes of it.
 use Rattle.std.specs.Prelude.{◌≡◌, ◌+◌, List, [], ◌∷◌, ◌++◌}
 use Rattle.decl_core.specs.ObjectMap.{object_of}
-use Rattle.trace_core.specs.Events.{Called}
+use Rattle.word_core.specs.Events.{Called}
 use Rattle.live_core.specs.declared.call.Ran.{Ran}
 use Rattle.live_core.specs.Bodies.{FailsForMemory}
 use Rattle.live_core.specs.Hall.{Hall, Told, IsKept}

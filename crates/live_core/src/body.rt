@@ -7,7 +7,7 @@ ghost use Rattle.decl_core.specs.declared.object.Part.{Part as APart};
 ghost use Rattle.decl_core.specs.ObjectMap.{object_of};
 ghost use Rattle.apply_core.specs.History.{IsReplyOn, left_by};
 ghost use Rattle.apply_core.specs.Fits.{ArgumentsFit, HoldsReads};
-ghost use Rattle.trace_core.specs.Events.{body_at};
+ghost use Rattle.word_core.specs.Events.{body_at};
 ghost use Rattle.live_core.specs.Hall.{IsCallOf};
 ghost use Rattle.live_core.specs.Bodies.{GivesReply, FailsForMemory};
 

@@ -17,7 +17,7 @@ pub struct Call {
 }
 
 impl Model for Call {
-    ghost use Rattle.trace_core.specs.Events.{Called};
+    ghost use Rattle.word_core.specs.Events.{Called};
     ghost use Rattle.std.specs.Coded.{codes};
 
     ghost Value = { Called };

@@ -1,4 +1,4 @@
-//! One object that is kept: one value in one hand.
+//! One object that is kept: one value in one hand; and the lines with which an epoch of it begins.
 //!
 //! A call that is taken and may start is started, done and ended in one step, and behind it each waiting call that may
 //! start then, in the order of their numbers. Nothing runs between two steps, so each moment is one at which the object
@@ -10,12 +10,20 @@
 //! now, no call runs, and no waiting call may start. `specs/Settles.antt` says what one step does, `specs/Answers.antt`
 //! which calls are refused. `lines` writes the lines of the calls that ran; `laws` says that they are those of the
 //! trace.
+//!
+//! The front of an epoch says which object it is of, the values of its parts, a past that leaves what the paths have
+//! counted, the calls that wait, the names of clients, and the last calls of each name. `specs/Text.antt` has the words
+//! of each line, `specs/Front.antt` what a front is. `write` adds the lines piece by piece; `front_read` reads them.
 #![tactic(auto)]
 
 mod body;
 pub mod call;
+pub mod front;
 pub mod hall;
 pub mod laws;
 pub mod lines;
 pub mod live;
+pub mod past;
+pub mod source;
 mod waiting;
+pub mod write;

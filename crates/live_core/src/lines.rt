@@ -7,7 +7,7 @@ ghost use Rattle.live_core.specs.Lines.{ran_lines, all_lines};
 use crate::call::Ran;
 use decl_core::object::Object;
 use std::alloc::AllocError;
-use trace_core::event::{push_end, push_start};
+use word_core::event::{push_end, push_start};
 
 /// Adds the two lines of a call that ran. The error is that memory was refused; how much then stands in `out` is not
 /// said.

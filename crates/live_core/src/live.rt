@@ -2,8 +2,8 @@
 
 ghost use Rattle.std.specs.Prelude.{◌≡◌, ◌≢◌, ◌+◌, ◌-◌, ◌<◌, List, [], ◌∷◌, ◌++◌, length, Ok, true, false, IsTrue, IfOk, IfErr};
 ghost use Rattle.std.specs.Prelude.{IfSome, OnErr};
-ghost use Rattle.past_core.specs.Past.{events_of};
-ghost use Rattle.trace_core.specs.Events.{Called};
+ghost use Rattle.path_count.specs.Past.{events_of};
+ghost use Rattle.word_core.specs.Events.{Called};
 ghost use Rattle.live_core.specs.declared.call.Carried.{Carried as ACarried};
 ghost use Rattle.live_core.specs.Hall.{Every, Told, IsKept, IsHeld};
 ghost use Rattle.live_core.specs.Settles.{with_all};
@@ -14,8 +14,8 @@ ghost use Rattle.live_core.specs.Answers.{asked, carried_from, IsTaken, IsRefuse
 use crate::call::{Call, Carried, Limits, Ran};
 use crate::hall::{Hall, Refusal};
 use decl_core::object::Object;
-use past_core::past::PastEvent;
 use path_count::counters::Counters;
+use path_count::past::PastEvent;
 use path_tree::node::OpId;
 use std::alloc::{AllocError, Global};
 use std::marker::Model;
@@ -167,7 +167,7 @@ impl Live {
     }
 
     /// Ends this epoch and begins the next one, with the contents of now, behind a past that leaves the counters of now; a
-    /// short one is found by `past_core::finder`. The calls that wait get the numbers from 1, in their order.
+    /// short one is found by `path_count::finder`. The calls that wait get the numbers from 1, in their order.
     ///
     /// False: the past does not leave these counters, or too few numbers for the calls that wait. Then, and where memory is
     /// refused, this epoch goes on.

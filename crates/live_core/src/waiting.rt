@@ -6,7 +6,7 @@ ghost use Rattle.path_tree.specs.Path.{Path};
 ghost use Rattle.path_tree.specs.Trace.{Event};
 ghost use Rattle.path_tree.specs.Satisfies.{MayStart};
 ghost use Rattle.path_count.specs.Stands.{StandsFor};
-ghost use Rattle.trace_core.specs.Events.{Called};
+ghost use Rattle.word_core.specs.Events.{Called};
 ghost use Rattle.live_core.specs.Hall.{Every};
 ghost use Rattle.live_core.specs.Bodies.{IsFirstAt, IsNumberedAt, IsOfSessionAt};
 ghost use Rattle.live_core.specs.Epochs.{numbered_from};

@@ -4,9 +4,9 @@ use crate::place::{Place, place_of};
 use crate::said::{Said, Words, push_sentence};
 use crate::span::{Span, behind, front};
 use itoa::Buffer;
-use line_core::next_line;
 use path_tree::token::Token;
 use std::alloc::AllocError;
+use text_core::next_line;
 
 /// A source, the name of its file, and its tokens, where it has some.
 #[derive(Clone, Copy)]

@@ -3,16 +3,16 @@ use Rattle.std.proofs.Common.{◌≡◌, ◌∙◌, ap, sym, subst, refl, suc, �
 use Rattle.std.specs.Arc.{arc_value}
 use Rattle.std.proofs.lemmas.Option.{same_Some}
 use Rattle.decl_core.specs.ObjectMap.{operation_of}
-use Rattle.call_core.specs.declared.ticket.Ticket.{Ticket}
-use Rattle.call_core.specs.Calls.{Call}
+use Rattle.run_core.specs.declared.ticket.Ticket.{Ticket}
+use Rattle.run_core.specs.Calls.{Call}
 use Rattle.board_core.specs.Calls.{AcceptedCall}
 use Rattle.board_core.specs.Board.{Board, call_at, joined}
 use Rattle.board_core.specs.Started.{Settles}
 use Rattle.board_core.specs.Sound.{IsSound, IsRunningIn}
 use Rattle.board_core.proofs.Lists.{Every-at}
 use Rattle.board_core.proofs.Traces.{call_at-new}
-use Rattle.ask_core.specs.declared.answer.Collected.TheVariants as collected
-use Rattle.ask_core.specs.Answers.{Asked, IsTaken, Collects}
+use Rattle.board_core.specs.declared.answer.Collected.TheVariants as collected
+use Rattle.board_core.specs.Answers.{Asked, IsTaken, Collects}
 use Rattle.office_core.specs.declared.seat.Submitted.{Submitted}
 use Rattle.office_core.specs.Submissions.{IsOf, IsTicketOf}
 

@@ -2,7 +2,7 @@
 use Rattle.std.proofs.Common.{false, ◌≡◌, ◌∙◌, ap, sym, subst, refl, ℕ, suc, ◌+◌, ◌-◌, arith, List, [], ◌∷◌, Some}
 use Rattle.std.specs.Prelude.{slice_get}
 use Rattle.std.proofs.lemmas.Option.{same_Some}
-use Rattle.hand_core.specs.Device.{Assignment}
+use Rattle.device_core.specs.Device.{Assignment}
 use Rattle.page_core.specs.PartPins.{PartPin}
 use Rattle.apply_core.specs.declared.reply.Reply.{Reply}
 use Rattle.apply_core.specs.declared.reply.Reply.TheVariants as replies
@@ -16,7 +16,7 @@ use Rattle.board_core.specs.Sound.{kinds_of}
 use Rattle.board_core.proofs.Lists.{Every-among}
 use Rattle.board_core.proofs.BoardLaws.{truth_is_noted}
 use Rattle.board_core.proofs.Law.{chained_are_legal}
-use Rattle.slip_core.specs.Slips.{Told, told_of, IsEntryTold, StandsIn, IsTrueTold}
+use Rattle.office_core.specs.Slips.{Told, told_of, IsEntryTold, StandsIn, IsTrueTold}
 use Rattle.office_core.specs.Closing.{Stands}
 use Rattle.office_core.specs.Receipts.{IsTrueReceipt, ReceiptsAreLegal, SlipsAreLegal}
 

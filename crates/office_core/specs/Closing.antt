@@ -5,10 +5,10 @@ use Rattle.board_core.specs.Lists.{Every}
 use Rattle.board_core.specs.Calls.{Noted}
 use Rattle.board_core.specs.Board.{Board}
 use Rattle.board_core.specs.Outcomes.{IsEntryOf}
-use Rattle.slip_core.specs.Slips.{Told, StandsIn}
-use Rattle.seat_core.specs.declared.seat.Seat.{Seat}
-use Rattle.seat_core.specs.Seats.{AreSeats}
-use Rattle.seat_core.specs.Clients.{parked_of}
+use Rattle.office_core.specs.Slips.{Told, StandsIn}
+use Rattle.office_core.specs.declared.client_seat.Seat.{Seat}
+use Rattle.office_core.specs.ClientSeats.{AreSeats}
+use Rattle.office_core.specs.Clients.{parked_of}
 use Rattle.office_core.specs.declared.inside.CloseFault.{CloseFault}
 use Rattle.office_core.specs.declared.inside.CloseFault.TheVariants.{Outstanding, SeatMissing, Mismatch}
 use Rattle.office_core.specs.declared.inside.CloseRefused.{CloseRefused}

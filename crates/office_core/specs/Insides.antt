@@ -3,9 +3,9 @@ use Rattle.std.specs.Prelude.{◌≡◌, ℕ, ◌+◌, List, length, Result, Ok,
 use Rattle.board_core.specs.Calls.{AcceptedCall}
 use Rattle.board_core.specs.Board.{Board, joined}
 use Rattle.board_core.specs.Started.{Settles}
-use Rattle.ask_core.specs.declared.answer.SubmitFault.{SubmitFault}
-use Rattle.ask_core.specs.Answers.{Asked, IsTaken, IsRefused}
-use Rattle.seat_core.specs.declared.clients.Client.{Client}
+use Rattle.board_core.specs.declared.answer.SubmitFault.{SubmitFault}
+use Rattle.board_core.specs.Answers.{Asked, IsTaken, IsRefused}
+use Rattle.office_core.specs.declared.clients.Client.{Client}
 
 -- a board, how many sessions were given out, and the names under which some of them were
 pub record InsideView : Type 0 where

@@ -2,11 +2,11 @@
 use Rattle.std.specs.Prelude.{◌≡◌, ℕ, Result, Ok, Err}
 use Rattle.board_core.specs.Board.{Board}
 use Rattle.board_core.specs.Sound.{IsSound}
-use Rattle.ask_core.specs.Answers.{Asked}
-use Rattle.ask_core.specs.Keyed.{IsKeptCall, SubmitsKeyed}
-use Rattle.ask_core.specs.declared.answer.KeyedFault.{KeyedFault}
-use Rattle.ask_core.specs.declared.answer.Keyed.{Keyed}
-use Rattle.ask_core.specs.declared.answer.Keyed.TheVariants as keyed
+use Rattle.board_core.specs.Answers.{Asked}
+use Rattle.board_core.specs.Keyed.{IsKeptCall, SubmitsKeyed}
+use Rattle.board_core.specs.declared.answer.KeyedFault.{KeyedFault}
+use Rattle.board_core.specs.declared.answer.Keyed.{Keyed}
+use Rattle.board_core.specs.declared.answer.Keyed.TheVariants as keyed
 use Rattle.office_core.specs.declared.seat.Submitted.{Submitted}
 use Rattle.office_core.specs.declared.keyed.Resubmitted.{Resubmitted}
 use Rattle.office_core.specs.declared.keyed.Resubmitted.TheVariants as asked

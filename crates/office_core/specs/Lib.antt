@@ -5,3 +5,7 @@ pub mod Closing
 pub mod Receipts
 pub mod Named
 pub mod Keyed
+pub mod ClientSeats
+pub mod Clients
+pub mod Slips
+pub mod Rooms

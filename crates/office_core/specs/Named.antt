@@ -4,12 +4,12 @@ use Rattle.std.specs.Prelude.{Some, None, Result, Ok, Err}
 use Rattle.board_core.specs.Lists.{Every}
 use Rattle.board_core.specs.Board.{released, marked}
 use Rattle.board_core.specs.Started.{Settles}
-use Rattle.key_core.specs.Keys.{resumed}
-use Rattle.ask_core.specs.Answers.{runs_by}
-use Rattle.seat_core.specs.declared.seat.Seat.{Seat}
-use Rattle.seat_core.specs.declared.clients.Client.{Client}
-use Rattle.seat_core.specs.Seats.{IsFresh}
-use Rattle.seat_core.specs.Clients.{IsOut}
+use Rattle.board_core.specs.Keys.{resumed}
+use Rattle.board_core.specs.Answers.{runs_by}
+use Rattle.office_core.specs.declared.client_seat.Seat.{Seat}
+use Rattle.office_core.specs.declared.clients.Client.{Client}
+use Rattle.office_core.specs.ClientSeats.{IsFresh}
+use Rattle.office_core.specs.Clients.{IsOut}
 use Rattle.office_core.specs.declared.named.NameFault.{NameFault}
 use Rattle.office_core.specs.declared.named.NameFault.TheVariants.{InUse, SeatsFull, Memory}
 use Rattle.office_core.specs.declared.named.ParkFault.{ParkFault}

@@ -1,8 +1,8 @@
 -- What receipts say of a closed desk.
 use Rattle.std.specs.Prelude.{◌≡◌, ℕ, ◌+◌, List, slice_get, Some}
 use Rattle.value_core.specs.Contents.{Contents}
-use Rattle.hand_core.specs.Device.{Assignment}
-use Rattle.call_core.specs.Truths.{IsTrueOf}
+use Rattle.device_core.specs.Device.{Assignment}
+use Rattle.run_core.specs.Truths.{IsTrueOf}
 use Rattle.apply_core.specs.History.{IsLegal, leads_to}
 use Rattle.run_core.specs.Outcomes.{outcome_call, outcome_reply, outcome_pins}
 use Rattle.board_core.specs.declared.receipt.Receipt.{Receipt}
@@ -11,7 +11,7 @@ use Rattle.board_core.specs.Calls.{Noted}
 use Rattle.board_core.specs.Board.{Board}
 use Rattle.board_core.specs.Chain.{ShowContents, history_of}
 use Rattle.board_core.specs.Sound.{IsSound, kinds_of}
-use Rattle.slip_core.specs.Slips.{Told, StandsIn, IsTrueTold}
+use Rattle.office_core.specs.Slips.{Told, StandsIn, IsTrueTold}
 use Rattle.office_core.specs.Closing.{Stands}
 
 -- the outcome that a receipt holds is true of an assignment

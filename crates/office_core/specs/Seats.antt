@@ -4,10 +4,10 @@ use Rattle.run_core.specs.declared.outcome.Outcome.{Outcome}
 use Rattle.run_core.specs.Outcomes.{TellsSame}
 use Rattle.board_core.specs.Sound.{IsSound}
 use Rattle.board_core.specs.declared.receipt.Receipt.{Receipt}
-use Rattle.ask_core.specs.Answers.{Finishes, IsStranger, receipt_by}
-use Rattle.ask_core.specs.declared.answer.Finished.{Finished}
-use Rattle.seat_core.specs.declared.seat.Seat.{Seat}
-use Rattle.seat_core.specs.Seats.{Advances}
+use Rattle.board_core.specs.Answers.{Finishes, IsStranger, receipt_by}
+use Rattle.board_core.specs.declared.answer.Finished.{Finished}
+use Rattle.office_core.specs.declared.client_seat.Seat.{Seat}
+use Rattle.office_core.specs.ClientSeats.{Advances}
 use Rattle.office_core.specs.declared.seat.NotTaken.{NotTaken}
 use Rattle.office_core.specs.declared.seat.NotTaken.TheVariants.{Front as missed, Stranger as unknown}
 use Rattle.office_core.specs.declared.seat.CompleteFault.{CompleteFault}

@@ -4,13 +4,13 @@ use Rattle.std.specs.Arc.{arc_value}
 use Rattle.value_core.specs.declared.datum.Datum.{Datum}
 use Rattle.decl_core.specs.declared.object.Operation.{Operation}
 use Rattle.decl_core.specs.ObjectMap.{operation_of}
-use Rattle.call_core.specs.declared.ticket.Ticket.{Ticket as Admitted}
-use Rattle.call_core.specs.Tickets.{ticket_call}
+use Rattle.run_core.specs.declared.ticket.Ticket.{Ticket as Admitted}
+use Rattle.run_core.specs.Tickets.{ticket_call}
 use Rattle.board_core.specs.Calls.{AcceptedCall}
 use Rattle.board_core.specs.Board.{Board, call_at}
 use Rattle.board_core.specs.Sound.{IsSound}
-use Rattle.ask_core.specs.declared.answer.Collected.TheVariants as collected
-use Rattle.ask_core.specs.Answers.{Collects, HasName, waits_in, runs_in, ended_in}
+use Rattle.board_core.specs.declared.answer.Collected.TheVariants as collected
+use Rattle.board_core.specs.Answers.{Collects, HasName, waits_in, runs_in, ended_in}
 use Rattle.office_core.specs.declared.seat.Submitted.{Submitted}
 use Rattle.office_core.specs.declared.seat.Started.{Started}
 use Rattle.office_core.specs.declared.seat.Started.TheVariants as started

@@ -5,16 +5,16 @@ ghost use Rattle.decl_core.specs.ObjectMap.{operation_of};
 ghost use Rattle.board_core.specs.declared.receipt.Receipt.{Receipt as AReceipt};
 ghost use Rattle.board_core.specs.Lists.{Every};
 ghost use Rattle.office_core.specs.Submissions.{IsCallOf, IsOf};
-ghost use Rattle.slip_core.specs.Slips.{Told, StandsIn};
+ghost use Rattle.office_core.specs.Slips.{Told, StandsIn};
 ghost use Rattle.office_core.specs.Closing.{Stands, Misses, place_of_receipt, place_told};
 
 use crate::seat::Submitted;
+use crate::slip::Slip;
 use board_core::call::Call;
 use board_core::entry::Entry;
 use board_core::receipt::Receipt;
 use decl_core::same::same_declaration;
 use desk_core::desk::Desk;
-use slip_core::slip::Slip;
 
 // Whether an accepted call has the operation and the arguments of a submission.
 fn is_call_of(call: &Call, submitted: &Submitted) -> bool

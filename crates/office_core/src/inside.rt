@@ -3,31 +3,31 @@
 ghost use Rattle.std.specs.Prelude.{◌≡◌, ◌+◌, ◌≤◌, ◌<◌, length, IfOk, IfErr, IfSome, IfNone, Ok, Err, []};
 ghost use Rattle.board_core.specs.Board.{opened, Rests};
 ghost use Rattle.board_core.specs.Sound.{IsSound};
-ghost use Rattle.ask_core.specs.Answers.{Cancels};
+ghost use Rattle.board_core.specs.Answers.{Cancels};
 ghost use Rattle.board_core.specs.Started.{Settles};
 ghost use Rattle.board_core.specs.Board.{released, marked};
 ghost use Rattle.std.specs.Prelude.{◌⊎◌};
 ghost use Rattle.office_core.specs.Insides.{KeepsSeats, Submits};
 ghost use Rattle.office_core.specs.Submissions.{Asks, IsOf, Tells, Tries};
-ghost use Rattle.seat_core.specs.Seats.{IsFresh};
+ghost use Rattle.office_core.specs.ClientSeats.{IsFresh};
 ghost use Rattle.office_core.specs.Seats.{Receives, ReceivesInPlace, Completes, CompletesInPlace, fault_with};
 ghost use Rattle.office_core.specs.Closing.{Closes, ClosesBySlips, IsIdle, AreSeatsOf, IsOpen};
 
+use crate::client_seat::Seat;
+use crate::clients::Clients;
 use crate::find::{first_mismatch, first_mismatched_slip, is_of};
 use crate::seat::{CompleteFault, NotTaken, Submitted, Tried};
-use ask_core::answer::{Cancelled, Collected, Finished, SubmitFault};
+use crate::seats::are_seats;
+use crate::slip::Slip;
+use crate::turns::{Pace, Turns};
+use board_core::answer::{Cancelled, Collected, Finished, SubmitFault};
 use board_core::receipt::Receipt;
+use decl_core::analyse::Accepted;
 use desk_core::desk::Desk;
-use exclude_core::analyse::Accepted;
 use page_core::pins::Pins;
 use run_core::outcome::Outcome;
-use seat_core::clients::Clients;
-use seat_core::seat::Seat;
-use seat_core::seats::are_seats;
-use slip_core::slip::Slip;
 use std::alloc::{AllocError, Global};
 use std::marker::Model;
-use turn_core::turns::{Pace, Turns};
 use value_core::datum::Datum;
 
 /// The most sessions that an inside gives out.
@@ -49,8 +49,8 @@ pub struct Inside {
 impl Model for Inside {
     ghost use Rattle.office_core.specs.Insides.{InsideView};
     ghost use Rattle.desk_core.specs.contracts.desk.Desk as d;
-    ghost use Rattle.seat_core.specs.contracts.clients.Clients as k;
-    ghost use Rattle.seat_core.specs.Clients.{AreClients};
+    ghost use Rattle.office_core.specs.contracts.clients.Clients as k;
+    ghost use Rattle.office_core.specs.Clients.{AreClients};
     ghost use Rattle.std.specs.Prelude.{◌≤◌};
     ghost use Rattle.std.specs.Coded.{codes};
 

@@ -3,17 +3,17 @@
 ghost use Rattle.std.specs.Prelude.{◌≡◌, ◌<◌, ◌≤◌};
 ghost use Rattle.board_core.specs.Board.{Board};
 ghost use Rattle.board_core.specs.Sound.{IsSound};
-ghost use Rattle.key_core.specs.Keys.{next_key};
-ghost use Rattle.ask_core.specs.Answers.{IsGone};
-ghost use Rattle.ask_core.specs.Keyed.{Finds, SubmitsKeyed};
+ghost use Rattle.board_core.specs.Keys.{next_key};
+ghost use Rattle.board_core.specs.Answers.{IsGone};
+ghost use Rattle.board_core.specs.Keyed.{Finds, SubmitsKeyed};
 ghost use Rattle.office_core.specs.Insides.{KeepsSeats};
 ghost use Rattle.office_core.specs.Keyed.{answer_of, Resubmits};
 
+use crate::client_seat::Seat;
 use crate::inside::Inside;
 use crate::office::Office;
 use crate::seat::Submitted;
-use ask_core::answer::{Kept, KeyedFault};
-use seat_core::seat::Seat;
+use board_core::answer::{Kept, KeyedFault};
 use std::sync::Wait;
 use value_core::datum::Datum;
 

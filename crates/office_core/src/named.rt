@@ -1,14 +1,14 @@
 //! Seats that are given out under a name, and parked.
 
 ghost use Rattle.std.specs.Prelude.{◌≡◌, ◌<◌, ◌≤◌, IfOk, IfErr, Some, slice_get};
-ghost use Rattle.seat_core.specs.declared.clients.Client.{Client as AClient};
-ghost use Rattle.seat_core.specs.Clients.{IsOut};
+ghost use Rattle.office_core.specs.declared.clients.Client.{Client as AClient};
+ghost use Rattle.office_core.specs.Clients.{IsOut};
 ghost use Rattle.office_core.specs.Named.{GivesNamed, IsNew, Parks};
 
+use crate::client_seat::Seat;
 use crate::inside::{Inside, MOST_SESSIONS};
 use crate::office::{Office, bed_of, started};
 use path_tree::name::Name;
-use seat_core::seat::Seat;
 use std::sync::Wait;
 
 /// Why no seat is given out under a name. The first that applies is told.

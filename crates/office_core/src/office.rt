@@ -7,22 +7,22 @@ ghost use Rattle.office_core.specs.Submissions.{Asks, IsStartOf, Tells};
 ghost use Rattle.office_core.specs.Seats.{Receives, ReceivesInPlace, CompletedIn};
 ghost use Rattle.office_core.specs.Closing.{Closes, ClosesBySlips};
 
+use crate::client_seat::Seat;
 use crate::inside::{CloseRefused, Closed, Inside, SeatsFull, with_outcome};
 use crate::late::Late;
 use crate::seat::{CompleteFault, NotTaken, Started, Submitted, Tried};
-use ask_core::answer::{Cancelled, Finished, SubmitFault};
+use crate::slip::Slip;
+use crate::turns::Pace;
+use board_core::answer::{Cancelled, Finished, SubmitFault};
 use board_core::event::TraceEvent;
 use board_core::receipt::Receipt;
 use desk_core::desk::Desk;
 use run_core::outcome::Outcome;
-use seat_core::seat::Seat;
-use slip_core::slip::Slip;
 use std::alloc::{AllocError, Global};
 use std::hint::spin_loop;
 use std::sync::{Condvar, Mutex, MutexGuard, Wait};
 use std::thread::yield_now;
 use std::time::{Clock, Duration};
-use turn_core::turns::Pace;
 use value_core::datum::Datum;
 
 /// How often a thread looks whether the inside is free before it sleeps. An inside is held for a microsecond or two, and a

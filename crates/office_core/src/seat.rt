@@ -2,10 +2,10 @@
 
 ghost use Rattle.std.specs.Prelude.{◌≡◌};
 
+pub use crate::client_seat::Seat;
 use board_core::call::Call;
-use call_core::ticket::Ticket;
 use run_core::outcome::Outcome;
-pub use seat_core::seat::Seat;
+use run_core::ticket::Ticket;
 use std::sync::Arc;
 
 /// An accepted call that is waited for. It has to be spent, by a wait for its start.

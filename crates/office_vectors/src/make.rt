@@ -1,10 +1,10 @@
 //! Offices and whole calls, as the tests make them.
 
 use board_core::receipt::Receipt;
+use decl_core::analyse::{Accepted, analyse};
 use decl_read::read::read_objects;
-use exclude_core::analyse::{Accepted, analyse};
-use hand_core::hand::Hand;
-use hand_core::whole::put;
+use device_core::hand::Hand;
+use device_core::whole::put;
 use office_core::inside::Inside;
 use office_core::office::Office;
 use office_core::seat::{Seat, Started, Submitted};

@@ -2,7 +2,7 @@
 
 use crate::make::{office_of, pins, stuck};
 use apply_core::reply::Reply;
-use ask_core::answer::SubmitFault;
+use board_core::answer::SubmitFault;
 use board_core::entry::Entry;
 use board_core::event::TraceEvent;
 use board_core::receipt::Receipt;

@@ -2,7 +2,7 @@
 
 use crate::make::{finish, office_of, pins, stuck};
 use apply_core::reply::Reply;
-use ask_core::answer::{CallState, Kept, KeyedFault};
+use board_core::answer::{CallState, Kept, KeyedFault};
 use device_core::memory::MemHand;
 use office_core::keyed::Resubmitted;
 use office_core::named::{NameFault, ParkFault};

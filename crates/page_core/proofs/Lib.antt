@@ -11,3 +11,9 @@ pub mod RenewedParts
 pub mod Stamps
 pub mod Together
 pub mod Transfer
+pub mod Lengths
+pub mod Opening
+pub mod Paging
+pub mod Saving
+pub mod Numbering
+pub mod Asking

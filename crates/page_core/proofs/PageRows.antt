@@ -3,7 +3,7 @@ use Rattle.std.proofs.Common.{◌≡◌, ◌<◌, ◌≤◌, ◌-◌, List, ◌+
 use Rattle.std.proofs.lemmas.List.{drop-replicate, drop_at, length-replicate}
 use Rattle.page_core.specs.Cut.{most_pages, no_stamp}
 use Rattle.page_core.specs.PageLists.{IsKept}
-use Rattle.hand_core.specs.declared.hand.Stamp.{Stamp}
+use Rattle.device_core.specs.declared.hand.Stamp.{Stamp}
 
 -- stamps written over the front of an empty row
 pub kept : (stamps row : List Stamp) → row ≡ stamps ++ drop (length stamps) (replicate most_pages no_stamp) → 0 < length stamps → length stamps ≤ most_pages → IsKept (record { row = row; len = length stamps })

@@ -2,7 +2,7 @@
 use Rattle.std.proofs.Common.{◌≡◌, ◌≤◌, ◌-◌, List, ◌++◌, length, drop, replicate, refl, ap, ◌∙◌, arith, length-append}
 use Rattle.std.proofs.lemmas.List.{drop-replicate, drop_at, length-replicate}
 use Rattle.page_core.specs.Pins.{most_pins, no_pages, IsKept}
-use Rattle.hand_core.specs.declared.hand.Stamp.{Stamp}
+use Rattle.device_core.specs.declared.hand.Stamp.{Stamp}
 
 -- page lists written over the front of an empty row
 pub kept : (lists row : List (List Stamp)) → row ≡ lists ++ drop (length lists) (replicate most_pins no_pages) → length lists ≤ most_pins → IsKept (record { row = row; len = length lists })

@@ -1,7 +1,7 @@
 -- Stamps of a cut.
 use Rattle.std.proofs.Common.{◌≤◌, List, length, arith}
 use Rattle.std.proofs.lemmas.List.{length-map}
-use Rattle.hand_core.specs.declared.hand.Stamp.{Stamp}
+use Rattle.device_core.specs.declared.hand.Stamp.{Stamp}
 use Rattle.page_core.specs.Cut.{AreCutLengths, lengths}
 use Rattle.page_core.proofs.Cuts.{few}
 

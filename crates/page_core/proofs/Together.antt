@@ -1,8 +1,8 @@
 -- The plans of several parts, one behind the other.
 use Rattle.std.proofs.Common.{◌≡◌, ℕ, zero, suc, ◌+◌, ◌⊎◌, inl, inr, List, [], ◌∷◌, ◌++◌, length, take, drop, Some, refl, ap, ◌∙◌, subst, arith, length-append}
 use Rattle.std.specs.Prelude.{slice_get}
-use Rattle.hand_core.specs.declared.hand.Stamp.{Stamp}
-use Rattle.hand_core.specs.Device.{Assignment}
+use Rattle.device_core.specs.declared.hand.Stamp.{Stamp}
+use Rattle.device_core.specs.Device.{Assignment}
 use Rattle.page_core.specs.declared.plan.PageWrite.{PageWrite}
 use Rattle.page_core.specs.Cut.{lengths}
 use Rattle.page_core.specs.Bytes.{IsPage, ArePages, split_by}

@@ -1,8 +1,8 @@
 -- The bytes of page lists.
 use Rattle.std.specs.Prelude.{◌≡◌, ℕ, List, [], ◌∷◌, ◌++◌, length, map, take, drop, Option, Some, None}
 use Rattle.std.specs.List.{concat}
-use Rattle.hand_core.specs.declared.hand.Stamp.{Stamp}
-use Rattle.hand_core.specs.Device.{Assignment, IsWhole, bytes_of}
+use Rattle.device_core.specs.declared.hand.Stamp.{Stamp}
+use Rattle.device_core.specs.Device.{Assignment, IsWhole, bytes_of}
 use Rattle.page_core.specs.Cut.{AreFull}
 
 -- some bytes, and others behind them, where there are both

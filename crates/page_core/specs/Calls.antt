@@ -1,10 +1,10 @@
 -- Calls of a hand that come one after the other: those that read the pages of a list, and those that write pages.
 use Rattle.std.specs.Prelude.{◌≡◌, ℕ, List, [], ◌∷◌, ◌++◌, Option, Some, None, Result, Ok, Err}
 use Rattle.std.specs.Result.{IsErr}
-use Rattle.hand_core.specs.declared.hand.HandFault.{HandFault}
-use Rattle.hand_core.specs.declared.hand.Pen.{Pen}
-use Rattle.hand_core.specs.declared.hand.Stamp.{Stamp}
-use Rattle.hand_core.specs.Made.{Made, creates, appends, seals, discards, reads}
+use Rattle.device_core.specs.declared.hand.HandFault.{HandFault}
+use Rattle.device_core.specs.declared.hand.Pen.{Pen}
+use Rattle.device_core.specs.declared.hand.Stamp.{Stamp}
+use Rattle.device_core.specs.Made.{Made, creates, appends, seals, discards, reads}
 use Rattle.page_core.specs.declared.plan.PageWrite.{PageWrite}
 
 -- from one hand to another these calls were made, in order

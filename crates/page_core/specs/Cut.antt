@@ -1,7 +1,7 @@
 -- How bytes are cut into pages.
 use Rattle.std.specs.Prelude.{◌≡◌, ℕ, ◌+◌, ◌*◌, ◌<◌, ◌≤◌, ◌⊎◌, List, [], ◌∷◌, length, map}
 use Rattle.std.specs.List.{concat}
-use Rattle.hand_core.specs.declared.hand.Stamp.{Stamp}
+use Rattle.device_core.specs.declared.hand.Stamp.{Stamp}
 
 -- a part has at most so many pages
 abbrev pub most_pages : ℕ

@@ -2,7 +2,7 @@
 use Rattle.std.specs.Prelude.{◌≡◌, ◌-◌, ◌<◌, ◌≤◌, List, ◌++◌, length, take, drop, replicate}
 use Rattle.std.proofs.Common.{sym, ap, ◌∙◌, arith, length-take}
 use Rattle.std.proofs.lemmas.List.{take-append-drop}
-use Rattle.hand_core.specs.declared.hand.Stamp.{Stamp}
+use Rattle.device_core.specs.declared.hand.Stamp.{Stamp}
 use Rattle.page_core.specs.declared.page_list.PageList.TheInside.{Inside}
 use Rattle.page_core.specs.Cut.{most_pages, no_stamp}
 

@@ -2,7 +2,7 @@
 use Rattle.std.specs.Prelude.{◌≡◌, ℕ, zero, suc, ◌+◌, ◌==◌, Bool, true, false, if◌then◌else◌, List, [], ◌∷◌, length}
 use Rattle.std.specs.Prelude.{take, drop, Option, Some, None}
 use Rattle.std.specs.Int.{bit_at}
-use Rattle.hand_core.specs.declared.hand.Stamp.{Stamp}
+use Rattle.device_core.specs.declared.hand.Stamp.{Stamp}
 use Rattle.page_core.specs.declared.part_pins.PartPins.TheInside.{Inside}
 use Rattle.page_core.specs.Cut.{together}
 

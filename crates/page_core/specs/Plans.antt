@@ -1,6 +1,6 @@
 -- Which pages of a part are kept, which are written, and which files its list no longer has.
 use Rattle.std.specs.Prelude.{◌≡◌, ◌≢◌, ℕ, ◌+◌, List, [], ◌∷◌, ◌++◌, length}
-use Rattle.hand_core.specs.declared.hand.Stamp.{Stamp}
+use Rattle.device_core.specs.declared.hand.Stamp.{Stamp}
 use Rattle.page_core.specs.declared.plan.PageWrite.{PageWrite}
 use Rattle.page_core.specs.Bytes.{AreCutBy, split_by}
 use Rattle.page_core.specs.Cut.{lengths}

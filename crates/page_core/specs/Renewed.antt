@@ -1,7 +1,7 @@
 -- What becomes of a page list whose part has other bytes.
 use Rattle.std.specs.Prelude.{◌≡◌, ℕ, ◌<◌, ◌⊎◌, List, [], ◌∷◌, length, Some, slice_get, slice_set}
-use Rattle.hand_core.specs.declared.hand.Stamp.{Stamp}
-use Rattle.hand_core.specs.Device.{Assignment, Holds}
+use Rattle.device_core.specs.declared.hand.Stamp.{Stamp}
+use Rattle.device_core.specs.Device.{Assignment, Holds}
 use Rattle.page_core.specs.declared.plan.PageWrite.{PageWrite}
 
 -- one of these writes is of the page at this place, and has these bytes

@@ -3,7 +3,7 @@
 ghost use Rattle.std.specs.Prelude.{◌≡◌, ◌↔◌, ℕ, ◌<◌, ◌≤◌, ◌^◌, IsTrue, IfSome, IfNone, length};
 ghost use Rattle.page_core.specs.Cut.{IsFirstFor, IsPageSize, together, IsLength, AreFull, AreCutLengths, lengths};
 
-use hand_core::hand::Stamp;
+use device_core::hand::Stamp;
 
 /// The most pages of a part.
 pub const MOST_PAGES: usize = 8;

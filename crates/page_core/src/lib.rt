@@ -1,20 +1,38 @@
-//! Parts as lists of pages: how bytes are cut, and the pins that name the pages.
+//! Parts as lists of pages, from a shelf to the files of a hand and back, and the value files of a folder.
 //!
 //! The bytes of a part are cut into at most 8 pages, each in a file of its own. A `PageList` names the files of one
 //! part, `Pins` those of each part of an object, and `PartPins` those of the parts that a call reads or changes, in
 //! memory that is taken ahead. `plan_part` says which pages of a changed part are written, without a device;
 //! `read_list` and `write_pages` read and write whole lists. `specs/Cut.antt` says what a cut is, `specs/Plans.antt`
 //! what a plan is.
+//!
+//! `open_parts` reads each part from its shelf, in either format, and writes the pages of its value, in the second
+//! format, into files of a hand; `save_parts` stores the bytes of the pages that published pins name.
+//! `specs/Opened.antt` and `specs/Saved.antt` say what of that is done where a device fails.
+//!
+//! `folder` says which files of a folder are value files, and with which number a run begins; `found` has the numbers
+//! that an earlier run left. `values` is what is asked of these files: which are there, and that one is removed or
+//! moved. `clear` moves away those that an earlier run left, and removes those of a run that has ended;
+//! `specs/Deeds.antt` says what each asks, and so that it asks nothing else.
 #![tactic(auto)]
 
+pub mod clear;
 pub mod cut;
 pub mod fault;
 pub mod file_bytes;
+pub mod folder;
+pub mod found;
 pub mod laws;
+pub mod open;
 pub mod page_list;
+pub mod pages;
+pub mod part_at;
 pub mod part_pins;
 pub mod pins;
 pub mod plan;
 pub mod read;
 pub mod renew;
+pub mod save;
+pub mod store_laws;
+pub mod values;
 pub mod write;

@@ -6,7 +6,7 @@ ghost use Rattle.page_core.specs.Cut.{AreCutLengths, lengths, no_stamp};
 
 use crate::cut::{MOST_PAGES, is_cut};
 use crate::fault::PageFault;
-use hand_core::hand::Stamp;
+use device_core::hand::Stamp;
 use std::marker::Model;
 
 /// What stands behind the stamps in their row.
@@ -22,8 +22,8 @@ pub struct PageList {
 impl Model for PageList {
     ghost use Rattle.std.specs.Prelude.{List};
     ghost use Rattle.std.specs.Coded.{codes};
-    ghost use Rattle.hand_core.specs.declared.hand.Stamp.{Stamp};
-    ghost use Rattle.hand_core.specs.contracts.hand.Stamp as e;
+    ghost use Rattle.device_core.specs.declared.hand.Stamp.{Stamp};
+    ghost use Rattle.device_core.specs.contracts.hand.Stamp as e;
 
     ghost Value = { List Stamp };
 

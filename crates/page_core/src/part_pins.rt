@@ -5,13 +5,13 @@ ghost use Rattle.std.specs.Prelude.{None, length, take, vec_capacity, List, ◌=
 ghost use Rattle.page_core.specs.Cut.{together};
 ghost use Rattle.page_core.specs.PartPins.{pins_by, pin_at, pins_in, room_in, count_pages, added_if};
 ghost use Rattle.std.specs.Int.{bit_at};
-ghost use Rattle.hand_core.specs.declared.hand.Stamp.{Stamp as AStamp};
+ghost use Rattle.device_core.specs.declared.hand.Stamp.{Stamp as AStamp};
 
 use crate::page_list::PageList;
 use crate::pins::Pins;
 use decl_core::footprint::is_in;
 use decl_core::id::MOST_PARTS;
-use hand_core::hand::Stamp;
+use device_core::hand::Stamp;
 use std::marker::Model;
 
 /// The pins of some parts of an object, in the order of the parts: each is a page list. They stand one behind
@@ -25,7 +25,7 @@ pub struct PartPins {
 impl Model for PartPins {
     ghost use Rattle.std.specs.Prelude.{List};
     ghost use Rattle.std.specs.Coded.{codes};
-    ghost use Rattle.hand_core.specs.contracts.hand.Stamp as e;
+    ghost use Rattle.device_core.specs.contracts.hand.Stamp as e;
     ghost use Rattle.page_core.specs.PartPins.{PartPin};
 
     ghost Value = { List PartPin };

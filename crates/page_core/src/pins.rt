@@ -18,8 +18,8 @@ pub struct Pins {
 impl Model for Pins {
     ghost use Rattle.std.specs.Prelude.{List};
     ghost use Rattle.std.specs.Coded.{codes};
-    ghost use Rattle.hand_core.specs.declared.hand.Stamp.{Stamp};
-    ghost use Rattle.hand_core.specs.contracts.hand.Stamp as e;
+    ghost use Rattle.device_core.specs.declared.hand.Stamp.{Stamp};
+    ghost use Rattle.device_core.specs.contracts.hand.Stamp as e;
 
     ghost Value = { List (List Stamp) };
 

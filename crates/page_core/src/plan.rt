@@ -1,12 +1,12 @@
 //! Which pages of a changed part are written.
 
 ghost use Rattle.std.specs.Prelude.{◌≡◌, ◌↔◌, ◌+◌, ◌<◌, ◌++◌, ◌∷◌, [], IsTrue, OnOk, length, min, take, drop};
-ghost use Rattle.hand_core.specs.declared.hand.Stamp.{Stamp as AStamp};
+ghost use Rattle.device_core.specs.declared.hand.Stamp.{Stamp as AStamp};
 ghost use Rattle.page_core.specs.declared.plan.PageWrite.{PageWrite as AWrite};
 ghost use Rattle.page_core.specs.Plans.{IsPlan};
 
 use crate::file_bytes::FileBytes;
-use hand_core::hand::Stamp;
+use device_core::hand::Stamp;
 use std::alloc::{AllocError, Global};
 
 /// What stands in a list where a page is still to be written.

@@ -3,13 +3,13 @@
 ghost use Rattle.std.specs.Prelude.{◌≡◌, ◌⊎◌, ℕ, ◌+◌, ◌<◌, ◌≤◌, ◌++◌, List, Some, Result, OnOk, IfErr, length, take};
 ghost use Rattle.std.specs.Prelude.{drop};
 ghost use Rattle.std.specs.Result.{IsErr, IsErrOf};
-ghost use Rattle.hand_core.specs.declared.hand.Stamp.{Stamp as AStamp};
-ghost use Rattle.hand_core.specs.Device.{Assignment, FaultCause, Shows, Always, AreServed};
-ghost use Rattle.hand_core.specs.Made.{Made, reads, IsDeviceErr};
+ghost use Rattle.device_core.specs.declared.hand.Stamp.{Stamp as AStamp};
+ghost use Rattle.device_core.specs.Device.{Assignment, FaultCause, Shows, Always, AreServed};
+ghost use Rattle.device_core.specs.Made.{Made, reads, IsDeviceErr};
 ghost use Rattle.page_core.specs.Bytes.{list_bytes, AreWhole, IsPage};
 ghost use Rattle.page_core.specs.Calls.{AreMade, ReadInOrder};
 
-use hand_core::hand::{Hand, HandFault, Stamp};
+use device_core::hand::{Hand, HandFault, Stamp};
 
 // Reads a whole file into what stands from this place on to the end of the bytes.
 fn read_end<H: Hand>(

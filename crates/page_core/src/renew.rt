@@ -1,15 +1,15 @@
 //! The new page list of a part, written at once.
 
 ghost use Rattle.std.specs.Prelude.{◌≡◌, ℕ, ◌<◌, ◌≤◌, ◌⊎◌, Some, None, slice_get};
-ghost use Rattle.hand_core.specs.declared.hand.HandFault.TheVariants as faults;
-ghost use Rattle.hand_core.specs.declared.hand.Stamp.{Stamp as AStamp};
-ghost use Rattle.hand_core.specs.Device.{Assignment, Failed as DeviceFailed};
+ghost use Rattle.device_core.specs.declared.hand.HandFault.TheVariants as faults;
+ghost use Rattle.device_core.specs.declared.hand.Stamp.{Stamp as AStamp};
+ghost use Rattle.device_core.specs.Device.{Assignment, Failed as DeviceFailed};
 ghost use Rattle.page_core.specs.Bytes.{list_bytes, AreWhole};
 ghost use Rattle.page_core.specs.Renewed.{IsIn};
 
 use crate::plan::{Planned, plan_part};
 use crate::write::{put_sealed, write_pages};
-use hand_core::hand::{Hand, HandFault, Stamp};
+use device_core::hand::{Hand, HandFault, Stamp};
 use std::alloc::{AllocError, Global};
 
 /// What became of a part's page list.

@@ -2,15 +2,15 @@
 
 ghost use Rattle.std.specs.Prelude.{◌≡◌, ◌≢◌, ℕ, ◌+◌, ◌<◌, ◌≤◌, ◌++◌, ◌∷◌, [], List, Some, None, IfOk, IfErr, length};
 ghost use Rattle.std.specs.Prelude.{vec_capacity, slice_set};
-ghost use Rattle.hand_core.specs.declared.hand.HandFault.TheVariants as faults;
-ghost use Rattle.hand_core.specs.declared.hand.Stamp.{Stamp as AStamp};
-ghost use Rattle.hand_core.specs.Device.{Assignment, FaultCause, Holds, Always, AreServed, Failed as DeviceFailed};
-ghost use Rattle.hand_core.specs.Made.{Made, IsDeviceErr};
+ghost use Rattle.device_core.specs.declared.hand.HandFault.TheVariants as faults;
+ghost use Rattle.device_core.specs.declared.hand.Stamp.{Stamp as AStamp};
+ghost use Rattle.device_core.specs.Device.{Assignment, FaultCause, Holds, Always, AreServed, Failed as DeviceFailed};
+ghost use Rattle.device_core.specs.Made.{Made, IsDeviceErr};
 ghost use Rattle.page_core.specs.Calls.{AreMade, WritesFile, WritesPages};
 ghost use Rattle.page_core.specs.Renewed.{AreSealed, ArePlaces, with_sealed};
 
 use crate::plan::PageWrite;
-use hand_core::hand::{Hand, HandFault, Stamp};
+use device_core::hand::{Hand, HandFault, Stamp};
 
 // Writes a file of these bytes: one call of each kind.
 fn write_file<H: Hand>(hand: &mut H, bytes: &[u8]) -> Result<Stamp, HandFault>

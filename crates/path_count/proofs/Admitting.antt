@@ -11,7 +11,7 @@ use Rattle.path_tree.specs.Names.{names, some_names, NamesOnce, EachOnce}
 use Rattle.path_tree.proofs.StartLaws.{absent_begins, absent_begins_first, start_finishes}
 use Rattle.path_count.specs.Program.{slots}
 use Rattle.path_count.specs.Kept.{Kept, KeptEach, KeptTurns}
-use Rattle.path_count.proofs.Walk.{opens, opens_first, admits, admits_some, admits_turn, choose, or_right}
+use Rattle.path_count.proofs.PathWalk.{opens, opens_first, admits, admits_some, admits_turn, choose, or_right}
 use Rattle.path_count.proofs.Starting.{le_now, absent_holds, absent_each, absent_turn, start_begins, start_begins_first}
 
 bound_room : (o : Bool) (b f b' f' n x : ℕ) → x ≡ b - f → f ≤ b → b - f ≤ n → b' ≡ b + (if o then 1 else 0) → f' ≡ f → Decides (if o then nat_lt x n else true) (b' - f' ≤ n)

@@ -5,7 +5,7 @@ use Rattle.std.specs.Prelude.{nat_lt, if◌then◌else◌}
 use Rattle.path_tree.specs.Path.{Path, Paths, name, list, sequence, bound, burst, two, more}
 use Rattle.path_tree.specs.Names.{names}
 use Rattle.path_count.specs.Program.{slots, slots_of}
-use Rattle.path_count.proofs.Walk.{choose, Outside, outside_wider, one_set, turn_set, length_set_if, raised}
+use Rattle.path_count.proofs.PathWalk.{choose, Outside, outside_wider, one_set, turn_set, length_set_if, raised}
 
 -- the finish closes an activation of the node
 abbrev mutual

@@ -13,7 +13,7 @@ use Rattle.path_tree.proofs.CountLaws.{counted, end_begins, end_begins_first}
 use Rattle.path_tree.proofs.StartLaws.{either_false}
 use Rattle.path_count.specs.Program.{slots, slots_of}
 use Rattle.path_count.specs.Kept.{Kept, KeptEach, KeptTurns}
-use Rattle.path_count.proofs.Walk.{choose, or_right, kept_same, each_same, turns_same}
+use Rattle.path_count.proofs.PathWalk.{choose, or_right, kept_same, each_same, turns_same}
 use Rattle.path_count.proofs.Starting.{slot_value, same_above, same_outside_below, same_outside_above}
 use Rattle.path_count.proofs.FinishWalk.{closes, closes_some, closes_last, left, left_some, left_turn, left_outside, left_some_outside, left_turn_outside, left_length}
 

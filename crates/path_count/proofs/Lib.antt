@@ -1,4 +1,4 @@
-pub mod Walk
+pub mod PathWalk
 pub mod Starting
 pub mod Admitting
 pub mod Steps
@@ -18,3 +18,14 @@ pub mod Calling
 pub mod PathLines
 pub mod Lines
 pub mod WholeRuns
+pub mod Absent
+pub mod Certified
+pub mod Due
+pub mod Drains
+pub mod Epochs
+pub mod Future
+pub mod KeptApart
+pub mod Moves
+pub mod NeedsEnd
+pub mod OneAtATime
+pub mod Behind

@@ -13,7 +13,7 @@ use Rattle.path_count.specs.declared.program.Step.{Step}
 use Rattle.path_count.specs.Program.{slots, start_steps, finish_steps, after_start, after_finish, has_room, AreWithin}
 use Rattle.path_count.specs.Kept.{Kept}
 use Rattle.path_count.specs.Object.{all_slots, programs_of, all_have_room, after_all, StaySmall, KeptAll, AllOnce, AllWithin}
-use Rattle.path_count.proofs.Walk.{opens, after, admits, choose, Outside, after_outside, after_length, after_raised, kept_same}
+use Rattle.path_count.proofs.PathWalk.{opens, after, admits, choose, Outside, after_outside, after_length, after_raised, kept_same}
 use Rattle.path_count.proofs.FinishWalk.{closes, left, left_outside, left_length, left_raised}
 use Rattle.path_count.proofs.Starting.{absent_holds, start_kept, absent_kept}
 use Rattle.path_count.proofs.Finishing.{finish_kept, absent_left}

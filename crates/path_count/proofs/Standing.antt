@@ -12,7 +12,7 @@ use Rattle.path_count.specs.Program.{start_steps, finish_steps, after_start, aft
 use Rattle.path_count.specs.Object.{programs_of, all_have_room, after_all, StaySmall, KeptAll, AllWithin}
 use Rattle.path_count.specs.State.{State}
 use Rattle.path_count.specs.Stands.{StandsFor}
-use Rattle.path_count.proofs.Walk.{after}
+use Rattle.path_count.proofs.PathWalk.{after}
 use Rattle.path_count.proofs.FinishWalk.{left}
 use Rattle.path_count.proofs.Running.{none_of, one_of, same_test, ends_le, call_counts, few_events}
 use Rattle.path_count.proofs.Objects.{steady_start, steady_finish, all_within, walk_all, walk_is, walk_length, all_raised, stay_small, all_decide, all_started, all_finished, all_satisfy}

@@ -13,7 +13,7 @@ use Rattle.path_tree.proofs.CountLaws.{counted, finished_le}
 use Rattle.path_tree.proofs.StartLaws.{absent_begins, absent_begins_of, absent_begins_first, start_finishes, either_false}
 use Rattle.path_count.specs.Program.{slots, slots_of}
 use Rattle.path_count.specs.Kept.{Kept, KeptEach, KeptTurns}
-use Rattle.path_count.proofs.Walk.{opens, opens_some, opens_first, after, after_some, after_turn, choose, or_right, Outside, Same, after_outside, some_outside, turn_outside, after_length, turn_length, kept_same, each_same, turns_same}
+use Rattle.path_count.proofs.PathWalk.{opens, opens_some, opens_first, after, after_some, after_turn, choose, or_right, Outside, Same, after_outside, some_outside, turn_outside, after_length, turn_length, kept_same, each_same, turns_same}
 
 -- no more has ended than has started
 pub le_now : (e : Path) (t : List Event) → IsTrace t → Holds e t → ended e t ≤ started e t

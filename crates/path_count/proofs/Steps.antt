@@ -6,7 +6,7 @@ use Rattle.path_tree.specs.Names.{names}
 use Rattle.path_count.specs.Program.{slots, start_steps, list_start, turn_start, after_start, has_room}
 use Rattle.path_count.specs.declared.program.Step.{Step}
 use Rattle.path_count.specs.declared.program.Step.TheVariants as steps
-use Rattle.path_count.proofs.Walk.{opens, opens_some, opens_first, after, after_some, after_turn, admits, admits_some, admits_turn, after_outside, turn_outside}
+use Rattle.path_count.proofs.PathWalk.{opens, opens_some, opens_first, after, after_some, after_turn, admits, admits_some, admits_turn, after_outside, turn_outside}
 
 bound_after_start : (o : Bool) (q : List Step) (v : List ℕ) (at x y : ℕ) → y ≡ x →
     (if o then after_start q (set v at (y + 1)) else v) ≡ (if o then after_start q (if o then set v at (x + 1) else v) else (if o then set v at (x + 1) else v))

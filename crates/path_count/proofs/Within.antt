@@ -5,7 +5,7 @@ use Rattle.path_tree.specs.Path.{Path, Paths, name, list, sequence, bound, burst
 use Rattle.path_tree.specs.Names.{names}
 use Rattle.path_count.specs.declared.program.Step.TheVariants as steps
 use Rattle.path_count.specs.Program.{slots, slots_of, start_steps, list_start, turn_start, finish_steps, list_finish, turn_finish, AreWithin, slot_of}
-use Rattle.path_count.proofs.Walk.{choose}
+use Rattle.path_count.proofs.PathWalk.{choose}
 
 mutual
   pub start_within : (e : Path) (at op size : ℕ) → at + slots e ≤ size → AreWithin (start_steps e at op) size

@@ -17,3 +17,13 @@ pub mod Calls
 pub mod Answers
 pub mod Telling
 pub mod Run
+pub mod Alone
+pub mod Apart
+pub mod PathCalls
+pub mod Certified
+pub mod Future
+pub mod Needs
+pub mod Rest
+pub mod Found
+pub mod Numbers
+pub mod Past

@@ -1,12 +1,12 @@
 -- What a kept server leaves.
 use Rattle.std.proofs.Common.{◌≡◌, List, subst}
 use Rattle.std.specs.Prelude.{Option, IfSome}
-use Rattle.hand_core.specs.Papers.{Papers}
+use Rattle.device_core.specs.Papers.{Papers}
 use Rattle.hosted_core.specs.Scene.{Scene}
 use Rattle.keep_loop.specs.Seen.{Happened}
 use Rattle.keep_loop.specs.Stands.{HasEnded}
 use Rattle.keep_loop.specs.declared.keep.Limits.{Limits}
-use Rattle.keep_start.specs.Ending.{ObjectsAreSaved}
+use Rattle.keep_core.specs.Ending.{ObjectsAreSaved}
 use Rattle.post_core.specs.Turns.{Gives}
 use Rattle.pathserve.specs.Kept.{IsKept}
 

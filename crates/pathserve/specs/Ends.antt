@@ -2,7 +2,7 @@
 use Rattle.std.specs.Prelude.{◌≡◌, ℕ, ⊤, Result, Ok, Err}
 use Rattle.clap.specs.Values.{kind_of}
 use Rattle.clap.specs.declared.error.kind.ErrorKind.TheVariants as kinds
-use Rattle.line_core.specs.declared.machine.LinesFault.{LinesFault}
+use Rattle.text_core.specs.declared.machine.LinesFault.{LinesFault}
 use Rattle.answer_core.specs.Status.{paths_failure}
 use Rattle.answer_core.specs.declared.failure.Failure.{Failure}
 use Rattle.answer_core.specs.declared.failure.Failure.TheVariants.{ReadFault}

@@ -2,16 +2,16 @@
 
 use crate::keep::{LIMITS, NAMES};
 use custody_core::all::AllHeld;
+use custody_core::holding::Holding;
+use decl_core::hold::Rules;
 use decl_core::object::Object;
-use gone_core::holding::Holding;
-use hold_core::held::Holds;
-use hold_form::hold::Rules;
-use hold_front::lines::push_held;
-use hold_front::past::play_held;
-use hold_front::text::{HeldFront, cut_held, read_held};
+use guest_core::held::Holds;
 use hosted_core::hosted::Hosted;
-use keep_start::start::{NotBegun, begin_behind};
+use keep_core::start::{NotBegun, begin_behind};
+use recover_core::hold_lines::push_held;
+use recover_core::past::play_held;
 use recover_core::recover::{House, RecoverFault};
+use recover_core::text::{HeldFront, cut_held, read_held};
 use std::alloc::{AllocError, Global};
 
 /// An object that has begun, and what is held of it; or why it is not begun with.

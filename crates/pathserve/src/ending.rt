@@ -1,11 +1,11 @@
 //! How a server of kept objects ends.
 
 ghost use Rattle.std.specs.Prelude.{◌≡◌, [], OnOk, IfSome};
-ghost use Rattle.hand_core.specs.Papers.{Papers};
+ghost use Rattle.device_core.specs.Papers.{Papers};
 ghost use Rattle.keep_loop.specs.Seen.{Always};
 ghost use Rattle.keep_loop.specs.Epochs.{rules_of};
 ghost use Rattle.keep_loop.specs.Stands.{IsHonest};
-ghost use Rattle.keep_start.specs.Ending.{ObjectsAreSaved};
+ghost use Rattle.keep_core.specs.Ending.{ObjectsAreSaved};
 ghost use Rattle.table_core.specs.Moves.{Gives, Fronts};
 ghost use Rattle.table_core.specs.Seen.{seen};
 ghost use Rattle.pathserve.specs.Ends.{keep_status};
@@ -13,15 +13,15 @@ ghost use Rattle.pathserve.specs.Kept.{IsKept};
 
 use answer_core::answer::{ACCEPTED, REFUSED};
 use answer_core::failure::Failure;
-use hand_core::hand::HandFault;
-use hand_core::shelf::Shelf;
+use device_core::hand::HandFault;
+use device_core::shelf::Shelf;
 use hosted_core::hosted::Hosted;
+use keep_core::ending::save_objects;
 use keep_loop::{Fault, Limits, Outside, run};
-use keep_start::ending::save_objects;
-use line_core::write_whole;
 use std::alloc::Global;
 use std::io::Write;
 use table_core::table::Table;
+use text_core::write_whole;
 
 /// That a server of kept objects has ended well. `serve_table` alone makes one.
 pub struct Ended {

@@ -3,21 +3,21 @@
 use answer_core::answer::{ACCEPTED, REFUSED};
 use answer_core::explanation::{Telling, explained, explained_script};
 use answer_core::failure::Failure;
+use check_core::head::read_head;
+use check_core::hold_report::held_report;
+use check_core::open::{Opened, open_script};
 use check_core::report::{CheckEnd, push_source_fault};
+use decl_core::analyse::Accepted;
+use decl_core::hold::{Hold, Rules};
 use decl_core::object::Object;
 use decl_read::fault::DeclFault;
-use exclude_core::analyse::Accepted;
-use explain_hold::rules::explain_held;
-use hold_form::hold::{Hold, Rules};
+use explain_fault::rules::explain_held;
 use hold_read::read::Held;
-use hold_script::script::run_held_script;
-use hold_text::report::held_report;
-use line_core::write_whole;
+use script_core::hold_script::run_held_script;
 use script_core::script::ScriptEnd;
-use script_open::head::read_head;
-use script_open::open::{Opened, open_script};
 use std::alloc::Global;
 use std::io::{Read, Write};
+use text_core::write_whole;
 
 // Writes what is answered, and gives the exit status.
 fn written<W: Write>(text: &[u8], status: u8, writer: &mut W) -> Result<u8, Failure> {

@@ -1,11 +1,11 @@
 //! What the program needs to read, and what standard error is told where it lacks that.
 
 use answer_core::failure::Failure;
-use line_core::reply::push_number;
-use line_core::write_whole;
 use std::alloc::{AllocError, Global};
 use std::io;
 use std::io::{ErrorKind, Write};
+use text_core::reply::push_number;
+use text_core::write_whole;
 
 /// What a command needs.
 #[derive(Clone, Copy, Debug, PartialEq, Eq)]

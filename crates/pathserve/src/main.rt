@@ -34,28 +34,28 @@ mod socket;
 mod status;
 mod stuck;
 
-use ahead_core::ahead::AheadHand;
 use answer_core::answer::{ACCEPTED, REFUSED, answer_lines};
 use answer_core::audit::audit_trace;
 use answer_core::explanation::{Telling, explained, explained_audit};
 use answer_core::failure::{Failure, exit_status, words_end};
+use answer_core::files::FolderFault;
+use answer_core::folder_audit::audit_folder;
 use answer_core::source::read_source;
 use attempt::run_try;
+use check_core::judge::{Judged, judge};
 use command_line::past::Past;
 use command_line::request::{Address, Explain, Keeping, Request, Serving, keep_error, request_of};
 use command_line::watching::{Apart, OddOption, Watching, taken_apart};
+use decl_core::analyse::Accepted;
+use decl_core::hold::Rules;
+use device_core::ahead::AheadHand;
 use ending::{KeepEnd, status_of_keep};
-use exclude_core::analyse::Accepted;
-use explain_line::files::Files;
-use explain_line::kept::Kept;
-use folder_audit::audit::audit_folder;
-use folder_audit::files::FolderFault;
-use hold_form::hold::Rules;
 use keep::{is_kept, keep_objects};
 use lack::{Lacking, Unmet, Wanted, tell_lack};
-use line_core::write_whole;
 use mio::net::{TcpListener as PortListener, UnixListener as PathListener};
 use mio_core::stream::Listener as Ears;
+use note_core::files::Files;
+use note_core::kept::Kept;
 use pasts::pasts_in;
 use plain::{
     Ruled, WithoutHolds, plain_source, ruled_source, run_check, run_script, without_holds,
@@ -64,7 +64,6 @@ use serve::{ServedSource, place_of, serve_objects};
 use serve_core::gate::{Gate, Listener};
 use serve_core::serve::Place;
 use socket::{Socket, socket_at};
-use source_core::judge::{Judged, judge};
 use std::alloc::AllocError;
 use std::fs::{File, TryLockError};
 use std::io::{ErrorKind, IsTerminal, Read};
@@ -72,6 +71,7 @@ use std::net::{Ipv4Addr, TcpListener};
 use std::process::ExitCode;
 use std::sync::Arc;
 use std::{env, io, thread};
+use text_core::write_whole;
 
 /// Of a trace so many bytes are kept where its faults are not told: they have the line that names its object.
 const HEAD_BYTES: usize = 4_096;

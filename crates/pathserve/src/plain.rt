@@ -10,13 +10,13 @@ use answer_core::script::answer_script;
 use answer_core::source::read_source;
 use answer_core::stuck::check_stuck;
 use command_line::request::Explain;
-use explain_hold::pairs::explain_pairs;
-use explain_line::files::Files;
-use explain_line::kept::Kept;
-use hold_form::hold::Rules;
+use decl_core::hold::Rules;
+use explain_fault::pairs::explain_pairs;
 use hold_read::read::{Held, Look, look_at};
-use line_core::write_whole;
+use note_core::files::Files;
+use note_core::kept::Kept;
 use std::io;
+use text_core::write_whole;
 
 /// What to do with a source whose objects have holds, for a command that takes them as objects without.
 pub(crate) enum WithoutHolds {

@@ -7,17 +7,16 @@ ghost use Rattle.serve_core.specs.Runs.{IsRun};
 ghost use Rattle.pathserve.specs.Ends.{serve_status, status_of_end};
 
 use crate::lack::{Unmet, Wanted, tell_lack};
-use ahead_core::ahead::{AheadHand, Ends};
-use ahead_core::sealed::Sealed;
 use answer_core::answer::{ACCEPTED, REFUSED};
 use answer_core::explanation::{Telling, explained};
 use answer_core::failure::Failure;
+use device_core::ahead::{AheadHand, Ends};
 use device_core::dir::DirHand;
+use device_core::hand::Hand;
 use device_core::numbers::Numbers;
-use folder_core::found::found_in;
-use folder_core::values::DirValues;
-use hand_core::hand::Hand;
-use line_core::LinesFault;
+use device_core::sealed::Sealed;
+use page_core::found::found_in;
+use page_core::values::DirValues;
 use serve_core::gate::Gate;
 use serve_core::serve::{Place, ServeEnd, serve_on};
 use std::alloc::AllocError;
@@ -27,6 +26,7 @@ use std::rt::Files;
 use std::sync::{Arc, Wait};
 use std::thread::Threads;
 use std::time::Clock;
+use text_core::LinesFault;
 
 // Numbers from this one on, which hands share.
 fn numbers_from<R: AllocGlobal>(rt: &R, first: u64) -> Result<Arc<Numbers>, AllocError>

@@ -5,8 +5,8 @@ ghost use Rattle.path_tree.specs.Trace.{Event};
 ghost use Rattle.decl_core.specs.ObjectMap.{object_of};
 ghost use Rattle.stuck_core.specs.Stuck.{IsStuckAfter};
 
+use decl_core::analyse::Accepted;
 use decl_core::object::Object;
-use exclude_core::analyse::Accepted;
 use std::alloc::{AllocError, Global};
 use stuck_core::found::Ending;
 use stuck_search::find::find;

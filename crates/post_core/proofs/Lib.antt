@@ -1,2 +1,9 @@
 pub mod Places
 pub mod Slots
+pub mod Begun
+pub mod Kept
+pub mod Lines
+pub mod Moments
+pub mod Quiet
+pub mod Replaced
+pub mod Runs

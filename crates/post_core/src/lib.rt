@@ -2,7 +2,23 @@
 //!
 //! `served::Served` is an object with its clients, which does one thing at a time. What it tells connections and adds to
 //! journals lies in a `post::Post`, until a loop writes and stores it.
+//!
+//! The file of a journal: lines that are on the disk before anybody is told of them, and what a crash leaves of them.
+//!
+//! `device::Device` is a file as a journal needs it: what each call does to it, and what a crash may leave at each
+//! moment. `memory::Memory` is one in memory; `folder::FolderFile` is one in a folder, of which nothing is known.
+//! `journal::Journal` keeps lines, and zeros behind them, in a file of fixed length: `append` adds whole lines, `sync`
+//! stores all of them at once, `change` begins the file anew in one step. `journal::recover` reads what a crash has
+//! left: all lines that were stored, and maybe some of those added since, in order, none of them in part. `run` says so
+//! of any list of steps that a crash cuts off, and `round` is that of a server: lines are stored, and only then is
+//! anything answered.
 #![tactic(auto)]
 
+pub mod device;
+pub mod folder;
+pub mod journal;
+pub mod memory;
 pub mod post;
+pub mod round;
+pub mod run;
 pub mod served;

@@ -2,8 +2,8 @@
 use Rattle.std.proofs.Common.{◌≡◌, ℕ, List, ◌∷◌, ◌++◌, Bool, false}
 use Rattle.std.specs.Prelude.{Option, Result, Ok, Err}
 use Rattle.apply_core.specs.declared.reply.Reply.{Reply}
-use Rattle.front_core.specs.declared.front.Client.{Client}
-use Rattle.front_core.specs.declared.front.KeptCall.{KeptCall}
+use Rattle.live_core.specs.declared.front.Client.{Client}
+use Rattle.live_core.specs.declared.front.KeptCall.{KeptCall}
 use Rattle.guest_core.specs.declared.guest.Guest.{Guest}
 use Rattle.guest_core.specs.declared.keys.AskFault.{AskFault}
 use Rattle.guest_core.specs.declared.kept.Asked.{Asked}

@@ -1,10 +1,10 @@
 -- Lines of a text, one after another.
 use Rattle.std.proofs.Common.{◌≡◌, ℕ, ◌∷◌, [], ◌++◌, List, length, take, refl, sym, ap, ◌∙◌, append_assoc}
 use Rattle.std.proofs.lemmas.List.{append-nil}
-use Rattle.trace_core.specs.Events.{Called}
-use Rattle.front_core.specs.declared.front.CarriedCall.{CarriedCall}
-use Rattle.replay_core.specs.declared.carried.Carried.{Carried}
-use Rattle.replay_core.specs.Carried.{carried_calls}
+use Rattle.word_core.specs.Events.{Called}
+use Rattle.live_core.specs.declared.front.CarriedCall.{CarriedCall}
+use Rattle.audit_core.specs.declared.carried.Carried.{Carried}
+use Rattle.audit_core.specs.Carried.{carried_calls}
 use Rattle.recover_core.specs.Lines.{IsLine, AreLines, joined}
 use Rattle.recover_core.specs.Carried.{calls_of}
 

@@ -3,22 +3,22 @@ use Rattle.std.proofs.Common.{◌≡◌, inl, inr, ℕ, suc, ◌+◌, ◌-◌, B
 use Rattle.std.specs.Prelude.{Option, Some, None, Result, Ok, Err, IfOk, IsTrue}
 use Rattle.std.specs.declared.alloc.AllocError.{AllocError}
 use Rattle.audit_core.specs.declared.told.ToldReply.{ToldReply}
-use Rattle.front_core.specs.declared.front.CarriedCall.{CarriedCall}
-use Rattle.replay_core.specs.declared.replay.Known.{Known}
+use Rattle.live_core.specs.declared.front.CarriedCall.{CarriedCall}
+use Rattle.audit_core.specs.declared.epoch_replay.Known.{Known}
 use Rattle.decl_core.specs.ObjectForm.{ObjectForm}
 use Rattle.audit_core.specs.View.{told_view}
-use Rattle.front_core.specs.Front.{Opening}
+use Rattle.live_core.specs.Front.{Opening}
 use Rattle.guest_core.specs.Guests.{Guests}
-use Rattle.replay_core.specs.declared.replay.Note.{Note}
-use Rattle.replay_core.specs.declared.replay.Replay.{Replay}
-use Rattle.replay_core.specs.declared.replay.Note.TheVariants as notes
-use Rattle.replay_core.specs.Said.{Says, Asked, a_start}
-use Rattle.replay_core.specs.Steps.{Step, ran, cancelled, named, Heard, nothing_heard, ended_in}
-use Rattle.replay_core.specs.Tells.{Tells, Tell, start_told, end_told, cancel_told, name_told}
-use Rattle.replay_core.specs.Sound.{IsCut, IsFirstFault}
-use Rattle.replay_core.specs.Stands.{Stands, IsNote, known_call}
-use Rattle.replay_core.proofs.Standing.{stands_sound}
-use Rattle.replay_core.proofs.Exact.{sound_no_fault}
+use Rattle.audit_core.specs.declared.epoch_replay.Note.{Note}
+use Rattle.audit_core.specs.declared.epoch_replay.Replay.{Replay}
+use Rattle.audit_core.specs.declared.epoch_replay.Note.TheVariants as notes
+use Rattle.audit_core.specs.EpochSaid.{Says, Asked, a_start}
+use Rattle.audit_core.specs.Steps.{Step, ran, cancelled, named, Heard, nothing_heard, ended_in}
+use Rattle.audit_core.specs.EpochTells.{Tells, Tell, start_told, end_told, cancel_told, name_told}
+use Rattle.audit_core.specs.Sound.{IsCut, IsFirstFault}
+use Rattle.audit_core.specs.EpochStands.{Stands, IsNote, known_call}
+use Rattle.audit_core.proofs.EpochStanding.{stands_sound}
+use Rattle.audit_core.proofs.EpochExact.{sound_no_fault}
 use Rattle.recover_core.specs.declared.playing.Playing.{Playing}
 use Rattle.recover_core.specs.declared.playing.Refused.{Refused}
 use Rattle.recover_core.specs.declared.playing.Refused.TheVariants.{Faulty, Odd}

@@ -2,3 +2,12 @@ pub mod Coming
 pub mod Cutting
 pub mod Hearing
 pub mod Recovering
+mod Adding
+mod Ending
+mod Named
+mod Numerals
+mod HoldPlaying
+mod Reading
+mod Safe
+mod Texts
+pub mod Whole

@@ -2,9 +2,9 @@
 use Rattle.std.proofs.Common.{◌≡◌, inr, ℕ, ◌+◌, List, sym, ap, ◌∙◌, subst}
 use Rattle.std.specs.Prelude.{Result, Ok, Err, IfOk}
 use Rattle.decl_core.specs.ObjectForm.{ObjectForm}
-use Rattle.front_core.specs.Front.{Opening}
+use Rattle.live_core.specs.Front.{Opening}
 use Rattle.guest_core.specs.Guests.{Guests}
-use Rattle.replay_core.specs.Steps.{Heard}
+use Rattle.audit_core.specs.Steps.{Heard}
 use Rattle.recover_core.specs.declared.playing.Playing.{Playing}
 use Rattle.recover_core.specs.declared.playing.Refused.{Refused}
 use Rattle.recover_core.specs.declared.playing.Refused.TheVariants.{Faulty, Odd}

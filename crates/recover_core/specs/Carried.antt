@@ -1,7 +1,7 @@
 -- The calls that waited when an epoch began.
 use Rattle.std.specs.Prelude.{◌≡◌, ℕ, ◌+◌, ◌-◌, List, [], ◌∷◌, map, Option, Some, None, slice_get}
-use Rattle.trace_core.specs.Events.{Called}
-use Rattle.front_core.specs.declared.front.CarriedCall.{CarriedCall}
+use Rattle.word_core.specs.Events.{Called}
+use Rattle.live_core.specs.declared.front.CarriedCall.{CarriedCall}
 
 -- the calls, without the numbers that were told
 abbrev pub calls_of : List CarriedCall → List Called

@@ -1,11 +1,11 @@
 -- When an epoch may follow another one.
 use Rattle.std.specs.Prelude.{◌≡◌, ◌≢◌, ℕ, ◌+◌, ◌≤◌, List, [], ◌∷◌, ◌++◌, length}
 use Rattle.decl_core.specs.ObjectForm.{ObjectForm}
-use Rattle.past_core.specs.Found.{LeavesSame}
-use Rattle.front_core.specs.declared.front.Client.{Client}
-use Rattle.front_core.specs.declared.front.KeptCall.{KeptCall}
-use Rattle.front_core.specs.Front.{Opening}
-use Rattle.front_core.specs.Past.{events_in}
+use Rattle.path_count.specs.Found.{LeavesSame}
+use Rattle.live_core.specs.declared.front.Client.{Client}
+use Rattle.live_core.specs.declared.front.KeptCall.{KeptCall}
+use Rattle.live_core.specs.Front.{Opening}
+use Rattle.live_core.specs.Past.{events_in}
 use Rattle.guest_core.specs.declared.guest.Guest.{Guest}
 use Rattle.guest_core.specs.declared.kept.Kept.{Kept}
 use Rattle.guest_core.specs.Guests.{Guests, IsNamed}

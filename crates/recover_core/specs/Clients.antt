@@ -1,17 +1,17 @@
 -- What lines make of the clients of an object.
 use Rattle.std.specs.Prelude.{◌≡◌, ℕ, ◌+◌, ◌≤◌, Bool, List, [], ◌∷◌, ◌++◌, length, Option, Some, None, Ok}
 use Rattle.apply_core.specs.declared.reply.Reply.{Reply}
-use Rattle.front_core.specs.declared.front.CarriedCall.{CarriedCall}
-use Rattle.front_core.specs.declared.front.Client.{Client}
-use Rattle.front_core.specs.declared.front.KeptCall.{KeptCall}
-use Rattle.front_core.specs.declared.front.Answer.{Answer}
-use Rattle.front_core.specs.declared.front.Answer.TheVariants.{Replied, Cancelled}
+use Rattle.live_core.specs.declared.front.CarriedCall.{CarriedCall}
+use Rattle.live_core.specs.declared.front.Client.{Client}
+use Rattle.live_core.specs.declared.front.KeptCall.{KeptCall}
+use Rattle.live_core.specs.declared.front.Answer.{Answer}
+use Rattle.live_core.specs.declared.front.Answer.TheVariants.{Replied, Cancelled}
 use Rattle.guest_core.specs.declared.guest.Guest.{Guest}
 use Rattle.guest_core.specs.declared.kept.Asked.{Asked}
 use Rattle.guest_core.specs.Guests.{Guests, IsNamed, IsUnknown, guest_of}
 use Rattle.guest_core.specs.Keys.{asks}
 use Rattle.guest_core.specs.Steps.{asked, ended, admitted, Does}
-use Rattle.replay_core.specs.Steps.{Step, ran, cancelled, named}
+use Rattle.audit_core.specs.Steps.{Step, ran, cancelled, named}
 use Rattle.recover_core.specs.Carried.{told_by}
 
 -- A call of a session was asked, and ended so. Of a session without a name nothing is remembered: that is what each of

@@ -5,3 +5,12 @@ pub mod Odd
 pub mod Playing
 pub mod Recovered
 pub mod Chain
+pub mod HeldLines
+pub mod HeldPlay
+pub mod HeldSo
+pub mod HeldText
+pub mod Laws
+pub mod Text
+pub mod Epochs
+pub mod Said
+pub mod Stray

@@ -1,14 +1,14 @@
 -- What lines tell of clients that does not fit what was told of them before.
 use Rattle.std.specs.Prelude.{◌≡◌, ◌≢◌, ◌⊎◌, ℕ, ◌<◌, ◌≤◌, ◌^◌, List, length, Some, None, slice_get}
 use Rattle.audit_core.specs.View.{told_view}
-use Rattle.front_core.specs.declared.front.CarriedCall.{CarriedCall}
+use Rattle.live_core.specs.declared.front.CarriedCall.{CarriedCall}
 use Rattle.guest_core.specs.declared.guest.Guest.{Guest}
 use Rattle.guest_core.specs.declared.seats.Seat.TheVariants.{Free}
 use Rattle.guest_core.specs.Guests.{Guests, IsNamed, HasNoName}
-use Rattle.replay_core.specs.declared.replay.Note.{Note}
-use Rattle.replay_core.specs.declared.replay.Note.TheVariants as notes
-use Rattle.replay_core.specs.Stands.{known_call}
-use Rattle.replay_core.specs.Steps.{Step, ran, cancelled, named}
+use Rattle.audit_core.specs.declared.epoch_replay.Note.{Note}
+use Rattle.audit_core.specs.declared.epoch_replay.Note.TheVariants as notes
+use Rattle.audit_core.specs.EpochStands.{known_call}
+use Rattle.audit_core.specs.Steps.{Step, ran, cancelled, named}
 use Rattle.recover_core.specs.Carried.{told_by}
 
 -- The client of a session has a name, and a call of it has not ended, or no key of 64 bits is left for one more.

@@ -3,16 +3,16 @@ use Rattle.std.specs.Prelude.{◌≡◌, ℕ, Bool, true, false, List, ◌∷◌
 use Rattle.decl_core.specs.ObjectForm.{ObjectForm}
 use Rattle.audit_core.specs.View.{told_view}
 use Rattle.audit_core.specs.declared.verdict.Fault.{Fault}
-use Rattle.front_core.specs.declared.front.CarriedCall.{CarriedCall}
-use Rattle.front_core.specs.Front.{Opening}
-use Rattle.front_core.specs.Past.{events_in}
+use Rattle.live_core.specs.declared.front.CarriedCall.{CarriedCall}
+use Rattle.live_core.specs.Front.{Opening}
+use Rattle.live_core.specs.Past.{events_in}
 use Rattle.guest_core.specs.Guests.{Guests}
-use Rattle.replay_core.specs.declared.replay.Note.{Note}
-use Rattle.replay_core.specs.declared.replay.Note.TheVariants as notes
-use Rattle.replay_core.specs.Steps.{Step, ran, cancelled, named, Begun, Heard, nothing_heard, ended_in}
-use Rattle.replay_core.specs.Tells.{Tells, Tell}
-use Rattle.replay_core.specs.Sound.{IsSound, IsPlayed, IsFault, IsFirstFault}
-use Rattle.replay_core.specs.Stands.{Stands, known_call}
+use Rattle.audit_core.specs.declared.epoch_replay.Note.{Note}
+use Rattle.audit_core.specs.declared.epoch_replay.Note.TheVariants as notes
+use Rattle.audit_core.specs.Steps.{Step, ran, cancelled, named, Begun, Heard, nothing_heard, ended_in}
+use Rattle.audit_core.specs.EpochTells.{Tells, Tell}
+use Rattle.audit_core.specs.Sound.{IsSound, IsPlayed, IsFault, IsFirstFault}
+use Rattle.audit_core.specs.EpochStands.{Stands, known_call}
 use Rattle.recover_core.specs.declared.playing.Playing.{Playing}
 use Rattle.recover_core.specs.declared.playing.Refused.{Refused}
 use Rattle.recover_core.specs.declared.playing.Refused.TheVariants.{Faulty, Odd}

@@ -3,12 +3,12 @@ use Rattle.std.specs.Prelude.{◌≡◌, ◌≢◌, ◌⊎◌, ℕ, ◌+◌, Lis
 use Rattle.path_tree.specs.Trace.{running_calls}
 use Rattle.path_count.specs.Stands.{StandsFor}
 use Rattle.decl_core.specs.ObjectForm.{ObjectForm}
-use Rattle.front_core.specs.Front.{Opening}
+use Rattle.live_core.specs.Front.{Opening}
 use Rattle.guest_core.specs.Guests.{Guests}
 use Rattle.guest_core.specs.Seats.{free_seats}
-use Rattle.replay_core.specs.Numbers.{greatest_in}
-use Rattle.replay_core.specs.Steps.{Step, nothing_heard, ended_in, trace_by, contents_by, long_past}
-use Rattle.replay_core.specs.Sound.{IsPlayed}
+use Rattle.audit_core.specs.Numbers.{greatest_in}
+use Rattle.audit_core.specs.Steps.{Step, nothing_heard, ended_in, trace_by, contents_by, long_past}
+use Rattle.audit_core.specs.Sound.{IsPlayed}
 use Rattle.recover_core.specs.declared.recover.House.{House}
 use Rattle.recover_core.specs.declared.recover.Recovered.{Recovered}
 use Rattle.recover_core.specs.declared.recover.RecoverFault.{RecoverFault}

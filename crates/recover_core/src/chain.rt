@@ -2,20 +2,20 @@
 
 ghost use Rattle.std.specs.Prelude.{◌≡◌, [], ◌+◌, ◌≤◌, ◌∷◌, ◌↔◌, length, IsTrue, IfOk, IfSome, MatchOption};
 ghost use Rattle.decl_core.specs.ObjectMap.{object_of};
-ghost use Rattle.front_core.specs.Front.{opening_of};
-ghost use Rattle.front_core.specs.Past.{events_in};
-ghost use Rattle.past_core.specs.Found.{LeavesSame};
+ghost use Rattle.live_core.specs.Front.{opening_of};
+ghost use Rattle.live_core.specs.Past.{events_in};
+ghost use Rattle.path_count.specs.Found.{LeavesSame};
 ghost use Rattle.recover_core.specs.Clients.{reply_in};
 ghost use Rattle.recover_core.specs.Chain.{IsSameCall, IsLineFor, AreLinesFor, IsKnown, AreKnown, AreNumbered, Follows, Differs};
 
 use crate::recover::Recovered;
 use decl_core::object::Object;
-use front_core::front::{Answer, Client, Front, KeptCall};
-use front_core::past::{PastRun, events_of};
 use guest_core::guests::Guests;
 use guest_core::kept::Kept;
-use past_core::past::counters_behind;
+use live_core::front::{Answer, Client, Front, KeptCall};
+use live_core::past::{PastRun, events_of};
 use path_count::counters::Counters;
+use path_count::past::counters_behind;
 use path_tree::node::OpId;
 use std::alloc::{AllocError, Global};
 use value_core::encode::encode;

@@ -3,15 +3,15 @@
 ghost use Rattle.std.specs.Prelude.{◌≡◌, ◌≢◌, ◌⊎◌, ◌+◌, ◌<◌, ◌≤◌, ℕ, length, List, [], ◌∷◌, IsTrue, IfOk, IfSome, IfNone, Some, None, Ok, true, false};
 ghost use Rattle.guest_core.specs.Guests.{Guests as AllGuests, IsNamed, guest_of};
 ghost use Rattle.guest_core.specs.Keys.{asks};
-ghost use Rattle.front_core.specs.declared.front.KeptCall.{KeptCall as KeptCall_of};
+ghost use Rattle.live_core.specs.declared.front.KeptCall.{KeptCall as KeptCall_of};
 ghost use Rattle.guest_core.specs.Steps.{asked, ended, admitted, Does};
 ghost use Rattle.recover_core.specs.Clients.{Remembers, HasNext, Recalls, Opens, OpenAll};
 ghost use Rattle.recover_core.specs.Odd.{IsHeldUp, CannotCome};
 
 use apply_core::reply::Reply;
-use front_core::front::{Answer, Client, KeptCall};
 use guest_core::guests::{AdmitFault, Guests};
 use guest_core::keys::{AskFault, MOST_KEPT};
+use live_core::front::{Answer, Client, KeptCall};
 use path_tree::name::Name;
 use path_tree::node::OpId;
 use std::alloc::{AllocError, Global};

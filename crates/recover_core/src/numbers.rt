@@ -1,12 +1,12 @@
 //! The numbers that clients are told.
 
 ghost use Rattle.std.specs.Prelude.{◌≡◌, ◌+◌, ◌-◌, ◌<◌, ◌≤◌, ◌^◌, ◌↔◌, IsTrue, IfOk, IfSome, IfNone, slice_get};
-ghost use Rattle.replay_core.specs.Carried.{carried_calls};
+ghost use Rattle.audit_core.specs.Carried.{carried_calls};
 ghost use Rattle.recover_core.specs.Carried.{calls_of, AreCounted, told_by};
 
-use front_core::front::CarriedCall;
-use replay_core::carried::Carried;
-use short_core::slim::Slims;
+use apply_core::slim::Slims;
+use audit_core::carried::Carried;
+use live_core::front::CarriedCall;
 use std::alloc::{AllocError, Global};
 
 // The numbers of calls as their clients were told them.

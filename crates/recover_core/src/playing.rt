@@ -3,23 +3,23 @@
 ghost use Rattle.std.specs.Prelude.{◌≡◌, ◌+◌, ◌≤◌, ◌<◌, ◌^◌, IsTrue, List, ℕ, IfOk, IfErr, cond, length, false};
 ghost use Rattle.audit_core.specs.View.{told_view};
 ghost use Rattle.decl_core.specs.ObjectMap.{object_of};
-ghost use Rattle.replay_core.specs.Steps.{ran, cancelled, named};
-ghost use Rattle.replay_core.specs.Stands.{known_call};
+ghost use Rattle.audit_core.specs.Steps.{ran, cancelled, named};
+ghost use Rattle.audit_core.specs.EpochStands.{known_call};
 ghost use Rattle.recover_core.specs.Clients.{Makes};
 ghost use Rattle.recover_core.specs.Odd.{IsOdd, CannotCome, IsOddNote};
-ghost use Rattle.front_core.specs.declared.front.CarriedCall.{CarriedCall as CarriedCall_of};
+ghost use Rattle.live_core.specs.declared.front.CarriedCall.{CarriedCall as CarriedCall_of};
 ghost use Rattle.recover_core.specs.Playing.{TakesNote, Counts, IsRest, PlaysAll};
 
 use crate::clients::{admit, remember_cancelled, remember_ended};
 use crate::lines::split_line;
 use crate::numbers::Numbers;
 use apply_core::reply::Reply;
+use audit_core::epoch_replay::{Known, Note, Replay};
 use audit_core::told::ToldReply;
 use audit_core::verdict::Fault;
 use decl_core::object::Object;
 use guest_core::guests::Guests;
 use path_tree::name::Name;
-use replay_core::replay::{Known, Note, Replay};
 use std::alloc::{AllocError, Global};
 use value_core::datum::Datum;
 

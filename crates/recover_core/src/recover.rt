@@ -3,9 +3,9 @@
 ghost use Rattle.std.specs.Prelude.{◌≡◌, ◌+◌, ◌<◌, ◌^◌, ℕ, length, IfOk, IfSome, IfNone, MatchResult};
 ghost use Rattle.decl_core.specs.ObjectForm.{ObjectForm};
 ghost use Rattle.decl_core.specs.ObjectMap.{object_of};
-ghost use Rattle.front_core.specs.Front.{Opening, opening_of};
+ghost use Rattle.live_core.specs.Front.{Opening, opening_of};
 ghost use Rattle.guest_core.specs.Guests.{Guests as AllGuests};
-ghost use Rattle.replay_core.specs.Steps.{Heard, nothing_heard};
+ghost use Rattle.audit_core.specs.Steps.{Heard, nothing_heard};
 ghost use Rattle.recover_core.specs.Carried.{AreCounted};
 ghost use Rattle.recover_core.specs.Clients.{OpenAll};
 ghost use Rattle.recover_core.specs.Playing.{PlayStands};
@@ -14,13 +14,13 @@ ghost use Rattle.recover_core.specs.Recovered.{ComesTo, IsBehind, IsOddFront, Re
 use crate::clients::{Odd, open_all};
 use crate::numbers::{Numbers, carried_of, uncounted};
 use crate::playing::{Playing, Refused, play};
+use audit_core::epoch_replay::{Played, Replay};
 use audit_core::verdict::Fault;
 use decl_core::object::Object;
-use front_core::front::Front;
-use front_core::past::events_of;
-use front_core::source::source_of;
 use guest_core::guests::Guests;
-use replay_core::replay::{Played, Replay};
+use live_core::front::Front;
+use live_core::past::events_of;
+use live_core::source::source_of;
 use std::alloc::{AllocError, Global};
 
 /// What clients of an object there may be, and when it is.

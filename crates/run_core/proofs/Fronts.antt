@@ -1,15 +1,15 @@
 -- What was read of a part, page by page.
 use Rattle.std.proofs.Common.{◌≡◌, ℕ, zero, suc, ◌+◌, ◌≤◌, List, [], ◌∷◌, ◌++◌, length, take, Option, Some, None, slice_get, refl, sym, ap, ◌∙◌, subst, arith, append_assoc}
 use Rattle.std.proofs.lemmas.List.{take_all, append-nil}
-use Rattle.hand_core.specs.Device.{Assignment, IsWhole, bytes_of}
-use Rattle.hand_core.specs.declared.hand.Stamp.{Stamp}
+use Rattle.device_core.specs.Device.{Assignment, IsWhole, bytes_of}
+use Rattle.device_core.specs.declared.hand.Stamp.{Stamp}
 use Rattle.page_core.specs.Bytes.{one_behind, list_bytes, AreWhole, IsPage}
 use Rattle.page_core.specs.PartPins.{pin_at}
 use Rattle.page_core.proofs.ListBytes.{some_same}
-use Rattle.call_core.specs.Calls.{Call}
-use Rattle.call_core.specs.Read.{PinIsRead}
-use Rattle.seen_core.specs.Seen.{IsPaged, IsPartRead}
-use Rattle.seen_core.specs.Seen.{IsFront as IsFirst}
+use Rattle.run_core.specs.Calls.{Call}
+use Rattle.run_core.specs.Read.{PinIsRead}
+use Rattle.run_core.specs.Seen.{IsPaged, IsPartRead}
+use Rattle.run_core.specs.Seen.{IsFront as IsFirst}
 use Rattle.run_core.specs.Phases.{IsFront}
 
 -- some bytes in front of a list whose bytes are there

@@ -4,16 +4,16 @@ use Rattle.std.specs.Prelude.{◌≢◌}
 use Rattle.std.proofs.lemmas.Bool.{eqb-true}
 use Rattle.decl_core.specs.Form.{Statements}
 use Rattle.decl_core.specs.Touched.{Writes}
-use Rattle.hand_core.specs.declared.hand.Stamp.{Stamp}
+use Rattle.device_core.specs.declared.hand.Stamp.{Stamp}
 use Rattle.apply_core.specs.declared.reply.Reply.{Reply}
 use Rattle.apply_core.specs.declared.reply.Reply.TheVariants.{Done, Refused, Failed}
 use Rattle.page_core.specs.declared.plan.PageWrite.{PageWrite}
 use Rattle.page_core.specs.Laws.{PartRenewal}
 use Rattle.page_core.specs.PartPins.{PartPin, pin_at, pins_by}
-use Rattle.judge_core.specs.declared.judge.Change.{Change}
-use Rattle.judge_core.specs.Written.{WritesInOrder, parts_changed}
-use Rattle.judge_core.proofs.Touching.{surely, written_or_not}
-use Rattle.call_core.specs.Planned.{AreRenewals, no_part, same, renewed, IsPlanned}
+use Rattle.run_core.specs.declared.judge.Change.{Change}
+use Rattle.run_core.specs.Written.{WritesInOrder, parts_changed}
+use Rattle.run_core.proofs.Touching.{surely, written_or_not}
+use Rattle.run_core.specs.CallPlanned.{AreRenewals, no_part, same, renewed, IsPlanned}
 use Rattle.run_core.specs.Outcomes.{if_done}
 
 -- there is none

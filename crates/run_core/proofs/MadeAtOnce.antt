@@ -3,11 +3,11 @@ use Rattle.std.proofs.Common.{◌≡◌, ◌⊎◌, inl, inr, ℕ, zero, suc, �
 use Rattle.std.specs.Prelude.{Result, slice_get}
 use Rattle.std.specs.Result.{IsErrOf}
 use Rattle.std.proofs.lemmas.List.{append-nil}
-use Rattle.hand_core.specs.declared.hand.HandFault.{HandFault}
-use Rattle.hand_core.specs.declared.hand.HandFault.TheVariants as faults
-use Rattle.hand_core.specs.declared.hand.Stamp.{Stamp}
-use Rattle.hand_core.specs.Device.{AreServed as ServesEach}
-use Rattle.hand_core.specs.Made.{Made, reads}
+use Rattle.device_core.specs.declared.hand.HandFault.{HandFault}
+use Rattle.device_core.specs.declared.hand.HandFault.TheVariants as faults
+use Rattle.device_core.specs.declared.hand.Stamp.{Stamp}
+use Rattle.device_core.specs.Device.{AreServed as ServesEach}
+use Rattle.device_core.specs.Made.{Made, reads}
 use Rattle.apply_core.specs.declared.reply.Failure.{Failure}
 use Rattle.apply_core.specs.declared.reply.Failure.TheVariants as failures
 use Rattle.apply_core.specs.declared.reply.Reply.{Reply}
@@ -19,8 +19,8 @@ use Rattle.page_core.proofs.Calling.{made_both}
 use Rattle.page_core.proofs.ListBytes.{some_same}
 use Rattle.known_core.specs.Masks.{IsOneMore}
 use Rattle.known_core.specs.Wanted.{IsNextPage}
-use Rattle.call_core.specs.Calls.{Call, IsNext}
-use Rattle.seen_core.specs.Seen.{IsPaged}
+use Rattle.run_core.specs.Calls.{Call, IsNext}
+use Rattle.run_core.specs.Seen.{IsPaged}
 use Rattle.run_core.specs.AtOnce.{ReadsPart, ReadsParts, reads_none, reads_part, ReadsMore, no_more, one_more, one_fails, FailsFor, WritesAll, GoesOn, RunsAtOnce}
 use Rattle.run_core.specs.Calling.{IsStampAt}
 use Rattle.run_core.specs.Phases.{failure_of}

@@ -6,11 +6,11 @@ use Rattle.value_core.specs.declared.kind.Kind.{Kind}
 use Rattle.value_core.specs.declared.kind.Kind.TheVariants as kind
 use Rattle.decl_core.specs.Bodies.{body_of}
 use Rattle.decl_core.specs.declared.object.Operation.{Operation}
-use Rattle.hand_core.specs.Device.{Assignment}
+use Rattle.device_core.specs.Device.{Assignment}
 use Rattle.known_core.specs.Wanted.{IsWanted}
-use Rattle.judge_core.proofs.Touching.{read}
-use Rattle.call_core.specs.Calls.{Call}
-use Rattle.seen_core.specs.Seen.{IsPaged, IsSeen}
+use Rattle.run_core.proofs.Touching.{read}
+use Rattle.run_core.specs.Calls.{Call}
+use Rattle.run_core.specs.Seen.{IsPaged, IsSeen}
 
 -- what is not otherwise than an array of integers that is read is one
 kind_wanted : (operation : Operation) (p : ℕ) (held : Option (Option Kind)) → slice_get operation.kinds.items p ≡ held → ((IsWanted operation p → ⊥) → ⊥) → IsWanted operation p

@@ -6,8 +6,8 @@ use Rattle.std.specs.Arc.{arc_value}
 use Rattle.decl_core.specs.Bodies.{body_of}
 use Rattle.decl_core.specs.Touched.{Writes}
 use Rattle.page_core.specs.PartPins.{pin_at}
-use Rattle.call_core.specs.declared.task.Task.{Task}
-use Rattle.call_core.specs.Tasks.{task_call}
+use Rattle.run_core.specs.declared.task.Task.{Task}
+use Rattle.run_core.specs.Tasks.{task_call}
 use Rattle.run_core.specs.declared.phase.Phase.{Phase}
 use Rattle.run_core.specs.declared.run.Run.{Run}
 use Rattle.run_core.specs.Phases.{news_in, HasItsReads}

@@ -4,14 +4,14 @@ use Rattle.std.specs.Prelude.{◌≢◌}
 use Rattle.std.proofs.lemmas.Bool.{cases_lt}
 use Rattle.value_core.specs.declared.datum.Datum.{Datum}
 use Rattle.decl_core.specs.declared.object.Operation.{Operation}
-use Rattle.hand_core.specs.declared.hand.HandFault.{HandFault}
-use Rattle.hand_core.specs.declared.hand.Stamp.{Stamp}
+use Rattle.device_core.specs.declared.hand.HandFault.{HandFault}
+use Rattle.device_core.specs.declared.hand.Stamp.{Stamp}
 use Rattle.apply_core.specs.declared.need.Need.TheVariants as needs
 use Rattle.apply_core.specs.declared.reply.Reply.{Reply}
 use Rattle.apply_core.specs.declared.reply.Reply.TheVariants as replies
 use Rattle.page_core.specs.declared.plan.PageWrite.{PageWrite}
-use Rattle.call_core.specs.Calls.{Call, ReadsNone}
-use Rattle.judge_core.specs.Verdicts.{HasReads}
+use Rattle.run_core.specs.Calls.{Call, ReadsNone}
+use Rattle.run_core.specs.Verdicts.{HasReads}
 use Rattle.run_core.specs.declared.phase.More.{More}
 use Rattle.run_core.specs.declared.phase.Read.{Read}
 use Rattle.run_core.specs.declared.phase.Phase.{Phase}

@@ -1,13 +1,13 @@
 -- What a run tells.
 use Rattle.std.proofs.Common.{◌≡◌, List, refl, sym, subst}
-use Rattle.hand_core.specs.declared.hand.Stamp.{Stamp}
-use Rattle.hand_core.specs.Device.{Assignment}
+use Rattle.device_core.specs.declared.hand.Stamp.{Stamp}
+use Rattle.device_core.specs.Device.{Assignment}
 use Rattle.apply_core.specs.declared.reply.Failure.TheVariants as failures
 use Rattle.apply_core.specs.declared.reply.Reply.{Reply}
 use Rattle.apply_core.specs.declared.reply.Reply.TheVariants.{Done, Refused, Failed}
 use Rattle.page_core.specs.PartPins.{PartPin}
-use Rattle.call_core.specs.Calls.{Call}
-use Rattle.call_core.specs.Truths.{IsTrueAt}
+use Rattle.run_core.specs.Calls.{Call}
+use Rattle.run_core.specs.Truths.{IsTrueAt}
 use Rattle.run_core.specs.Outcomes.{if_done}
 use Rattle.run_core.specs.Phases.{IsRenewedBy}
 

@@ -4,25 +4,25 @@ use Rattle.std.specs.Prelude.{slice_get, slice_set}
 use Rattle.value_core.specs.declared.datum.Datum.{Datum}
 use Rattle.decl_core.specs.Bodies.{body_of}
 use Rattle.decl_core.specs.Meaning.{apply_body}
-use Rattle.hand_core.specs.declared.hand.Stamp.{Stamp}
-use Rattle.hand_core.specs.Device.{Assignment, Holds}
+use Rattle.device_core.specs.declared.hand.Stamp.{Stamp}
+use Rattle.device_core.specs.Device.{Assignment, Holds}
 use Rattle.apply_core.specs.declared.reply.Reply.TheVariants as replies
 use Rattle.page_core.specs.declared.plan.PageWrite.{PageWrite}
 use Rattle.page_core.specs.PartPins.{PartPin, pins_by}
 use Rattle.page_core.specs.Renewed.{with_sealed, AreSealed}
 use Rattle.page_core.proofs.ListBytes.{some_same}
-use Rattle.judge_core.specs.declared.judge.Change.{Change}
-use Rattle.judge_core.specs.Given.{IsDone, AreChanges}
-use Rattle.judge_core.specs.Written.{WritesInOrder, parts_changed}
-use Rattle.call_core.specs.declared.plan.PagePlan.{PagePlan}
-use Rattle.call_core.specs.Calls.{Call}
+use Rattle.run_core.specs.declared.judge.Change.{Change}
+use Rattle.run_core.specs.Given.{IsDone, AreChanges}
+use Rattle.run_core.specs.Written.{WritesInOrder, parts_changed}
+use Rattle.run_core.specs.declared.plan.PagePlan.{PagePlan}
+use Rattle.run_core.specs.Calls.{Call}
 use Rattle.page_core.specs.Laws.{PartRenewal, ArePlanned, one_part}
 use Rattle.page_core.specs.Laws.{no_part as no_row}
-use Rattle.call_core.specs.Planned.{IsPlanned, AreRenewals, no_part, same, renewed}
-use Rattle.call_core.specs.Read.{AreRead}
-use Rattle.call_core.specs.Truths.{PinHolds, AreLeft, IsTrueAt}
-use Rattle.seen_core.specs.Laws.{IsPlanOf}
-use Rattle.call_core.proofs.Left.{new_pins_are_left, changed_are_read}
+use Rattle.run_core.specs.CallPlanned.{IsPlanned, AreRenewals, no_part, same, renewed}
+use Rattle.run_core.specs.Read.{AreRead}
+use Rattle.run_core.specs.Truths.{PinHolds, AreLeft, IsTrueAt}
+use Rattle.run_core.specs.SeenLaws.{IsPlanOf}
+use Rattle.run_core.proofs.Left.{new_pins_are_left, changed_are_read}
 use Rattle.run_core.specs.Phases.{IsSealedSoFar, IsWritten, IsRenewedBy}
 
 -- one file more is sealed

@@ -2,10 +2,10 @@
 use Rattle.std.proofs.Common.{◌≡◌, ℕ, suc, ◌<◌, List, [], ◌∷◌, length, Option, Some, refl, ◌∙◌, arith}
 use Rattle.std.specs.Prelude.{slice_get, slice_set}
 use Rattle.value_core.specs.declared.datum.Datum.{Datum}
-use Rattle.hand_core.specs.declared.hand.HandFault.{HandFault}
-use Rattle.hand_core.specs.declared.hand.HandFault.TheVariants.{Device, Memory}
-use Rattle.hand_core.specs.declared.hand.Stamp.{Stamp}
-use Rattle.hand_core.specs.Device.{Assignment}
+use Rattle.device_core.specs.declared.hand.HandFault.{HandFault}
+use Rattle.device_core.specs.declared.hand.HandFault.TheVariants.{Device, Memory}
+use Rattle.device_core.specs.declared.hand.Stamp.{Stamp}
+use Rattle.device_core.specs.Device.{Assignment}
 use Rattle.apply_core.specs.declared.reply.Failure.{Failure}
 use Rattle.apply_core.specs.declared.reply.Failure.TheVariants as failures
 use Rattle.apply_core.specs.declared.reply.Reply.TheVariants as replies
@@ -14,11 +14,11 @@ use Rattle.page_core.specs.Laws.{no_part as no_row}
 use Rattle.page_core.specs.PartPins.{PartPin}
 use Rattle.page_core.specs.Renewed.{with_sealed, ArePlaces}
 use Rattle.page_core.proofs.Renewing.{set_long}
-use Rattle.judge_core.specs.Given.{IsDamaged}
-use Rattle.call_core.specs.Calls.{Call}
-use Rattle.call_core.specs.Planned.{IsPlanned, no_part}
-use Rattle.call_core.specs.Truths.{PinHolds, IsTrueAt}
-use Rattle.seen_core.specs.Laws.{IsPlanOf}
+use Rattle.run_core.specs.Given.{IsDamaged}
+use Rattle.run_core.specs.Calls.{Call}
+use Rattle.run_core.specs.CallPlanned.{IsPlanned, no_part}
+use Rattle.run_core.specs.Truths.{PinHolds, IsTrueAt}
+use Rattle.run_core.specs.SeenLaws.{IsPlanOf}
 use Rattle.run_core.specs.Phases.{failure_of, IsRenewedBy}
 use Rattle.run_core.proofs.Writing.{all_left}
 

@@ -1,8 +1,8 @@
 -- The device calls of a call that is run at once.
 use Rattle.std.specs.Prelude.{◌≡◌, ℕ, ◌+◌, ◌≤◌, List, [], ◌∷◌, ◌++◌, length, Option, Some, None, Ok, Err}
-use Rattle.hand_core.specs.declared.hand.HandFault.{HandFault}
-use Rattle.hand_core.specs.declared.hand.Stamp.{Stamp}
-use Rattle.hand_core.specs.Made.{Made, reads}
+use Rattle.device_core.specs.declared.hand.HandFault.{HandFault}
+use Rattle.device_core.specs.declared.hand.Stamp.{Stamp}
+use Rattle.device_core.specs.Made.{Made, reads}
 use Rattle.apply_core.specs.declared.reply.Reply.{Reply}
 use Rattle.apply_core.specs.declared.reply.Reply.TheVariants as replies
 use Rattle.page_core.specs.declared.plan.PageWrite.{PageWrite}
@@ -10,8 +10,8 @@ use Rattle.page_core.specs.Calls.{AreMade, ReadInOrder, WritesPages}
 use Rattle.page_core.specs.PartPins.{pin_at}
 use Rattle.known_core.specs.Masks.{IsOneMore}
 use Rattle.known_core.specs.Wanted.{IsNextPage}
-use Rattle.call_core.specs.Calls.{Call, IsNext}
-use Rattle.seen_core.specs.Seen.{IsPaged}
+use Rattle.run_core.specs.Calls.{Call, IsNext}
+use Rattle.run_core.specs.Seen.{IsPaged}
 use Rattle.run_core.specs.Calling.{IsStampAt}
 use Rattle.run_core.specs.Phases.{failure_of}
 

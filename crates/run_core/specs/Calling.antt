@@ -1,12 +1,12 @@
 -- The device calls of a step.
 use Rattle.std.specs.Prelude.{◌≡◌, ◌≢◌, ℕ, ◌⊎◌, List, [], ◌∷◌, ◌++◌, Option, Some, None, Result, Ok, Err, slice_get}
 use Rattle.std.specs.Result.{IsErr}
-use Rattle.hand_core.specs.declared.hand.HandFault.{HandFault}
-use Rattle.hand_core.specs.declared.hand.Pen.{Pen}
-use Rattle.hand_core.specs.declared.hand.Stamp.{Stamp}
-use Rattle.hand_core.specs.Made.{Made, creates, appends, seals, discards, reads}
+use Rattle.device_core.specs.declared.hand.HandFault.{HandFault}
+use Rattle.device_core.specs.declared.hand.Pen.{Pen}
+use Rattle.device_core.specs.declared.hand.Stamp.{Stamp}
+use Rattle.device_core.specs.Made.{Made, creates, appends, seals, discards, reads}
 use Rattle.page_core.specs.PartPins.{pin_at}
-use Rattle.call_core.specs.Calls.{Call}
+use Rattle.run_core.specs.Calls.{Call}
 use Rattle.run_core.specs.declared.phase.Phase.{Phase}
 use Rattle.run_core.specs.declared.phase.Phase.TheVariants.{Reading, Paging, Creating, Appending, Sealing, Ended}
 use Rattle.run_core.specs.Phases.{failure_of}

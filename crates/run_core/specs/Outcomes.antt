@@ -1,11 +1,11 @@
 -- What an outcome tells.
 use Rattle.std.specs.Prelude.{◌≡◌, List, []}
 use Rattle.std.specs.Arc.{arc_value}
-use Rattle.hand_core.specs.declared.hand.Stamp.{Stamp}
+use Rattle.device_core.specs.declared.hand.Stamp.{Stamp}
 use Rattle.apply_core.specs.declared.reply.Reply.{Reply}
 use Rattle.apply_core.specs.declared.reply.Reply.TheVariants.{Done, Refused, Failed}
 use Rattle.page_core.specs.PartPins.{PartPin}
-use Rattle.call_core.specs.Calls.{Call, call_of}
+use Rattle.run_core.specs.Calls.{Call, call_of}
 use Rattle.run_core.specs.declared.outcome.Outcome.{Outcome}
 
 abbrev pub outcome_call : Outcome → Call

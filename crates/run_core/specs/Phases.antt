@@ -3,10 +3,10 @@ use Rattle.std.specs.Prelude.{◌≡◌, ℕ, ◌+◌, ◌-◌, ◌*◌, ◌^◌
 use Rattle.value_core.specs.declared.datum.Datum.{Datum}
 use Rattle.decl_core.specs.Bodies.{body_of}
 use Rattle.decl_core.specs.declared.object.Operation.{Operation}
-use Rattle.hand_core.specs.declared.hand.HandFault.{HandFault}
-use Rattle.hand_core.specs.declared.hand.HandFault.TheVariants as faults
-use Rattle.hand_core.specs.declared.hand.Stamp.{Stamp}
-use Rattle.hand_core.specs.Device.{Assignment}
+use Rattle.device_core.specs.declared.hand.HandFault.{HandFault}
+use Rattle.device_core.specs.declared.hand.HandFault.TheVariants as faults
+use Rattle.device_core.specs.declared.hand.Stamp.{Stamp}
+use Rattle.device_core.specs.Device.{Assignment}
 use Rattle.apply_core.specs.declared.reply.Failure.{Failure}
 use Rattle.apply_core.specs.declared.reply.Failure.TheVariants as failures
 use Rattle.apply_core.specs.declared.reply.Reply.{Reply}
@@ -14,19 +14,19 @@ use Rattle.apply_core.specs.declared.reply.Reply.TheVariants.{Done, Refused, Fai
 use Rattle.page_core.specs.declared.plan.PageWrite.{PageWrite}
 use Rattle.page_core.specs.Bytes.{list_bytes, AreWhole}
 use Rattle.known_core.specs.Masks.{unread}
-use Rattle.judge_core.specs.Reads.{IsDue}
+use Rattle.run_core.specs.Reads.{IsDue}
 use Rattle.page_core.specs.PartPins.{PartPin, pin_at, pins_by}
 use Rattle.page_core.specs.Renewed.{with_sealed, AreSealed}
-use Rattle.judge_core.specs.declared.judge.Change.{Change}
-use Rattle.judge_core.specs.Given.{IsDone, AreChanges}
-use Rattle.judge_core.specs.Verdicts.{HasReads}
-use Rattle.judge_core.specs.Written.{WritesInOrder, parts_changed}
-use Rattle.call_core.specs.declared.plan.PagePlan.{PagePlan}
-use Rattle.call_core.specs.Calls.{Call}
-use Rattle.call_core.specs.Planned.{IsPlanned, AreNewPins}
-use Rattle.call_core.specs.Read.{AreRead}
-use Rattle.call_core.specs.Truths.{PinHolds, IsTrueAt}
-use Rattle.seen_core.specs.Seen.{IsSeen, IsSeenBefore}
+use Rattle.run_core.specs.declared.judge.Change.{Change}
+use Rattle.run_core.specs.Given.{IsDone, AreChanges}
+use Rattle.run_core.specs.Verdicts.{HasReads}
+use Rattle.run_core.specs.Written.{WritesInOrder, parts_changed}
+use Rattle.run_core.specs.declared.plan.PagePlan.{PagePlan}
+use Rattle.run_core.specs.Calls.{Call}
+use Rattle.run_core.specs.CallPlanned.{IsPlanned, AreNewPins}
+use Rattle.run_core.specs.Read.{AreRead}
+use Rattle.run_core.specs.Truths.{PinHolds, IsTrueAt}
+use Rattle.run_core.specs.Seen.{IsSeen, IsSeenBefore}
 use Rattle.run_core.specs.declared.phase.Phase.{Phase}
 use Rattle.run_core.specs.declared.phase.Phase.TheVariants.{Reading, Paging, Creating, Appending, Sealing, Ended}
 use Rattle.run_core.specs.declared.phase.Plan.{Plan}

@@ -1,19 +1,19 @@
 -- What a run is, to its callers: its call, how it ended, what it has sealed, and what it has found, by an assignment.
 use Rattle.std.specs.Prelude.{◌≡◌, ◌≢◌, ℕ, List, Option, Some, None}
 use Rattle.std.proofs.Common.{refl}
-use Rattle.hand_core.specs.Device.{Assignment}
-use Rattle.hand_core.specs.Made.{Made}
-use Rattle.hand_core.specs.declared.hand.Stamp.{Stamp}
+use Rattle.device_core.specs.Device.{Assignment}
+use Rattle.device_core.specs.Made.{Made}
+use Rattle.device_core.specs.declared.hand.Stamp.{Stamp}
 use Rattle.page_core.specs.PartPins.{PartPin}
 use Rattle.run_core.specs.declared.phase.Phase.{Phase}
 use Rattle.run_core.specs.declared.phase.Phase.TheVariants.{Reading, Paging, Creating, Appending, Sealing, Ended}
 use Rattle.apply_core.specs.declared.reply.Reply.{Reply}
 use Rattle.run_core.specs.declared.run.Run.{Run}
 use Rattle.run_core.specs.Calling.{StepMakes}
-use Rattle.call_core.specs.Calls.{Call}
+use Rattle.run_core.specs.Calls.{Call}
 use Rattle.run_core.specs.Steps.{Place, place_in, ending_at, sealed_at}
-use Rattle.call_core.specs.Tasks.{task_call}
-use Rattle.call_core.specs.Truths.{PinsAreWhole}
+use Rattle.run_core.specs.Tasks.{task_call}
+use Rattle.run_core.specs.Truths.{PinsAreWhole}
 use Rattle.run_core.specs.Phases.{ending_of, sealed_in, news_in, gone_in, pen_in, PenHoldsIn, FoundBy, work_in}
 
 abbrev pub run_call : Run → Call

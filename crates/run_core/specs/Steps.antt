@@ -4,8 +4,8 @@ use Rattle.std.specs.Prelude.{slice_get}
 use Rattle.value_core.specs.declared.datum.Datum.{Datum}
 use Rattle.decl_core.specs.Bodies.{body_of}
 use Rattle.decl_core.specs.Touched.{Reads}
-use Rattle.hand_core.specs.declared.hand.HandFault.{HandFault}
-use Rattle.hand_core.specs.declared.hand.Stamp.{Stamp}
+use Rattle.device_core.specs.declared.hand.HandFault.{HandFault}
+use Rattle.device_core.specs.declared.hand.Stamp.{Stamp}
 use Rattle.apply_core.specs.declared.reply.Failure.TheVariants as failures
 use Rattle.apply_core.specs.declared.reply.Reply.{Reply}
 use Rattle.apply_core.specs.declared.reply.Reply.TheVariants as replies
@@ -15,8 +15,8 @@ use Rattle.page_core.specs.declared.plan.PageWrite.{PageWrite}
 use Rattle.page_core.specs.PartPins.{pin_at}
 use Rattle.known_core.specs.Masks.{IsOneMore, unread}
 use Rattle.known_core.specs.Wanted.{IsNextPage}
-use Rattle.call_core.specs.Calls.{Call, IsNext, ReadsNone}
-use Rattle.seen_core.specs.Seen.{IsFront}
+use Rattle.run_core.specs.Calls.{Call, IsNext, ReadsNone}
+use Rattle.run_core.specs.Seen.{IsFront}
 use Rattle.run_core.specs.declared.phase.Phase.{Phase}
 use Rattle.run_core.specs.declared.phase.Phase.TheVariants.{Reading, Paging, Creating, Appending, Sealing, Ended}
 use Rattle.run_core.specs.Phases.{IsSettled, failure_of}

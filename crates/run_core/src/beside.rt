@@ -1,13 +1,13 @@
 //! Runs that write on one hand.
 
 ghost use Rattle.std.specs.Prelude.{◌≡◌};
-ghost use Rattle.hand_core.specs.Device.{Assignment};
+ghost use Rattle.device_core.specs.Device.{Assignment};
 ghost use Rattle.run_core.specs.Runs.{AreApart, PenHolds, run_call, run_place};
 ghost use Rattle.run_core.specs.Steps.{Follows};
 
 use crate::run::Run;
 use crate::step::StepAnswer;
-use hand_core::hand::Hand;
+use device_core::hand::Hand;
 
 /// A step of one run, beside another run that writes on the same hand: the two write no file together, and
 /// what the resting one appended stays in its file.

@@ -1,14 +1,14 @@
 //! How a run ends.
 
 ghost use Rattle.std.specs.Prelude.{◌≡◌, ◌≢◌, [], ℕ, List, Some, None};
-ghost use Rattle.hand_core.specs.Device.{Assignment};
-ghost use Rattle.call_core.specs.Calls.{Call};
-ghost use Rattle.call_core.specs.Truths.{IsTrueAt};
+ghost use Rattle.device_core.specs.Device.{Assignment};
+ghost use Rattle.run_core.specs.Calls.{Call};
+ghost use Rattle.run_core.specs.Truths.{IsTrueAt};
 ghost use Rattle.apply_core.specs.declared.reply.Reply.TheVariants as replies;
 ghost use Rattle.std.specs.Arc.{arc_value};
 ghost use Rattle.decl_core.specs.Bodies.{body_of};
 ghost use Rattle.decl_core.specs.Touched.{Writes};
-ghost use Rattle.call_core.specs.Tasks.{task_call};
+ghost use Rattle.run_core.specs.Tasks.{task_call};
 ghost use Rattle.page_core.specs.PartPins.{PartPin, pin_at, pins_by};
 ghost use Rattle.run_core.specs.Outcomes.{outcome_call, outcome_reply, outcome_sealed, outcome_news, outcome_gone};
 ghost use Rattle.run_core.specs.Outcomes.{IsFresh};
@@ -18,11 +18,11 @@ ghost use Rattle.run_core.specs.Steps.{place_in, at_end};
 
 use crate::outcome::Outcome;
 use crate::phase::{Leaving, Phase};
+use crate::plan::PagePlan;
+use crate::task::Task;
 use apply_core::reply::{Failure, Reply};
-use call_core::plan::PagePlan;
-use call_core::task::Task;
 use decl_core::id::MOST_PARTS;
-use hand_core::hand::{HandFault, Stamp};
+use device_core::hand::{HandFault, Stamp};
 use page_core::part_pins::PartPins;
 use std::alloc::Global;
 

@@ -5,12 +5,12 @@ ghost use Rattle.std.specs.Arc.{arc_value};
 ghost use Rattle.decl_core.specs.Bodies.{body_of};
 ghost use Rattle.decl_core.specs.Touched.{Writes};
 ghost use Rattle.page_core.specs.PartPins.{pin_at};
-ghost use Rattle.call_core.specs.Planned.{AreSized};
+ghost use Rattle.run_core.specs.CallPlanned.{AreSized};
 
 use apply_core::reply::Reply;
 use decl_core::id::MOST_PARTS;
 use decl_core::object::Operation;
-use hand_core::hand::Stamp;
+use device_core::hand::Stamp;
 use page_core::part_pins::PartPins;
 use std::mem;
 use std::sync::Arc;

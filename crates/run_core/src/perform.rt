@@ -3,11 +3,11 @@
 ghost use Rattle.std.specs.Prelude.{◌≡◌, ◌≢◌, ◌⊎◌, ◌<◌, ◌≤◌, ℕ, Some, None};
 ghost use Rattle.decl_core.specs.Bodies.{body_of};
 ghost use Rattle.decl_core.specs.Touched.{Writes};
-ghost use Rattle.hand_core.specs.declared.hand.Stamp.{Stamp};
-ghost use Rattle.hand_core.specs.Device.{Assignment, Always, Failed as DeviceFailed};
+ghost use Rattle.device_core.specs.declared.hand.Stamp.{Stamp};
+ghost use Rattle.device_core.specs.Device.{Assignment, Always, Failed as DeviceFailed};
 ghost use Rattle.apply_core.specs.declared.reply.Failure.TheVariants as failures;
 ghost use Rattle.apply_core.specs.declared.reply.Reply.TheVariants as replies;
-ghost use Rattle.call_core.specs.Truths.{IsTrueOf, PinsAreWhole};
+ghost use Rattle.run_core.specs.Truths.{IsTrueOf, PinsAreWhole};
 ghost use Rattle.run_core.specs.Phases.{IsRenewedBy};
 ghost use Rattle.run_core.specs.Runs.{run_call, run_ending, run_place, run_sealed, PenHolds, SoFar};
 ghost use Rattle.run_core.specs.Steps.{Leads, AreServed, PinsServed, at_end};
@@ -17,7 +17,7 @@ ghost use Rattle.page_core.specs.PartPins.{pin_at};
 
 use crate::outcome::Outcome;
 use crate::run::Run;
-use hand_core::hand::Hand;
+use device_core::hand::Hand;
 
 /// Steps until the run has ended.
 pub fn perform<H: Hand>(run: Run, hand: &mut H) -> Outcome

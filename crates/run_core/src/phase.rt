@@ -2,13 +2,13 @@
 
 ghost use Rattle.std.specs.Prelude.{◌≡◌, ◌<◌, ◌≤◌, length, slice_index};
 ghost use Rattle.std.specs.Int.{bit_at};
-ghost use Rattle.call_core.specs.Planned.{AreSized};
+ghost use Rattle.run_core.specs.CallPlanned.{AreSized};
 
+use crate::plan::PagePlan;
+use crate::seen::Seen;
 use apply_core::reply::Reply;
-use call_core::plan::PagePlan;
-use hand_core::hand::{Pen, Stamp};
+use device_core::hand::{Pen, Stamp};
 use page_core::part_pins::PartPins;
-use seen_core::seen::Seen;
 use value_core::datum::Datum;
 
 /// A run that reads.

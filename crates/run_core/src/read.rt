@@ -5,15 +5,15 @@ ghost use Rattle.std.specs.Prelude.{IfSome, IsTrue, IsFalse, slice_get};
 ghost use Rattle.std.specs.Arc.{arc_value};
 ghost use Rattle.decl_core.specs.Bodies.{body_of};
 ghost use Rattle.decl_core.specs.Touched.{Writes};
-ghost use Rattle.hand_core.specs.declared.hand.Stamp.{Stamp as AStamp};
-ghost use Rattle.hand_core.specs.Device.{Assignment, Failed as DeviceFailed};
+ghost use Rattle.device_core.specs.declared.hand.Stamp.{Stamp as AStamp};
+ghost use Rattle.device_core.specs.Device.{Assignment, Failed as DeviceFailed};
 ghost use Rattle.apply_core.specs.declared.reply.Failure.TheVariants as failures;
 ghost use Rattle.apply_core.specs.declared.reply.Reply.TheVariants as replies;
 ghost use Rattle.page_core.specs.PartPins.{pin_at};
-ghost use Rattle.judge_core.specs.Verdicts.{HasReads};
-ghost use Rattle.call_core.specs.Tasks.{task_call};
-ghost use Rattle.call_core.specs.Truths.{PinsAreWhole};
-ghost use Rattle.seen_core.specs.Seen.{IsFront, IsPartRead, IsSeenBefore};
+ghost use Rattle.run_core.specs.Verdicts.{HasReads};
+ghost use Rattle.run_core.specs.Tasks.{task_call};
+ghost use Rattle.run_core.specs.Truths.{PinsAreWhole};
+ghost use Rattle.run_core.specs.Seen.{IsFront, IsPartRead, IsSeenBefore};
 ghost use Rattle.run_core.specs.Calling.{MakesRead};
 ghost use Rattle.run_core.specs.Phases.{ending_of, sealed_in, news_in, HasNoPen, HasItsReads, IsReadSoFar};
 ghost use Rattle.run_core.specs.Phases.{IsPagedSoFar, FoundBy, work_in};
@@ -21,14 +21,14 @@ ghost use Rattle.run_core.specs.Steps.{Follows, FailsWith, AreServed, IsLastAtFi
 
 use crate::conclude::conclude;
 use crate::ending::{ended, failed};
+use crate::more::read_more;
 use crate::phase::{More, Phase, Read};
+use crate::seen::{Miss, Seen, is_paged};
+use crate::seen_laws::{all_is_seen, next_is_seen};
+use crate::task::Task;
 use apply_core::reply::{Failure, Reply};
-use call_core::task::Task;
-use hand_core::hand::{Hand, HandFault, Stamp};
+use device_core::hand::{Hand, HandFault, Stamp};
 use page_core::read::read_page;
-use seen_core::laws::{all_is_seen, next_is_seen};
-use seen_core::more::read_more;
-use seen_core::seen::{Miss, Seen, is_paged};
 use std::alloc::Global;
 
 // A page of the pin of a part, and how many pages that has.

@@ -4,12 +4,12 @@ ghost use Rattle.std.specs.Prelude.{◌≡◌, ◌≢◌, ◌+◌, ◌<◌, ◌�
 ghost use Rattle.std.specs.Arc.{arc_value};
 ghost use Rattle.decl_core.specs.Bodies.{body_of};
 ghost use Rattle.decl_core.specs.Touched.{Reads, Writes};
-ghost use Rattle.hand_core.specs.declared.hand.Stamp.{Stamp};
-ghost use Rattle.hand_core.specs.Device.{Assignment, IsFree, Failed as DeviceFailed};
+ghost use Rattle.device_core.specs.declared.hand.Stamp.{Stamp};
+ghost use Rattle.device_core.specs.Device.{Assignment, IsFree, Failed as DeviceFailed};
 ghost use Rattle.apply_core.specs.declared.reply.Failure.TheVariants as failures;
 ghost use Rattle.apply_core.specs.declared.reply.Reply.TheVariants as replies;
-ghost use Rattle.call_core.specs.Truths.{IsTrueOf, PinsAreWhole};
-ghost use Rattle.call_core.specs.Tasks.{task_call};
+ghost use Rattle.run_core.specs.Truths.{IsTrueOf, PinsAreWhole};
+ghost use Rattle.run_core.specs.Tasks.{task_call};
 ghost use Rattle.run_core.specs.Steps.{Starts, Follows, FailsWith, AreServed, PinsServed, ReadsItsPart, place_in};
 ghost use Rattle.run_core.specs.Steps.{need_at};
 ghost use Rattle.run_core.specs.Phases.{ending_of, sealed_in, news_in, pen_in, FoundBy, HasItsReads, IsRenewedBy};
@@ -21,14 +21,14 @@ use crate::conclude::conclude;
 use crate::ending::{nothing, outcome_of};
 use crate::outcome::Outcome;
 use crate::phase::{Phase, Read, let_go};
+use crate::seen::Seen;
+use crate::seen_laws::{all_is_seen, next_is_seen, none_is_seen};
 use crate::step::StepAnswer;
+use crate::task::Task;
+use crate::ticket::Ticket;
 use apply_core::need::Need;
 use apply_core::reply::{Failure, Reply};
-use call_core::task::Task;
-use call_core::ticket::Ticket;
-use hand_core::hand::Hand;
-use seen_core::laws::{all_is_seen, next_is_seen, none_is_seen};
-use seen_core::seen::Seen;
+use device_core::hand::Hand;
 use std::alloc::Global;
 use std::mem;
 
@@ -76,7 +76,7 @@ fn first_phase(alloc: Global, task: &Task) -> Phase
 }
 
 impl Run {
-    ghost use Rattle.call_core.specs.Tickets.{ticket_call};
+    ghost use Rattle.run_core.specs.Tickets.{ticket_call};
     ghost use Rattle.run_core.specs.Outcomes.{outcome_call, outcome_reply, outcome_sealed, outcome_news, outcome_gone};
     ghost use Rattle.run_core.specs.Outcomes.{outcome_pins, IsFresh};
     ghost use Rattle.apply_core.specs.declared.need.Need.TheVariants as needs;

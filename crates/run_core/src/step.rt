@@ -1,6 +1,6 @@
 //! What the steps of a run answer.
 
-use hand_core::hand::HandFault;
+use device_core::hand::HandFault;
 
 /// What a step answers.
 #[derive(Clone, Copy, Debug, PartialEq, Eq)]

@@ -1,12 +1,12 @@
 //! The steps of a run that writes the pages of what its body changed.
 
 ghost use Rattle.std.specs.Prelude.{◌≡◌, ◌≢◌, ◌+◌, ◌-◌, ◌*◌, ◌<◌, ◌≤◌, ◌⊎◌, [], ℕ, List, length, Some, None, Option};
-ghost use Rattle.hand_core.specs.declared.hand.Stamp.{Stamp as AStamp};
-ghost use Rattle.hand_core.specs.Device.{Assignment, IsFree, Failed as DeviceFailed};
+ghost use Rattle.device_core.specs.declared.hand.Stamp.{Stamp as AStamp};
+ghost use Rattle.device_core.specs.Device.{Assignment, IsFree, Failed as DeviceFailed};
 ghost use Rattle.apply_core.specs.declared.reply.Failure.TheVariants as failures;
 ghost use Rattle.apply_core.specs.declared.reply.Reply.TheVariants as replies;
 ghost use Rattle.page_core.specs.PartPins.{pin_at, pins_by};
-ghost use Rattle.call_core.specs.Calls.{Call};
+ghost use Rattle.run_core.specs.Calls.{Call};
 ghost use Rattle.run_core.specs.Calling.{MakesCreate, MakesAppend, MakesSeal};
 ghost use Rattle.run_core.specs.Phases.{ending_of, sealed_in, news_in, IsWritten, IsWrittenSoFar, PenHoldsIn, HasNoPen};
 ghost use Rattle.run_core.specs.Phases.{pen_in, FoundBy, IsSettled, work_in};
@@ -14,9 +14,9 @@ ghost use Rattle.run_core.specs.Steps.{Follows, AreServed, place_in, at_create, 
 
 use crate::ending::{failed, renewed};
 use crate::phase::{Phase, Plan};
+use crate::plan::PagePlan;
 use apply_core::reply::Reply;
-use call_core::plan::PagePlan;
-use hand_core::hand::{Hand, Pen, Stamp};
+use device_core::hand::{Hand, Pen, Stamp};
 use std::alloc::Global;
 use value_core::datum::Datum;
 

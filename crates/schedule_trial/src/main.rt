@@ -17,12 +17,12 @@ mod rows;
 mod steps;
 mod trial;
 
-use line_core::write_whole;
 use std::alloc::Global;
 use std::env;
 use std::fs::File;
 use std::io::{self, Read};
 use std::process::ExitCode;
+use text_core::write_whole;
 use trial::{Fault, play_all};
 
 // The file that is named, alone, on the command line.

@@ -5,8 +5,8 @@ ghost use Rattle.keep_loop.specs.Seen.{Grows, read_of};
 ghost use Rattle.schedule_trial.specs.Told.{event_of, behind, seen_of};
 
 use keep_loop::Read;
-use line_core::reply::push_number;
 use std::alloc::{AllocError, Global};
+use text_core::reply::push_number;
 
 /// What happened.
 #[derive(Clone, Copy, Debug, PartialEq, Eq)]

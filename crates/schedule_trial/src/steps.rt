@@ -20,8 +20,8 @@
 //! stop 0 0      the server is to end, as it is where all steps have come about
 //! ```
 
-use line_read::front::next_bare;
 use std::alloc::{AllocError, Global};
+use word_core::front::next_bare;
 use word_core::number::integer_of;
 
 /// What the loop asks for.

@@ -11,18 +11,18 @@ use crate::fake::Fake;
 use crate::plan::Plan;
 use crate::rows::{push_block, push_rows};
 use crate::steps::{Call, Step, Words, cut_bytes, is_run, push_step, words_of};
+use check_core::judge::{Judged, judge};
 use decl_core::object::Object;
-use front_core::source::source_of;
 use guest_core::guests::Guests;
 use hosted_core::hosted::{Begun, Hosted};
 use keep_loop::{Fault as LoopFault, Limits, run};
-use line_core::next_line;
 use live_core::call::Limits as LiveLimits;
 use live_core::live::Live;
-use past_core::past::PastEvent;
-use source_core::judge::{Judged, judge};
+use live_core::source::source_of;
+use path_count::past::PastEvent;
 use std::alloc::{AllocError, AllocFailed, Global};
 use table_core::table::Table;
+use text_core::next_line;
 use value_core::value::Value;
 
 /// Why schedules are not played.

@@ -12,8 +12,8 @@ use Rattle.board_core.specs.Lists.{Among}
 use Rattle.board_core.specs.Calls.{RunningCall}
 use Rattle.board_core.specs.Board.{Board, call_at}
 use Rattle.board_core.specs.Sound.{IsSound, IsRunningIn}
-use Rattle.ask_core.specs.Answers.{Asked, runs_in}
-use Rattle.ask_core.specs.declared.answer.SubmitFault.{SubmitFault}
+use Rattle.board_core.specs.Answers.{Asked, runs_in}
+use Rattle.board_core.specs.declared.answer.SubmitFault.{SubmitFault}
 use Rattle.world_core.specs.declared.event.Answer.TheVariants.{Number, Stepped, Ended, Refused}
 use Rattle.world_core.specs.declared.event.Refusal.{Refusal}
 use Rattle.world_core.specs.declared.event.Refusal.TheVariants.{NoStep, NotRunning}
@@ -21,8 +21,8 @@ use Rattle.world_core.specs.declared.event.EventAnswer.{EventAnswer}
 use Rattle.world_core.specs.Scene.{Scene, Standing, IsRunAt}
 use Rattle.world_core.specs.Events.{WorldEvent, call, step, finish}
 use Rattle.world_core.specs.Answers.{Answers, called, not_called, stepped, no_step, step_not_running, finished, not_done, finish_not_running}
-use Rattle.script_text.specs.Said.{Said, a_do}
-use Rattle.script_text.specs.Answers.{all_stepped_line}
+use Rattle.word_core.specs.Said.{Said, a_do}
+use Rattle.word_core.specs.Answers.{all_stepped_line}
 use Rattle.script_core.specs.Does.{Does, Happens, IsKept, IsTold, StepsOn, call_of, event_lines, next_number, done_at_once, only_called}
 use Rattle.script_core.proofs.Unended.{number_found, every_among}
 

@@ -3,6 +3,15 @@ pub mod Telling
 pub mod Whole
 pub mod Serializing
 pub mod Unended
-pub mod Back
+pub mod ScriptBack
 pub mod Stepping
 pub mod Doing
+pub mod Alone
+pub mod PromptAsked
+pub mod PromptWhole
+pub mod HoldWhole
+pub mod Refusing
+pub mod Noting
+pub mod Giving
+pub mod Acting
+pub mod Asking

@@ -5,7 +5,7 @@ use Rattle.std.specs.Str.{str_to_ascii_lowercase}
 use Rattle.decl_core.specs.declared.object.Object.{Object}
 use Rattle.word_core.specs.Words.{bare}
 use Rattle.word_core.proofs.Cutting.{words_unique}
-use Rattle.script_text.specs.First.{IsObjectLine}
+use Rattle.word_core.specs.First.{IsObjectLine}
 use Rattle.script_core.specs.Writes.{NamesObject}
 
 second_same : (v a b : List ℕ) → (bare v ∷ bare a ∷ []) ≡ (bare v ∷ bare b ∷ []) → a ≡ b

@@ -10,24 +10,24 @@ use Rattle.value_core.specs.Meaning.{opening_of}
 use Rattle.decl_core.specs.Bodies.{body_of}
 use Rattle.decl_core.specs.declared.object.Object.{Object}
 use Rattle.decl_core.specs.ObjectMap.{object_of}
-use Rattle.line_core.specs.Runs.{Runs}
+use Rattle.text_core.specs.Runs.{Runs}
 use Rattle.apply_core.specs.declared.reply.Failure.TheVariants as failures
 use Rattle.apply_core.specs.declared.reply.Reply.{Reply}
 use Rattle.apply_core.specs.declared.reply.Reply.TheVariants as replies
-use Rattle.call_core.specs.Calls.{Call}
+use Rattle.run_core.specs.Calls.{Call}
 use Rattle.apply_core.specs.History.{IsLegal, IsReplyOn, left_by, leads_to}
 use Rattle.apply_core.specs.HistoryLaws.{LegalByOne, LeadsByOne}
 use Rattle.board_core.specs.declared.event.TraceEvent.{TraceEvent}
 use Rattle.board_core.specs.Lists.{Every, Among}
 use Rattle.board_core.specs.Calls.{AcceptedCall, RunningCall, Noted}
 use Rattle.board_core.specs.Board.{Board, call_at, joined, dismissed, released, marked, ended, entry_of}
-use Rattle.key_core.specs.Keys.{next_key}
+use Rattle.board_core.specs.Keys.{next_key}
 use Rattle.board_core.specs.Chain.{end_of as entry_end, history_of}
 use Rattle.board_core.specs.Sound.{IsRunningIn, IsSound, kinds_of, event_number}
-use Rattle.ask_core.specs.declared.answer.CallState.{CallState}
-use Rattle.ask_core.specs.declared.answer.CallState.TheVariants as states
-use Rattle.ask_core.specs.Answers.{Asked, IsNamedAt}
-use Rattle.ask_core.specs.Keyed.{IsStateOf}
+use Rattle.board_core.specs.declared.answer.CallState.{CallState}
+use Rattle.board_core.specs.declared.answer.CallState.TheVariants as states
+use Rattle.board_core.specs.Answers.{Asked, IsNamedAt}
+use Rattle.board_core.specs.Keyed.{IsStateOf}
 use Rattle.world_core.specs.Events.{WorldEvent, call, call_key, step, finish, cancel, leave, resume, look}
 use Rattle.world_core.specs.declared.event.Refusal.{Refusal}
 use Rattle.world_core.specs.declared.event.Refusal.TheVariants as refusals
@@ -38,18 +38,18 @@ use Rattle.world_core.specs.Scene.{Scene, Standing, Goes, IsNew, call_running}
 use Rattle.world_core.specs.Plays.{Plays, HasFailedStep}
 use Rattle.world_core.specs.Laws.{FailsOnlyWithItsDevice}
 use Rattle.world_core.specs.Answers.{Answers, called, not_called, called_key, not_called_key, stepped, no_step, step_not_running, finished, not_done, finish_not_running, cancelled, not_cancelled, left, no_session, resumed, not_resumed, shown, not_shown}
-use Rattle.script_text.specs.Said.{Said, a_call, a_keyed_call, a_do, a_step, all_steps, a_finish, a_cancel, a_drop, a_resume, a_show, a_trace}
-use Rattle.script_text.specs.Answers.{called_line, refused_line, all_stepped_line, kept_line, repeated_line, started_line, shown_lines}
+use Rattle.word_core.specs.Said.{Said, a_call, a_keyed_call, a_do, a_step, all_steps, a_finish, a_cancel, a_drop, a_resume, a_show, a_trace}
+use Rattle.word_core.specs.Answers.{called_line, refused_line, all_stepped_line, kept_line, repeated_line, started_line, shown_lines}
 use Rattle.script_core.specs.Does.{Does, Happens, IsEvent, IsKept, IsTold, StepsMade, StepsOn, IsOver, none_yet, one_more, answer_lines, call_of, next_number, repeat_line, started_lines, one_event, all_stepped, not_stepped, traced}
 use Rattle.script_core.specs.declared.script.ScriptEnd.{ScriptEnd}
 use Rattle.script_core.specs.declared.script.ScriptEnd.TheVariants.{Whole, BadLine}
 use Rattle.script_core.specs.Writes.{Told, IsBegun, NamesObject, Writes}
 use Rattle.script_core.specs.Run.{IsScript}
 use Rattle.script_core.specs.Serial.{Serial, MayReply, AreStarts, IsRepeat, IsUnended, Serially, WritesSerially, IsSerialScript}
-use Rattle.ask_core.specs.Answers.{runs_in}
+use Rattle.board_core.specs.Answers.{runs_in}
 use Rattle.script_core.proofs.Unended.{waits_unended, runs_unended, none_unended}
 use Rattle.script_core.proofs.Doing.{over_ends, HasEnded}
-use Rattle.script_core.proofs.Back.{resumed_same}
+use Rattle.script_core.proofs.ScriptBack.{resumed_same}
 
 -- A world came about from a new one by events in which only these calls were made to fail.
 record Carries (o : Object) (w : Scene) (failing : List ℕ) : Type 0 where

@@ -6,15 +6,15 @@ use Rattle.std.proofs.lemmas.List.{at_drop_more, at_drop_all, append-nil}
 use Rattle.std.proofs.lemmas.Option.{get_or_from_slice_get, slice_get_within}
 use Rattle.value_core.specs.Contents.{Contents}
 use Rattle.decl_core.specs.ObjectMap.{object_of}
-use Rattle.trace_core.specs.Text.{trace_text}
+use Rattle.word_core.specs.Text.{trace_text}
 use Rattle.board_core.specs.declared.event.TraceEvent.{TraceEvent}
 use Rattle.board_core.specs.Board.{Board}
 use Rattle.board_core.specs.Sound.{event_number}
 use Rattle.desk_core.specs.Told.{lines_told}
 use Rattle.world_core.specs.Scene.{Scene}
 use Rattle.world_core.specs.Events.{WorldEvent}
-use Rattle.script_text.specs.Said.{Said, a_trace}
-use Rattle.script_text.specs.Answers.{started_line}
+use Rattle.word_core.specs.Said.{Said, a_trace}
+use Rattle.word_core.specs.Answers.{started_line}
 use Rattle.script_core.specs.Does.{Does, Happens, IsEvent, answer_lines, event_lines, one_event, traced}
 use Rattle.decl_core.specs.declared.object.Object.{Object}
 use Rattle.world_core.specs.declared.event.EventAnswer.{EventAnswer}

@@ -7,16 +7,16 @@ use Rattle.decl_core.specs.ObjectMap.{object_of}
 use Rattle.apply_core.specs.declared.need.Need.{Need}
 use Rattle.run_core.specs.declared.step.StepAnswer.{StepAnswer}
 use Rattle.run_core.specs.declared.step.StepAnswer.TheVariants.{Went, Failed, AlreadyDone}
-use Rattle.trace_core.specs.Text.{trace_text}
+use Rattle.word_core.specs.Text.{trace_text}
 use Rattle.board_core.specs.declared.event.TraceEvent.{TraceEvent}
 use Rattle.board_core.specs.Sound.{event_number, IsSound}
-use Rattle.ask_core.specs.declared.answer.SubmitFault.TheVariants as faults
-use Rattle.ask_core.specs.declared.answer.KeyedFault.TheVariants as keyed
-use Rattle.ask_core.specs.declared.answer.CallState.{CallState}
-use Rattle.ask_core.specs.declared.answer.CallState.TheVariants as states
-use Rattle.ask_core.specs.declared.answer.Cancelled.{Cancelled}
-use Rattle.ask_core.specs.declared.answer.Cancelled.TheVariants as cancels
-use Rattle.ask_core.specs.Answers.{runs_in}
+use Rattle.board_core.specs.declared.answer.SubmitFault.TheVariants as faults
+use Rattle.board_core.specs.declared.answer.KeyedFault.TheVariants as keyed
+use Rattle.board_core.specs.declared.answer.CallState.{CallState}
+use Rattle.board_core.specs.declared.answer.CallState.TheVariants as states
+use Rattle.board_core.specs.declared.answer.Cancelled.{Cancelled}
+use Rattle.board_core.specs.declared.answer.Cancelled.TheVariants as cancels
+use Rattle.board_core.specs.Answers.{runs_in}
 use Rattle.desk_core.specs.Told.{lines_told}
 use Rattle.world_core.specs.declared.event.Refusal.{Refusal}
 use Rattle.world_core.specs.declared.event.Refusal.TheVariants.{Submit, Keyed, NotRunning, NoStep, Memory}
@@ -29,11 +29,11 @@ use Rattle.world_core.specs.Events.{WorldEvent, call, call_key, step, finish, ca
 use Rattle.world_core.specs.Scene.{Scene}
 use Rattle.world_core.specs.Answers.{Answers}
 use Rattle.world_core.specs.Headline.{IsSequential}
-use Rattle.script_text.specs.Said.{Said, a_call, a_keyed_call, a_do, a_step, all_steps, a_finish, a_cancel, a_drop}
-use Rattle.script_text.specs.Said.{a_resume, a_show, a_trace}
-use Rattle.script_text.specs.Answers.{called_line, refused_line, stepped_line, all_stepped_line, finished_line}
-use Rattle.script_text.specs.Answers.{cancelled_line, dropped_line, resumed_line, kept_line, repeated_line}
-use Rattle.script_text.specs.Answers.{started_line, shown_lines}
+use Rattle.word_core.specs.Said.{Said, a_call, a_keyed_call, a_do, a_step, all_steps, a_finish, a_cancel, a_drop}
+use Rattle.word_core.specs.Said.{a_resume, a_show, a_trace}
+use Rattle.word_core.specs.Answers.{called_line, refused_line, stepped_line, all_stepped_line, finished_line}
+use Rattle.word_core.specs.Answers.{cancelled_line, dropped_line, resumed_line, kept_line, repeated_line}
+use Rattle.word_core.specs.Answers.{started_line, shown_lines}
 
 -- a step that failed, for whatever cause, is told as failed
 abbrev pub has_gone : StepAnswer → Bool

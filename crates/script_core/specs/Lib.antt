@@ -3,3 +3,9 @@ pub mod Writes
 pub mod Run
 pub mod Serial
 pub mod Laws
+pub mod Tries
+pub mod PromptRun
+pub mod HoldDoes
+pub mod Asked
+pub mod HoldWrites
+pub mod HoldRun

@@ -2,10 +2,10 @@
 use Rattle.std.specs.Prelude.{◌≡◌, ℕ, ◌+◌, Bool, List, ◌∷◌, ◌++◌, length, take}
 use Rattle.std.specs.Str.Lines.{lines}
 use Rattle.decl_core.specs.declared.object.Object.{Object}
-use Rattle.line_core.specs.Runs.{Runs, Stops, Cuts, NoLineFeed}
-use Rattle.line_core.specs.Ends.{Answered}
-use Rattle.line_core.specs.declared.machine.LinesEnd.{LinesEnd}
-use Rattle.line_core.specs.declared.machine.LinesEnd.TheVariants as ends
+use Rattle.text_core.specs.Runs.{Runs, Stops, Cuts, NoLineFeed}
+use Rattle.text_core.specs.Ends.{Answered}
+use Rattle.text_core.specs.declared.machine.LinesEnd.{LinesEnd}
+use Rattle.text_core.specs.declared.machine.LinesEnd.TheVariants as ends
 use Rattle.script_core.specs.declared.script.ScriptEnd.{ScriptEnd}
 use Rattle.script_core.specs.declared.script.ScriptEnd.TheVariants.{Whole, BadLine}
 use Rattle.script_core.specs.Writes.{Told, IsBegun, Writes}

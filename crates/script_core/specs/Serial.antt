@@ -8,7 +8,7 @@ use Rattle.value_core.specs.Meaning.{opening_of}
 use Rattle.decl_core.specs.Bodies.{body_of}
 use Rattle.decl_core.specs.declared.object.Object.{Object}
 use Rattle.decl_core.specs.ObjectMap.{object_of}
-use Rattle.line_core.specs.Runs.{Runs, Stops}
+use Rattle.text_core.specs.Runs.{Runs, Stops}
 use Rattle.word_core.specs.Says.{Says}
 use Rattle.apply_core.specs.declared.reply.Failure.TheVariants as failures
 use Rattle.apply_core.specs.declared.reply.Reply.{Reply}
@@ -18,14 +18,14 @@ use Rattle.board_core.specs.Lists.{Every, Among}
 use Rattle.board_core.specs.Calls.{AcceptedCall}
 use Rattle.board_core.specs.Board.{call_at}
 use Rattle.board_core.specs.Sound.{kinds_of}
-use Rattle.key_core.specs.Keys.{HasKey, next_key}
-use Rattle.ask_core.specs.Answers.{IsNamedAt}
-use Rattle.ask_core.specs.Keyed.{IsSameCall}
-use Rattle.script_text.specs.Said.{Said, a_call, a_keyed_call, a_do, a_step, all_steps, a_finish, a_cancel, a_drop}
-use Rattle.script_text.specs.Said.{a_resume, a_show, a_trace, said_of, IsSkipped}
-use Rattle.script_text.specs.Answers.{called_line, refused_line, all_stepped_line, finished_line, kept_line}
-use Rattle.script_text.specs.Answers.{repeated_line, started_line, shown_lines, bad_line}
-use Rattle.inside_desk.specs.Asked.{Asked, asked_of}
+use Rattle.board_core.specs.Keys.{HasKey, next_key}
+use Rattle.board_core.specs.Answers.{IsNamedAt}
+use Rattle.board_core.specs.Keyed.{IsSameCall}
+use Rattle.word_core.specs.Said.{Said, a_call, a_keyed_call, a_do, a_step, all_steps, a_finish, a_cancel, a_drop}
+use Rattle.word_core.specs.Said.{a_resume, a_show, a_trace, said_of, IsSkipped}
+use Rattle.word_core.specs.Answers.{called_line, refused_line, all_stepped_line, finished_line, kept_line}
+use Rattle.word_core.specs.Answers.{repeated_line, started_line, shown_lines, bad_line}
+use Rattle.world_core.specs.Asked.{Asked, asked_of}
 use Rattle.script_core.specs.declared.script.ScriptEnd.{ScriptEnd}
 use Rattle.script_core.specs.declared.script.ScriptEnd.TheVariants.{Whole, BadLine}
 use Rattle.script_core.specs.Writes.{NamesObject, IsOther}

@@ -4,11 +4,11 @@ use Rattle.std.specs.Str.{str_to_ascii_lowercase}
 use Rattle.decl_core.specs.declared.object.Object.{Object}
 use Rattle.word_core.specs.Says.{Says}
 use Rattle.world_core.specs.Scene.{Scene, IsNew}
-use Rattle.script_text.specs.Said.{Said, said_of, IsSkipped}
-use Rattle.script_text.specs.First.{IsObjectLine}
-use Rattle.script_text.specs.Answers.{bad_line}
-use Rattle.inside_desk.specs.Asked.{Asked, asked_of}
-use Rattle.inside_desk.specs.Told.{IsTold}
+use Rattle.word_core.specs.Said.{Said, said_of, IsSkipped}
+use Rattle.word_core.specs.First.{IsObjectLine}
+use Rattle.word_core.specs.Answers.{bad_line}
+use Rattle.world_core.specs.Asked.{Asked, asked_of}
+use Rattle.world_core.specs.Told.{IsTold}
 use Rattle.script_core.specs.Does.{Does, IsKept}
 use Rattle.script_core.specs.declared.script.machine.Script.{Script}
 

@@ -6,15 +6,15 @@ mod steps;
 
 ghost use Rattle.std.specs.Prelude.{◌≡◌, ◌++◌, [], List, ℕ, IfOk, IfSome, OnErr, IsErrOf, unwrap_or};
 ghost use Rattle.std.specs.Io.KnownBytes.{Appends, Consumes};
-ghost use Rattle.line_core.specs.declared.machine.LinesFault.TheVariants.{ReadFault};
+ghost use Rattle.text_core.specs.declared.machine.LinesFault.TheVariants.{ReadFault};
 ghost use Rattle.script_core.specs.Run.{IsScript, IsFront, IsScriptSoFar, end_of as end_in};
 
-use exclude_core::analyse::Accepted;
-pub use line_core::LinesFault as ScriptFault;
-use line_core::{LinesEnd, run_lines};
+use decl_core::analyse::Accepted;
 use machine::Script;
 use std::alloc::Global;
 use std::io::{Read, Write};
+pub use text_core::LinesFault as ScriptFault;
+use text_core::{LinesEnd, run_lines};
 
 /// How a script ended.
 #[derive(Clone, Copy, Debug, PartialEq, Eq)]

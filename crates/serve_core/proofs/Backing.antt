@@ -2,10 +2,10 @@
 use Rattle.std.proofs.Common.{◌≡◌, sym, subst, List, [], ◌∷◌, ◌++◌, Result, Ok, Err}
 use Rattle.std.specs.Prelude.{OnOk, OnErr}
 use Rattle.std.specs.declared.alloc.AllocError.{AllocError}
-use Rattle.hand_core.specs.Device.{Assignment}
+use Rattle.device_core.specs.Device.{Assignment}
 use Rattle.board_core.specs.Lists.{Every}
-use Rattle.slip_core.specs.Slips.{Told, IsTrueTold}
-use Rattle.talk_core.specs.Truth.{AreTrue}
+use Rattle.office_core.specs.Slips.{Told, IsTrueTold}
+use Rattle.session_core.specs.Truth.{AreTrue}
 use Rattle.serve_core.specs.Backed.{AreBackedBy}
 
 every_then : {X : Type 0} (P : X → Type 0) (xs ys : List X) → Every P xs → Every P ys → Every P (xs ++ ys)

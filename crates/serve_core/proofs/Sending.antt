@@ -4,10 +4,10 @@ use denote.Struct.Declared as struct_of
 use denote.Enum.Declared as enum_of
 use denote.Param.Send.{IsSend, IsSync, AllSend, EachSend, struct_send, enum_send, recorded_send, sendable}
 use Rattle.std.proofs.Crossing.{crosses, Vec-send}
-use Rattle.hand_core.specs.declared.hand.Hand.{Ghosts}
-use Rattle.slip_core.proofs.Sending.{slip_send}
+use Rattle.device_core.specs.declared.hand.Hand.{Ghosts}
+use Rattle.office_core.proofs.SlipSending.{slip_send}
 use Rattle.office_core.proofs.seat.Seat.TheSendSync as seat
-use Rattle.slip_core.specs.contracts.slip.Slip as slip
+use Rattle.office_core.specs.contracts.slip.Slip as slip
 use Rattle.serve_core.specs.contracts.backed.Backed as backed
 use Rattle.serve_core.specs.contracts.listen.Left as left
 use Rattle.serve_core.specs.contracts.listen.Came as came

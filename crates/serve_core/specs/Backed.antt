@@ -1,8 +1,8 @@
 -- Receipts, and the hands that show that they are true.
 use Rattle.std.specs.Prelude.{List}
-use Rattle.hand_core.specs.Device.{Assignment}
+use Rattle.device_core.specs.Device.{Assignment}
 use Rattle.board_core.specs.Lists.{Every}
-use Rattle.slip_core.specs.Slips.{Told, IsTrueTold}
+use Rattle.office_core.specs.Slips.{Told, IsTrueTold}
 
 -- each assignment that agrees with all of these hands makes each of these receipts true
 abbrev pub AreBackedBy : {H : Type 0} → (H → Assignment → Type 0) → List H → List Told → Type 0

@@ -1,14 +1,14 @@
 -- What closing all objects comes to.
 use Rattle.std.specs.Prelude.{◌≡◌, ◌≤◌, ℕ, List, [], ◌∷◌, ◌++◌, length, map, Bool, false, IsTrue, Option, None}
-use Rattle.line_core.specs.declared.machine.LinesFault.{LinesFault}
+use Rattle.text_core.specs.declared.machine.LinesFault.{LinesFault}
 use Rattle.value_core.specs.Contents.{Contents}
-use Rattle.hand_core.specs.Device.{Assignment}
-use Rattle.hand_core.specs.Papers.{Papers}
+use Rattle.device_core.specs.Device.{Assignment}
+use Rattle.device_core.specs.Papers.{Papers}
 use Rattle.apply_core.specs.History.{IsLegal}
 use Rattle.board_core.specs.Lists.{Every}
 use Rattle.board_core.specs.Chain.{ShowContents, history_of}
 use Rattle.board_core.specs.Sound.{kinds_of}
-use Rattle.slip_core.specs.Slips.{Told, IsTrueTold}
+use Rattle.office_core.specs.Slips.{Told, IsTrueTold}
 use Rattle.keep_core.specs.declared.opening.Opening.{Opening}
 use Rattle.keep_core.specs.declared.trouble.Trouble.{Trouble}
 use Rattle.keep_core.specs.Opening.{values_of}

@@ -1,10 +1,10 @@
 -- What is gathered of what sessions left, and what is noted.
 use Rattle.std.specs.Prelude.{◌≡◌, ◌⊎◌, ℕ, zero, suc, List, [], ◌∷◌, ◌++◌, map, Bool, true, cond, Option, Some, None}
-use Rattle.line_core.specs.declared.machine.LinesFault.{LinesFault}
-use Rattle.line_core.specs.declared.machine.LinesFault.TheVariants.{Memory}
-use Rattle.talk_core.specs.declared.fault.SessionFault.{SessionFault}
-use Rattle.talk_core.specs.declared.fault.SessionFault.TheVariants as session
-use Rattle.slip_core.specs.Slips.{Told}
+use Rattle.text_core.specs.declared.machine.LinesFault.{LinesFault}
+use Rattle.text_core.specs.declared.machine.LinesFault.TheVariants.{Memory}
+use Rattle.session_core.specs.declared.fault.SessionFault.{SessionFault}
+use Rattle.session_core.specs.declared.fault.SessionFault.TheVariants as session
+use Rattle.office_core.specs.Slips.{Told}
 use Rattle.keep_core.specs.declared.trouble.Trouble.{Trouble}
 use Rattle.keep_core.specs.Troubles.{first_of}
 use Rattle.serve_core.specs.declared.listen.Came.{Came}

@@ -2,7 +2,7 @@
 use Rattle.std.specs.Prelude.{◌≡◌, ◌⊎◌, ℕ, List, Option}
 use Rattle.std.specs.Io.KnownBytes.{Appends}
 use Rattle.decl_core.specs.ObjectForm.{ObjectForm}
-use Rattle.source_core.specs.Judging.{IsServed, IsUnserved}
+use Rattle.check_core.specs.Judging.{IsServed, IsUnserved}
 use Rattle.serve_core.specs.declared.serve.ServeEnd.{ServeEnd}
 use Rattle.serve_core.specs.declared.serve.ServeEnd.TheVariants.{Refused}
 

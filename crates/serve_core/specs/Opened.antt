@@ -1,9 +1,9 @@
 -- What the parts of objects opened with.
 use Rattle.std.specs.Prelude.{List, [], ◌∷◌}
 use Rattle.decl_core.specs.declared.object.Object.{Object}
-use Rattle.hand_core.specs.Device.{Assignment}
-use Rattle.hand_core.specs.Papers.{Papers}
-use Rattle.store_core.specs.Opened.{AreLoaded}
+use Rattle.device_core.specs.Device.{Assignment}
+use Rattle.device_core.specs.Papers.{Papers}
+use Rattle.page_core.specs.Opened.{AreLoaded}
 use Rattle.keep_core.specs.declared.opening.Opening.{Opening}
 use Rattle.keep_core.specs.Opening.{IsSealed, values_of}
 

@@ -3,18 +3,18 @@ use Rattle.std.specs.Prelude.{◌≡◌, ◌⊎◌, ℕ, Bool, List, [], ◌∷�
 use Rattle.std.specs.Prelude.{length}
 use Rattle.std.specs.List.{concat}
 use Rattle.std.specs.Io.KnownBytes.{Appends, Keeps}
-use Rattle.line_core.specs.declared.machine.LinesFault.{LinesFault}
-use Rattle.line_core.specs.declared.machine.LinesFault.TheVariants.{Memory}
-use Rattle.line_core.specs.Reply.{reply}
-use Rattle.hand_core.specs.Device.{Assignment}
-use Rattle.hand_core.specs.Papers.{Papers}
+use Rattle.text_core.specs.declared.machine.LinesFault.{LinesFault}
+use Rattle.text_core.specs.declared.machine.LinesFault.TheVariants.{Memory}
+use Rattle.text_core.specs.Reply.{reply}
+use Rattle.device_core.specs.Device.{Assignment}
+use Rattle.device_core.specs.Papers.{Papers}
 use Rattle.decl_core.specs.declared.object.Object.{Object}
 use Rattle.decl_core.specs.ObjectMap.{objects_of, object_names}
-use Rattle.store_core.specs.Opened.{IsFirstDamaged}
+use Rattle.page_core.specs.Opened.{IsFirstDamaged}
 use Rattle.board_core.specs.Lists.{Every, Among}
-use Rattle.slip_core.specs.Slips.{Told}
+use Rattle.office_core.specs.Slips.{Told}
 use Rattle.session_core.specs.declared.order.Named.{Named}
-use Rattle.source_core.specs.Judging.{IsServed, IsUnserved}
+use Rattle.check_core.specs.Judging.{IsServed, IsUnserved}
 use Rattle.keep_core.specs.declared.open.NotOpened.{NotOpened}
 use Rattle.keep_core.specs.declared.open.NotOpened.TheVariants.{Damaged, Fault}
 use Rattle.keep_core.specs.declared.opening.Opening.{Opening}

@@ -1,9 +1,9 @@
 -- What a server does to the value files of its folder.
 use Rattle.std.specs.Prelude.{◌≡◌, ◌⊎◌, ℕ, List, [], ◌∷◌, Bool, IsTrue, Option, Result, Err}
-use Rattle.line_core.specs.declared.machine.LinesFault.{LinesFault}
-use Rattle.line_core.specs.declared.machine.LinesFault.TheVariants.{Memory}
-use Rattle.folder_core.specs.Deeds.{Deed, RemovesAll, MovesLeft}
-use Rattle.folder_core.specs.Numbers.{AreBetween}
+use Rattle.text_core.specs.declared.machine.LinesFault.{LinesFault}
+use Rattle.text_core.specs.declared.machine.LinesFault.TheVariants.{Memory}
+use Rattle.page_core.specs.Deeds.{Deed, RemovesAll, MovesLeft}
+use Rattle.page_core.specs.Numbers.{AreBetween}
 use Rattle.serve_core.specs.declared.serve.ServeEnd.{ServeEnd}
 
 -- Files that an earlier run left are moved aside, each once, where there are any; or memory for that is refused, and

@@ -1,11 +1,11 @@
 //! Receipts, and the hands that show that they are true.
 
 ghost use Rattle.std.specs.Prelude.{◌≡◌, ◌++◌, ◌∷◌, [], OnOk, OnErr, IfOk};
-ghost use Rattle.talk_core.specs.Truth.{AreTrue};
+ghost use Rattle.session_core.specs.Truth.{AreTrue};
 ghost use Rattle.serve_core.specs.Backed.{AreBacked};
 
-use hand_core::hand::Hand;
-use slip_core::slip::Slip;
+use device_core::hand::Hand;
+use office_core::slip::Slip;
 use std::alloc::{AllocError, Global};
 use std::marker::Model;
 
@@ -20,9 +20,9 @@ pub struct Backed<H: Hand + Drop> {
 impl<H: Hand + Drop> Model for Backed<H> {
     ghost use Rattle.std.specs.Prelude.{List};
     ghost use Rattle.std.specs.Coded.{codes};
-    ghost use Rattle.slip_core.specs.contracts.slip.Slip as s;
-    ghost use Rattle.slip_core.specs.Slips.{Told};
-    ghost use Rattle.talk_core.specs.Truth.{AreTrue};
+    ghost use Rattle.office_core.specs.contracts.slip.Slip as s;
+    ghost use Rattle.office_core.specs.Slips.{Told};
+    ghost use Rattle.session_core.specs.Truth.{AreTrue};
 
     ghost Value = { List Told };
 
@@ -63,8 +63,8 @@ pub struct AllBacked<H: Hand + Drop> {
 impl<H: Hand + Drop> Model for AllBacked<H> {
     ghost use Rattle.std.specs.Prelude.{List};
     ghost use Rattle.std.specs.Coded.{codes};
-    ghost use Rattle.slip_core.specs.contracts.slip.Slip as s;
-    ghost use Rattle.slip_core.specs.Slips.{Told};
+    ghost use Rattle.office_core.specs.contracts.slip.Slip as s;
+    ghost use Rattle.office_core.specs.Slips.{Told};
     ghost use Rattle.serve_core.specs.Backed.{AreBackedBy};
 
     ghost Value = { List Told };

@@ -1,6 +1,6 @@
 //! Where connections come from.
 
-use hear_core::bell::Bell;
+use session_text::bell::Bell;
 use std::io;
 use std::net::{Shutdown, TcpListener, TcpStream};
 use std::os::fd::OwnedFd;

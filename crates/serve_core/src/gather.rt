@@ -7,15 +7,15 @@ ghost use Rattle.serve_core.specs.Gathers.{noted_by, mixed_by, slips_in, put_in,
 
 use crate::backed::{AllBacked, Backed};
 use crate::listen::{Came, Left};
-use hand_core::hand::Hand;
+use device_core::hand::Hand;
 use keep_core::trouble::Trouble;
-use line_core::reply::push_reply;
-use line_core::{LinesFault, write_whole};
 use office_core::seat::Seat;
+use session_core::fault::SessionFault;
 use session_core::order::Named;
 use std::alloc::{AllocError, Global};
 use std::io::Write;
-use talk_core::fault::SessionFault;
+use text_core::reply::push_reply;
+use text_core::{LinesFault, write_whole};
 
 // The most bytes of a line: a name and words.
 const LINE_BYTES: usize = 128;

@@ -1,28 +1,28 @@
 //! Connections, each of them served on threads of its own.
 
 ghost use Rattle.std.specs.Prelude.{◌≡◌};
-ghost use Rattle.talk_core.specs.Truth.{AreTrue};
+ghost use Rattle.session_core.specs.Truth.{AreTrue};
 
 use crate::backed::Backed;
 use crate::gate::Door;
-use ahead_core::ahead::Ends;
 use crossbeam_channel::Receiver;
-use hand_core::hand::Hand;
-use hear_core::bell::Bell;
+use device_core::ahead::Ends;
+use device_core::hand::Hand;
 use keep_core::trouble::fault_of;
-use line_core::LinesFault;
 use office_core::seat::Seat;
 use session_core::end::SessionEnd;
+use session_core::fault::SessionFault;
 use session_core::order::Offices;
+use session_core::patient::Patient;
 use session_core::serve::{Connection, serve_session};
+use session_text::bell::Bell;
 use std::alloc::{AllocError, Global};
 use std::net::TcpStream;
 use std::sync::{Mutex, Wait};
 use std::thread;
 use std::thread::Threads;
 use std::time::{Clock, Duration};
-use talk_core::fault::SessionFault;
-use talk_core::patient::Patient;
+use text_core::LinesFault;
 
 // How long a read waits where nothing comes, and a write where nothing is taken, in milliseconds.
 const PAUSE: u64 = 250;

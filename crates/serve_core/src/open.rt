@@ -1,21 +1,21 @@
 //! The offices of accepted objects, whose parts are read from a folder.
 
 ghost use Rattle.std.specs.Prelude.{◌≡◌, ◌++◌, ◌∷◌, [], IfOk, IfErr, OnOk, length};
-ghost use Rattle.hand_core.specs.Device.{Assignment};
-ghost use Rattle.hand_core.specs.Papers.{Papers};
+ghost use Rattle.device_core.specs.Device.{Assignment};
+ghost use Rattle.device_core.specs.Papers.{Papers};
 ghost use Rattle.decl_core.specs.ObjectMap.{object_names};
 ghost use Rattle.serve_core.specs.Opened.{AreLoadedAll, ArePinnedAll};
 ghost use Rattle.serve_core.specs.Runs.{named_in, IsNotOpenedOf};
 
-use exclude_core::analyse::Accepted;
-use hand_core::hand::Hand;
-use hand_core::shelf::Shelf;
+use decl_core::analyse::Accepted;
+use device_core::hand::Hand;
+use device_core::shelf::Shelf;
 use keep_core::close::Closing;
 use keep_core::open::{NotOpened, Opened};
 use keep_core::opening::Opening;
-use line_core::LinesFault;
 use session_core::order::Named;
 use std::alloc::Global;
+use text_core::LinesFault;
 
 /// What is served: the offices of the objects, and what the parts of each of them opened with.
 #[derive(Drop)]

@@ -2,7 +2,7 @@
 
 use crate::make::cell;
 use device_core::memory::MemHand;
-use hand_core::whole::put;
+use device_core::whole::put;
 use keep_core::trouble::Trouble;
 use office_core::inside::Inside;
 use office_core::office::Office;
@@ -11,9 +11,9 @@ use page_core::pins::Pins;
 use serve_core::backed::Backed;
 use serve_core::gather::Gathering;
 use serve_core::listen::{Came, Left};
+use session_core::fault::SessionFault;
 use session_core::order::Named;
 use std::alloc::Global;
-use talk_core::fault::SessionFault;
 
 // The office of the object.
 fn named(alloc: Global) -> Option<Vec<Named>> {

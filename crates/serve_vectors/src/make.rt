@@ -1,7 +1,7 @@
 //! An object, accepted.
 
+use decl_core::analyse::{Accepted, analyse};
 use decl_read::read::read_objects;
-use exclude_core::analyse::{Accepted, analyse};
 use std::alloc::Global;
 
 // An object with one part, of one number.

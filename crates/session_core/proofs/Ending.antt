@@ -3,17 +3,17 @@ use Rattle.std.proofs.Common.{◌≡◌, inl, inr, ℕ, List, [], ◌∷◌, Opt
 use Rattle.std.specs.Prelude.{IsTrue}
 use Rattle.std.proofs.Math.Dec.{eqb}
 use Rattle.std.proofs.lemmas.Bool.Decides.{eqb_tells}
-use Rattle.slip_core.specs.Slips.{Told}
-use Rattle.talk_core.specs.declared.note.Note.{Note}
-use Rattle.talk_core.specs.declared.output.Health.{Health}
-use Rattle.talk_core.specs.declared.output.Health.TheVariants.{Fine}
-use Rattle.talk_core.specs.declared.stage.Stage.TheVariants.{Free}
-use Rattle.talk_core.specs.declared.fault.SessionFault.{SessionFault}
-use Rattle.talk_core.specs.declared.fault.SessionFault.TheVariants as faults
-use Rattle.hear_core.specs.declared.fault.HearFault.{HearFault}
-use Rattle.hear_core.specs.declared.fault.HearFault.TheVariants as hears
-use Rattle.talk_core.specs.Written.{AreFirst, AreAll, IsSaid}
-use Rattle.talk_core.proofs.Saying.{fresh, last_fine}
+use Rattle.office_core.specs.Slips.{Told}
+use Rattle.session_core.specs.declared.note.Note.{Note}
+use Rattle.session_core.specs.declared.output.Health.{Health}
+use Rattle.session_core.specs.declared.output.Health.TheVariants.{Fine}
+use Rattle.session_core.specs.declared.stage.Stage.TheVariants.{Free}
+use Rattle.session_core.specs.declared.fault.SessionFault.{SessionFault}
+use Rattle.session_core.specs.declared.fault.SessionFault.TheVariants as faults
+use Rattle.session_text.specs.declared.fault.HearFault.{HearFault}
+use Rattle.session_text.specs.declared.fault.HearFault.TheVariants as hears
+use Rattle.session_core.specs.Written.{AreFirst, AreAll, IsSaid}
+use Rattle.session_core.proofs.Saying.{fresh, last_fine}
 use Rattle.session_core.specs.Causes.{IsCausedBy, IsCaused}
 
 -- where there are as many of the ones as of the others, the first ones are all

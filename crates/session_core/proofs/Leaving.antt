@@ -1,8 +1,8 @@
 -- Files that are retired later.
 use Rattle.std.proofs.Common.{◌≡◌, List, [], subst, sym}
-use Rattle.hand_core.specs.declared.hand.Stamp.{Stamp}
-use Rattle.hand_core.specs.Made.{Made}
-use Rattle.hand_core.specs.Retired.{RetiresAll, none}
+use Rattle.device_core.specs.declared.hand.Stamp.{Stamp}
+use Rattle.device_core.specs.Made.{Made}
+use Rattle.device_core.specs.Retired.{RetiresAll, none}
 use Rattle.session_core.specs.Leaving.{RetiresLeft}
 
 -- where none is left, none is retired

@@ -5,3 +5,7 @@ pub mod Ending
 pub mod Leaving
 pub mod Making
 pub mod Working
+pub mod Dialogues
+pub mod Saying
+pub mod Truths
+pub mod Turns

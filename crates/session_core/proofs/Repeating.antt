@@ -4,12 +4,12 @@ use Rattle.std.specs.Prelude.{Some, Ok}
 use Rattle.apply_core.specs.declared.reply.Reply.{Reply}
 use Rattle.board_core.specs.Board.{Board}
 use Rattle.board_core.specs.Sound.{IsSound}
-use Rattle.ask_core.specs.declared.answer.CallState.{CallState}
-use Rattle.ask_core.specs.declared.answer.CallState.TheVariants.{Ended}
-use Rattle.ask_core.specs.declared.answer.Kept.{Kept}
-use Rattle.ask_core.specs.Answers.{Asked}
-use Rattle.ask_core.specs.Keyed.{IsStateOf, Finds}
-use Rattle.talk_core.specs.Repeats.{WasNoted}
+use Rattle.board_core.specs.declared.answer.CallState.{CallState}
+use Rattle.board_core.specs.declared.answer.CallState.TheVariants.{Ended}
+use Rattle.board_core.specs.declared.answer.Kept.{Kept}
+use Rattle.board_core.specs.Answers.{Asked}
+use Rattle.board_core.specs.Keyed.{IsStateOf, Finds}
+use Rattle.session_core.specs.Repeats.{WasNoted}
 
 -- the reply of a call that has ended is that of its entry
 pub noted_by : (n : ℕ) (state : CallState) (reply : Reply) → state ≡ Ended reply → (b : Board) × IsSound b × IsStateOf b n state → WasNoted n reply

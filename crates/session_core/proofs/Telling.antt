@@ -1,19 +1,19 @@
 -- An outcome that is handed in tells the same.
 use Rattle.std.proofs.Common.{◌≡◌, ◌∙◌, ap, sym, subst, List}
 use Rattle.std.specs.Prelude.{Result, Ok, Err}
-use Rattle.hand_core.specs.Device.{Assignment}
+use Rattle.device_core.specs.Device.{Assignment}
 use Rattle.apply_core.specs.declared.reply.Reply.{Reply}
-use Rattle.call_core.specs.Calls.{Call}
-use Rattle.call_core.specs.Truths.{IsTrueOf}
+use Rattle.run_core.specs.Calls.{Call}
+use Rattle.run_core.specs.Truths.{IsTrueOf}
 use Rattle.page_core.specs.PartPins.{PartPin}
 use Rattle.run_core.specs.declared.outcome.Outcome.{Outcome}
 use Rattle.run_core.specs.Outcomes.{outcome_call, outcome_reply, outcome_news, if_done, TellsSame}
-use Rattle.ask_core.specs.declared.answer.Finished.{Finished}
-use Rattle.seat_core.specs.declared.seat.Seat.{Seat}
+use Rattle.board_core.specs.declared.answer.Finished.{Finished}
+use Rattle.office_core.specs.declared.client_seat.Seat.{Seat}
 use Rattle.office_core.specs.declared.seat.NotTaken.{NotTaken}
 use Rattle.office_core.specs.declared.seat.NotTaken.TheVariants.{Front, Stranger}
 use Rattle.office_core.specs.Seats.{ReceivesInPlace}
-use Rattle.talk_core.specs.Truth.{OutcomeIsTrue}
+use Rattle.session_core.specs.Truth.{OutcomeIsTrue}
 
 pub same_as : (o after : Outcome) → after ≡ o → TellsSame o after
 same_as o after same = record { call = ap outcome_call same; reply = ap outcome_reply same; news = ap outcome_news same }

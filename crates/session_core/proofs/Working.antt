@@ -1,18 +1,18 @@
 -- A session's work with its hand goes on.
 use Rattle.std.proofs.Common.{◌≡◌, sym, subst, refl, inl, inr, List, [], ◌++◌}
 use Rattle.std.specs.Prelude.{Ok}
-use Rattle.hand_core.specs.declared.hand.Stamp.{Stamp}
-use Rattle.hand_core.specs.Made.{Made}
-use Rattle.hand_core.specs.Retired.{Left, RetiresAll, files_left}
+use Rattle.device_core.specs.declared.hand.Stamp.{Stamp}
+use Rattle.device_core.specs.Made.{Made}
+use Rattle.device_core.specs.Retired.{Left, RetiresAll, files_left}
 use Rattle.page_core.specs.Calls.{AreMade}
-use Rattle.call_core.specs.declared.ticket.Ticket.{Ticket as Admitted}
-use Rattle.call_core.specs.Tickets.{ticket_call}
-use Rattle.call_core.specs.Calls.{Call}
+use Rattle.run_core.specs.declared.ticket.Ticket.{Ticket as Admitted}
+use Rattle.run_core.specs.Tickets.{ticket_call}
+use Rattle.run_core.specs.Calls.{Call}
 use Rattle.run_core.specs.declared.outcome.Outcome.{Outcome}
 use Rattle.run_core.specs.Outcomes.{outcome_call, outcome_reply, outcome_sealed}
 use Rattle.run_core.specs.AtOnce.{RunsAtOnce}
-use Rattle.ask_core.specs.declared.answer.Finished.{Finished}
-use Rattle.seat_core.specs.declared.seat.Seat.{Seat}
+use Rattle.board_core.specs.declared.answer.Finished.{Finished}
+use Rattle.office_core.specs.declared.client_seat.Seat.{Seat}
 use Rattle.office_core.specs.Seats.{CompletedIn}
 use Rattle.session_core.specs.Leaving.{PutsOff}
 use Rattle.session_core.specs.Working.{Runs, HandsOut, Works, WorksOn, begins, runs, retires, lets_go}

@@ -1,11 +1,11 @@
 -- Why a session ends with its fault.
 use Rattle.std.specs.Prelude.{◌≡◌, ◌↔◌, IsTrue, ℕ, List, Option, Bool}
-use Rattle.slip_core.specs.Slips.{Told}
-use Rattle.talk_core.specs.declared.note.Note.{Note}
-use Rattle.talk_core.specs.declared.output.Health.{Health}
-use Rattle.talk_core.specs.declared.fault.SessionFault.{SessionFault}
-use Rattle.hear_core.specs.declared.fault.HearFault.{HearFault}
-use Rattle.talk_core.specs.Written.{IsAccounted, IsSaid, told_fault}
+use Rattle.office_core.specs.Slips.{Told}
+use Rattle.session_core.specs.declared.note.Note.{Note}
+use Rattle.session_core.specs.declared.output.Health.{Health}
+use Rattle.session_core.specs.declared.fault.SessionFault.{SessionFault}
+use Rattle.session_text.specs.declared.fault.HearFault.{HearFault}
+use Rattle.session_core.specs.Written.{IsAccounted, IsSaid, told_fault}
 
 -- The fault that is told, by the receipts, the notes of what was said, how the writing went, and what was met in
 -- reading. It is `LogMixed` where the notes are not those of the receipts, or a line stood where it may not, and only

@@ -2,7 +2,7 @@
 use Rattle.std.specs.Prelude.{◌≡◌, ◌≢◌, ◌⊎◌, ◌↔◌, ℕ, ◌<◌, ◌≤◌, List, Option, Some, None, Result, Ok, Err, IsTrue, IsSome}
 use Rattle.std.specs.Prelude.{slice_get}
 use Rattle.board_core.specs.Lists.{Every}
-use Rattle.seat_core.specs.declared.seat.Seat.{Seat}
+use Rattle.office_core.specs.declared.client_seat.Seat.{Seat}
 use Rattle.session_text.specs.declared.line.Refusal.TheVariants as refusals
 use Rattle.office_core.specs.declared.named.NameFault.{NameFault}
 use Rattle.office_core.specs.declared.named.NameFault.TheVariants as faults

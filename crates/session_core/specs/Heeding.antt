@@ -2,12 +2,12 @@
 use Rattle.std.specs.Prelude.{◌≡◌, ◌⊎◌, Bool, true, false, Option, Some, None}
 use Rattle.session_text.specs.declared.session.Action.{Action}
 use Rattle.session_text.specs.declared.session.Action.TheVariants as actions
-use Rattle.hear_core.specs.declared.fault.HearFault.{HearFault}
-use Rattle.hear_core.specs.declared.fault.HearFault.TheVariants as faults
-use Rattle.hear_core.specs.declared.ear.Heard.{Heard}
-use Rattle.hear_core.specs.declared.ear.Heard.TheVariants as heards
-use Rattle.hear_core.specs.Hearing.{Hearing}
-use Rattle.hear_core.specs.Ears.{ReadsOnce, ended_by}
+use Rattle.session_text.specs.declared.fault.HearFault.{HearFault}
+use Rattle.session_text.specs.declared.fault.HearFault.TheVariants as faults
+use Rattle.session_text.specs.declared.ear.Heard.{Heard}
+use Rattle.session_text.specs.declared.ear.Heard.TheVariants as heards
+use Rattle.session_text.specs.Hearing.{Hearing}
+use Rattle.session_text.specs.Ears.{ReadsOnce, ended_by}
 
 -- what ends the hearing where a line was not done: the answer of a cancel could not be sent, or there was no memory to
 -- hand the line over

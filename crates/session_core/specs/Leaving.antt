@@ -1,8 +1,8 @@
 -- The files that calls leave, and that are retired later.
 use Rattle.std.specs.Prelude.{◌≡◌, ◌⊎◌, List, ◌++◌}
-use Rattle.hand_core.specs.declared.hand.Stamp.{Stamp}
-use Rattle.hand_core.specs.Made.{Made}
-use Rattle.hand_core.specs.Retired.{Left, RetiresAll, files_left}
+use Rattle.device_core.specs.declared.hand.Stamp.{Stamp}
+use Rattle.device_core.specs.Made.{Made}
+use Rattle.device_core.specs.Retired.{Left, RetiresAll, files_left}
 
 -- each file that was left was retired once, in order, and those whose retire failed are left
 abbrev pub RetiresLeft : {H : Type 0} → (H → Made → H → Type 0) → H → List Stamp → List Stamp → H → Type 0

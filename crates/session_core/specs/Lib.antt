@@ -5,3 +5,9 @@ pub mod Heeding
 pub mod Opening
 pub mod Making
 pub mod Working
+pub mod Dialogue
+pub mod Laws
+pub mod Notes
+pub mod Repeats
+pub mod Written
+pub mod Truth

@@ -1,12 +1,12 @@
 -- The calls that a session makes.
 use Rattle.std.specs.Prelude.{⊤, ◌≡◌, ◌⊎◌, ℕ, List, [], ◌∷◌, ◌++◌, Option, Some, None, Ok}
 use Rattle.value_core.specs.declared.datum.Datum.{Datum}
-use Rattle.call_core.specs.Calls.{Call}
+use Rattle.run_core.specs.Calls.{Call}
 use Rattle.board_core.specs.Board.{Board}
 use Rattle.board_core.specs.Sound.{IsSound}
-use Rattle.ask_core.specs.Answers.{Asked, HasName}
-use Rattle.ask_core.specs.Keyed.{Finds}
-use Rattle.slip_core.specs.Slips.{Told}
+use Rattle.board_core.specs.Answers.{Asked, HasName}
+use Rattle.board_core.specs.Keyed.{Finds}
+use Rattle.office_core.specs.Slips.{Told}
 use Rattle.session_text.specs.declared.session.Action.{Action}
 use Rattle.session_text.specs.declared.session.Action.TheVariants as actions
 use Rattle.session_core.specs.declared.entered.Entered.{Entered}

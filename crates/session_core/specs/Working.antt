@@ -1,17 +1,17 @@
 -- What a session does with its hand: it runs calls, and retires the files that nobody needs any more.
 use Rattle.std.specs.Prelude.{◌≡◌, List, [], ◌++◌, Ok}
-use Rattle.hand_core.specs.declared.hand.Stamp.{Stamp}
-use Rattle.hand_core.specs.Device.{Assignment}
-use Rattle.hand_core.specs.Made.{Made}
-use Rattle.hand_core.specs.Retired.{Left, RetiresAll}
+use Rattle.device_core.specs.declared.hand.Stamp.{Stamp}
+use Rattle.device_core.specs.Device.{Assignment}
+use Rattle.device_core.specs.Made.{Made}
+use Rattle.device_core.specs.Retired.{Left, RetiresAll}
 use Rattle.page_core.specs.Calls.{AreMade}
 use Rattle.run_core.specs.declared.outcome.Outcome.{Outcome}
 use Rattle.run_core.specs.Outcomes.{outcome_call, outcome_reply, outcome_sealed}
 use Rattle.run_core.specs.AtOnce.{RunsAtOnce}
-use Rattle.ask_core.specs.declared.answer.Finished.{Finished}
-use Rattle.seat_core.specs.declared.seat.Seat.{Seat}
+use Rattle.board_core.specs.declared.answer.Finished.{Finished}
+use Rattle.office_core.specs.declared.client_seat.Seat.{Seat}
 use Rattle.office_core.specs.Seats.{CompletedIn}
-use Rattle.talk_core.specs.Truth.{Keeps, AreTrue}
+use Rattle.session_core.specs.Truth.{Keeps, AreTrue}
 use Rattle.session_core.specs.declared.work.Worked.{Worked}
 use Rattle.session_core.specs.Leaving.{RetiresLeft}
 

@@ -1,16 +1,16 @@
 //! How a session ended.
 
 ghost use Rattle.std.specs.Prelude.{◌≡◌, ◌↔◌, IsTrue, List, ℕ, Option};
-ghost use Rattle.talk_core.specs.Written.{IsNoteOf, AreFirst, AreAll, IsAccounted, IsSaid, HasWritten};
-ghost use Rattle.talk_core.specs.Written.{heard_fault as heard_in, told_fault};
+ghost use Rattle.session_core.specs.Written.{IsNoteOf, AreFirst, AreAll, IsAccounted, IsSaid, HasWritten};
+ghost use Rattle.session_core.specs.Written.{heard_fault as heard_in, told_fault};
 ghost use Rattle.session_core.specs.Causes.{IsCausedBy};
 
-use hear_core::fault::HearFault;
+use crate::fault::SessionFault;
+use crate::note::Note;
+use crate::output::Health;
 use office_core::seat::Seat;
-use slip_core::slip::Slip;
-use talk_core::fault::SessionFault;
-use talk_core::note::Note;
-use talk_core::output::Health;
+use office_core::slip::Slip;
+use session_text::fault::HearFault;
 
 /// What a session hands back.
 #[derive(Drop)]

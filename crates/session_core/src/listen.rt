@@ -2,17 +2,17 @@
 
 ghost use Rattle.session_core.specs.Heeding.{Heeds};
 
+use crate::mouth::Mouth;
 use crate::order::Offices;
+use crate::output::Start;
 use crossbeam_channel::Receiver;
-use hear_core::ear::{Ear, Heard};
-use hear_core::relay::Relay;
+use session_text::ear::{Ear, Heard};
 use session_text::line::{Line, Refusal};
+use session_text::relay::Relay;
 use session_text::session::Action;
 use std::alloc::Global;
 use std::io::{Read, Write};
 use std::sync::Wait;
-use talk_core::mouth::Mouth;
-use talk_core::output::Start;
 
 // Writes a line at once.
 fn tell<R: Wait, W: Write + Drop, J: Start>(rt: &R, mouth: &Mouth<W, J>, line: Line) -> bool {

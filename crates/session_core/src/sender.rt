@@ -1,11 +1,11 @@
 //! The third thread of a session: it sends what is held back while a call waits.
 
 use crate::listen::leave;
+use crate::mouth::{Mouth, Wish};
 use crate::order::Offices;
+use crate::output::Start;
 use std::io::Write;
 use std::sync::Wait;
-use talk_core::mouth::{Mouth, Wish};
-use talk_core::output::Start;
 
 /// Sends what is held back each time that the first thread asks for it, until that has ended. Where a line cannot be
 /// sent, the session leaves its object.

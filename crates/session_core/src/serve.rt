@@ -1,24 +1,28 @@
 //! Sessions over a reader and a writer.
 
 ghost use Rattle.std.specs.Prelude.{◌≡◌, ℕ, List, Option};
-ghost use Rattle.hand_core.specs.declared.hand.Stamp.{Stamp};
-ghost use Rattle.talk_core.specs.Truth.{Keeps, AreTrue};
-ghost use Rattle.talk_core.specs.Written.{IsSaid, HasWritten};
-ghost use Rattle.hear_core.specs.declared.fault.HearFault.{HearFault};
+ghost use Rattle.device_core.specs.declared.hand.Stamp.{Stamp};
+ghost use Rattle.session_core.specs.Truth.{Keeps, AreTrue};
+ghost use Rattle.session_core.specs.Written.{IsSaid, HasWritten};
+ghost use Rattle.session_text.specs.declared.fault.HearFault.{HearFault};
 ghost use Rattle.session_core.specs.Causes.{IsCausedBy, IsCaused};
 ghost use Rattle.session_core.specs.Working.{Works, HasWorked};
 
 use crate::end::{SessionEnd, conclude};
 use crate::entered::parked;
+use crate::fault::SessionFault;
 use crate::listen::listen;
+use crate::mouth::Mouth;
+use crate::note::Note;
 use crate::order::Offices;
+use crate::output::{Health, Start};
 use crate::sender::send;
 use crate::work::{Worked, work};
-use hand_core::hand::Hand;
-use hear_core::bell::{Bell, UntilBell};
-use hear_core::ear::Ear;
-use hear_core::reading::Reading;
-use hear_core::relay::Relay;
+use device_core::hand::Hand;
+use session_text::bell::{Bell, UntilBell};
+use session_text::ear::Ear;
+use session_text::reading::Reading;
+use session_text::relay::Relay;
 use std::alloc::Global;
 use std::io::{Read, Write};
 use std::marker::Brand;
@@ -26,10 +30,6 @@ use std::sync::Wait;
 use std::thread;
 use std::thread::Threads;
 use std::time::Clock;
-use talk_core::fault::SessionFault;
-use talk_core::mouth::Mouth;
-use talk_core::note::Note;
-use talk_core::output::{Health, Start};
 
 /// The connection to a client, by its two sides.
 #[derive(Drop)]

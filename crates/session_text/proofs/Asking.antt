@@ -9,7 +9,7 @@ use Rattle.std.specs.Str.{bytes_eq}
 use Rattle.std.proofs.lemmas.Slice.Eq.{bytes_eq-Decides}
 use Rattle.word_core.specs.Words.{Word, bare, quoted}
 use Rattle.word_core.specs.Data.{◌>>=◌, integer_of, data_of, bare_of, only_bare, only_integer, at_end}
-use Rattle.script_text.proofs.Choices.{none_some, some_same, choose, found_by}
+use Rattle.word_core.proofs.Choices.{none_some, some_same, choose, found_by}
 use Rattle.session_text.specs.Requests.{Request, opens, calls, cancels, quits, name_of, free_name_of, client_behind, as_behind, open_behind, open_named, call_behind, keyed_behind, digits_behind, call_by, open_request, call_request, cancel_request, request_by, request_of}
 use Rattle.session_text.specs.Laws.{Ask, RequestExact, Spells}
 use Rattle.session_text.proofs.Names.{name_found, name_spelled}

@@ -1,4 +1,6 @@
 pub mod Names
 pub mod Reserved
 pub mod Asking
-pub mod Reading
+pub mod SessionReading
+pub mod Lines
+pub mod Ears

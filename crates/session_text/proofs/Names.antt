@@ -3,9 +3,9 @@ use Rattle.std.proofs.Common.{◌≡◌, ℕ, List, Bool, true, false, refl, sym
 use Rattle.std.specs.Prelude.{Option, Some, None, MatchOption}
 use Rattle.std.specs.Str.{str_to_ascii_lowercase}
 use Rattle.path_tree.specs.Identifier.{IsIdentifier}
-use Rattle.script_text.specs.Identifier.{is_identifier}
-use Rattle.script_text.proofs.Identifiers.{identifier_decides}
-use Rattle.script_text.proofs.Choices.{none_some, some_same, choose}
+use Rattle.word_core.specs.Identifier.{is_identifier}
+use Rattle.word_core.proofs.Identifiers.{identifier_decides}
+use Rattle.word_core.proofs.Choices.{none_some, some_same, choose}
 use Rattle.session_text.specs.Requests.{name_of}
 use Rattle.session_text.specs.Laws.{Spells}
 

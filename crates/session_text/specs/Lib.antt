@@ -5,3 +5,8 @@ pub mod Table
 pub mod Lines
 pub mod Answers
 pub mod Laws
+pub mod HearLines
+pub mod Told
+pub mod Hearing
+pub mod Ears
+pub mod Handing

@@ -4,7 +4,7 @@ use Rattle.std.specs.Str.{bytes_eq, str_to_ascii_lowercase}
 use Rattle.value_core.specs.declared.datum.Datum.{Datum}
 use Rattle.word_core.specs.Words.{Word}
 use Rattle.word_core.specs.Data.{◌>>=◌, integer_of, data_of, bare_of, only_bare, only_integer, at_end}
-use Rattle.script_text.specs.Identifier.{is_identifier}
+use Rattle.word_core.specs.Identifier.{is_identifier}
 use Rattle.session_text.specs.Reserved.{is_reserved}
 
 -- an object of this name is to be opened, for a client that has a name or none; an operation is to be called, under a

@@ -7,12 +7,12 @@ ghost use Rattle.std.specs.Prelude.{◌≡◌, ◌++◌, Some, None, OnOk};
 ghost use Rattle.session_text.specs.Lines as lines;
 
 use apply_core::reply::Reply;
-use ask_core::answer::{Cancelled, KeyedFault, SubmitFault};
+use board_core::answer::{Cancelled, KeyedFault, SubmitFault};
 use path_tree::name::Name;
-use script_text::answers::{
+use std::alloc::AllocError;
+use word_core::answers::{
     push_cancelled, push_finished, push_kept, push_refused, push_repeated as push_repeated_line,
 };
-use std::alloc::AllocError;
 use word_core::line::push_line as push_words_line;
 use word_core::word::Written;
 

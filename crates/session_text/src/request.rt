@@ -2,7 +2,7 @@
 
 ghost use Rattle.std.specs.Prelude.{◌≡◌, IfOk};
 ghost use Rattle.word_core.specs.Data.{at_end};
-ghost use Rattle.line_read.specs.Reads.{Reads};
+ghost use Rattle.word_core.specs.Reads.{Reads};
 ghost use Rattle.session_text.specs.Reserved.{is_reserved as is_reserved_in};
 ghost use Rattle.session_text.specs.Requests.{name_of as name_in, free_name_of as free_name_in};
 ghost use Rattle.session_text.specs.Requests.{open_request as open_in, open_named as open_named_in};
@@ -12,13 +12,13 @@ ghost use Rattle.session_text.specs.Requests.{digits_behind, cancel_request as c
 ghost use Rattle.session_text.specs.Requests.{request_by as request_in};
 ghost use Rattle.session_text.specs.View.{request_view, IsReadOf};
 
-use line_core::words::is_same_word;
-use line_read::arguments::data_of;
-use line_read::front::{is_blank, next_bare, only_bare};
 use path_tree::lex::word::reserved;
 use path_tree::name::Name;
 use std::alloc::{AllocError, Global};
+use text_core::words::is_same_word;
 use value_core::datum::Datum;
+use word_core::arguments::data_of;
+use word_core::front::{is_blank, next_bare, only_bare};
 use word_core::number::integer_of;
 
 /// What a line of a session asks for.

@@ -3,8 +3,8 @@
 use crate::make::{BUFFER, EMPTY, TURNS, ZERO, offices, tells};
 use crate::streams::{Counted, Gate, Told, await_lines};
 use device_core::memory::MemHand;
-use hear_core::bell::Bell;
 use session_core::serve::{Connection, serve_session};
+use session_text::bell::Bell;
 use std::io::{self, Read, Write};
 use std::process::Abort;
 use std::sync::Arc;

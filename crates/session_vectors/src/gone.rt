@@ -2,11 +2,11 @@
 
 use crate::make::{STEPS, TURNS, ZERO, offices, serve};
 use crate::streams::{Short, await_lines};
-use call_core::ticket::Ticket;
 use device_core::memory::MemHand;
 use office_core::office::Office;
 use office_core::seat::{Seat, Started, Submitted, Tried};
 use run_core::at_once::run_at_once;
+use run_core::ticket::Ticket;
 use session_core::end::SessionEnd;
 use session_core::order::Named;
 use session_core::serve::Connection;

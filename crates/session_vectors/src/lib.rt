@@ -1,4 +1,4 @@
-//! Sessions of clients, over the public calls of `session_core` and `talk_core`, where no case shows it: readers, writers
+//! Sessions of clients, over the public calls of `session_core` and `session_core`, where no case shows it: readers, writers
 //! and devices that behave as a test needs. Above each test stands the edit of `wrong-by-test/` that it catches, or what
 //! no case can show.
 #![tactic(auto)]

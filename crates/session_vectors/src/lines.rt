@@ -4,14 +4,14 @@ use crate::make::{CELL, ZERO, offices, serve};
 use crate::streams::{Streams, connected};
 use office_core::office::Office;
 use office_core::seat::Seat;
+use office_core::slip::Slip;
+use session_core::fault::SessionFault;
 use session_core::order::Named;
-use slip_core::slip::Slip;
 use std::alloc::Global;
 use std::process::Abort;
 use std::sync::Wait;
 use std::thread::Threads;
 use std::time::Clock;
-use talk_core::fault::SessionFault;
 
 // Lines, and what answers them.
 const ASKED: &[u8] = b"open cell\ncancel 7\ndance\nopen nothing\nquit\n";

@@ -1,12 +1,11 @@
 //! Offices of small objects, and sessions on them.
 
 use crate::streams::Told;
+use decl_core::analyse::{Accepted, analyse};
 use decl_read::read::read_objects;
+use device_core::hand::Hand;
 use device_core::memory::MemHand;
-use exclude_core::analyse::{Accepted, analyse};
-use hand_core::hand::Hand;
-use hand_core::whole::put;
-use hear_core::bell::Bell;
+use device_core::whole::put;
 use office_core::inside::Inside;
 use office_core::office::Office;
 use page_core::page_list::PageList;
@@ -15,6 +14,7 @@ use path_tree::name::Name;
 use session_core::end::SessionEnd;
 use session_core::order::Named;
 use session_core::serve::{Connection, serve_session};
+use session_text::bell::Bell;
 use std::alloc::Global;
 use std::io::{Read, Write};
 use std::process::Abort;

@@ -2,11 +2,12 @@
 
 use crate::make::{BUFFER, EMPTY, STEPS, ZERO, offices, serve, tells};
 use crate::streams::{Counted, Gate, Streams, await_lines, connected};
-use call_core::ticket::Ticket;
 use office_core::office::Office;
 use office_core::seat::{Seat, Started, Submitted, Tried};
 use path_tree::name::Name;
 use run_core::at_once::run_at_once;
+use run_core::ticket::Ticket;
+use session_core::fault::SessionFault;
 use session_core::order::Named;
 use session_core::serve::Connection;
 use std::alloc::Global;
@@ -16,7 +17,6 @@ use std::sync::atomic::{AtomicU64, Ordering};
 use std::sync::{Arc, Wait};
 use std::thread;
 use std::time::Clock;
-use talk_core::fault::SessionFault;
 
 // A reader of lines that come one after the other, whose input ends only once it may. It tells when it
 // is asked for its end.

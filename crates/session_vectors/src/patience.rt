@@ -1,9 +1,9 @@
 //! Writers that take nothing for a while.
 
-use hear_core::bell::Bell;
+use session_core::patient::{LAST_PAUSES, MOST_PAUSES, Patient};
+use session_text::bell::Bell;
 use std::alloc::Global;
 use std::io::{self, Write};
-use talk_core::patient::{LAST_PAUSES, MOST_PAUSES, Patient};
 
 // A writer that takes nothing so often, and then one byte a write.
 #[derive(Drop)]

@@ -2,9 +2,9 @@
 
 use crate::make::{ZERO, offices, tells};
 use crate::streams::{Counted, Gate, await_lines};
+use device_core::hand::{Hand, HandFault, Pen, Stamp};
 use device_core::memory::MemHand;
-use hand_core::hand::{Hand, HandFault, Pen, Stamp};
-use hand_core::whole::put;
+use device_core::whole::put;
 use session_core::order::Named;
 use session_core::serve::Connection;
 use std::alloc::Global;

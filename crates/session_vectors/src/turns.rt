@@ -2,13 +2,13 @@
 
 use crate::streams::Short;
 use apply_core::reply::Reply;
+use session_core::mouth::Mouth;
+use session_core::output::Health;
 use session_text::line::Line;
 use std::alloc::Global;
 use std::marker::Brand;
 use std::process::Abort;
 use std::sync::Wait;
-use talk_core::mouth::Mouth;
-use talk_core::output::Health;
 
 // Whether all goes so, and this is written, where these lines are said, and sent after each, and then the last line of a
 // call or none.

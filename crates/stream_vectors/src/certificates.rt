@@ -1,7 +1,7 @@
 //! Which entries are a certificate of an object.
 
 use crate::fakes::only_object;
-use exclude_core::certificate::{Certificate, Entry, check_certificate};
+use decl_core::certificate::{Certificate, Entry, check_certificate};
 use std::alloc::Global;
 use std::process::Abort;
 

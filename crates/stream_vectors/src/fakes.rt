@@ -1,8 +1,8 @@
 //! Readers and writers that fail where a test wants it, and objects.
 
+use decl_core::analyse::{Accepted, analyse};
 use decl_core::object::Object;
 use decl_read::read::read_objects;
-use exclude_core::analyse::{Accepted, analyse};
 use std::alloc::Global;
 use std::io::{self, ErrorKind, Read, Write};
 use std::process::Abort;

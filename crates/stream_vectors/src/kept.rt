@@ -4,7 +4,7 @@ use decl_core::object::Object;
 use decl_read::read::read_objects;
 use live_core::call::{Carried, Limits};
 use live_core::live::Live;
-use past_core::past::PastEvent;
+use path_count::past::PastEvent;
 use std::alloc::Global;
 use std::process::Abort;
 use value_core::datum::Datum;

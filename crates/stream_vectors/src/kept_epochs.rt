@@ -3,8 +3,8 @@
 use crate::kept::{FEW, carried_put, kept, kept_behind, one, opening, slot};
 use live_core::call::Carried;
 use live_core::live::Live;
-use past_core::finder::short_past;
-use past_core::past::PastEvent::{self, End, Start};
+use path_count::finder::short_past;
+use path_count::past::PastEvent::{self, End, Start};
 use path_tree::node::OpId;
 use std::alloc::Global;
 use std::process::Abort;

@@ -1,9 +1,9 @@
 //! Pasts that are played, and the short ones that are found in their place.
 
 use crate::fakes::only_object;
-use past_core::finder::short_past;
-use past_core::past::PastEvent::{self, End, Start};
-use past_core::past::counters_behind;
+use path_count::finder::short_past;
+use path_count::past::PastEvent::{self, End, Start};
+use path_count::past::counters_behind;
 use path_tree::tree::PathTree;
 use std::alloc::{AllocError, Global};
 

@@ -3,3 +3,7 @@ pub mod Forms
 pub mod Going
 pub mod Held
 pub mod Kept
+pub mod Bridging
+pub mod Checking
+pub mod Counting
+pub mod Covering

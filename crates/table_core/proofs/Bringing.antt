@@ -5,11 +5,11 @@ use Rattle.post_core.specs.Posts.{Tells}
 use Rattle.post_core.specs.declared.post.Post.{Post}
 use Rattle.session_text.specs.declared.line.Line.{Line}
 use Rattle.session_text.specs.Lines.{line_text}
-use Rattle.told_core.specs.State.{Peer, State, told_to, one_text, who_in}
-use Rattle.told_core.specs.Deeds.{Texts, Deed, Nothing, OnlyTold, Then}
-use Rattle.told_core.specs.Asked.{IsRefusal, IsRefused}
-use Rattle.told_core.specs.Turns.{GoesOn}
-use Rattle.told_core.specs.Turns.GoesOn.{rests, does}
+use Rattle.client_core.specs.State.{Peer, State, told_to, one_text, who_in}
+use Rattle.client_core.specs.Deeds.{Texts, Deed, Nothing, OnlyTold, Then}
+use Rattle.client_core.specs.Asked.{IsRefusal, IsRefused}
+use Rattle.client_core.specs.Turns.{GoesOn}
+use Rattle.client_core.specs.Turns.GoesOn.{rests, does}
 use Rattle.table_core.specs.Brings.{Brings, Continues}
 use Rattle.table_core.proofs.Telling.{tells_none, tells_then}
 

@@ -3,20 +3,20 @@ use Rattle.std.proofs.Common.{◌≡◌, ◌∙◌, ap, sym, subst, refl, ℕ, i
 use Rattle.std.specs.Prelude.{Bool, true, false, Some, slice_get, slice_set}
 use Rattle.post_core.specs.Posts.{Tells}
 use Rattle.post_core.specs.declared.post.Post.{Post}
-use Rattle.script_text.specs.Answers.{cancelled_line}
+use Rattle.word_core.specs.Answers.{cancelled_line}
 use Rattle.session_text.specs.declared.line.Line.{Line}
 use Rattle.session_text.specs.Lines.{cancel_name, line_text, withdrawn_text}
-use Rattle.ask_core.specs.declared.answer.Cancelled.{Cancelled}
-use Rattle.ask_core.specs.declared.answer.Cancelled.TheVariants as answers
+use Rattle.board_core.specs.declared.answer.Cancelled.{Cancelled}
+use Rattle.board_core.specs.declared.answer.Cancelled.TheVariants as answers
 use Rattle.client_core.specs.declared.client.Opened.{Opened}
 use Rattle.hosted_core.specs.Keys.{WaitsAs}
 use Rattle.hosted_core.specs.Scene.{Scene}
-use Rattle.told_core.specs.Custody.{Custodies}
-use Rattle.told_core.specs.State.{Peer, State, opened_at, told_to, with_object}
-use Rattle.told_core.specs.Deeds.{Texts, OnlyTold}
-use Rattle.told_core.specs.Asked.{IsRefusal, Ends, LetsGo, AnswersCancel}
-use Rattle.told_core.specs.Turns.{NoneWaits, Withdraws}
-use Rattle.told_core.proofs.Doing.{ends_keeps}
+use Rattle.client_core.specs.Custody.{Custodies}
+use Rattle.client_core.specs.State.{Peer, State, opened_at, told_to, with_object}
+use Rattle.client_core.specs.Deeds.{Texts, OnlyTold}
+use Rattle.client_core.specs.Asked.{IsRefusal, Ends, LetsGo, AnswersCancel}
+use Rattle.client_core.specs.Turns.{NoneWaits, Withdraws}
+use Rattle.client_core.proofs.Doing.{ends_keeps}
 use Rattle.table_core.specs.Brings.{Brings}
 use Rattle.table_core.specs.Objects.{HasCancelled, NoneWaitsAt}
 use Rattle.table_core.specs.Parts.{Stays, HasLetGo, TellsCancelled, CancelsOne}

@@ -12,10 +12,10 @@ use Rattle.client_core.specs.Held.{is_some}
 use Rattle.guest_core.specs.declared.guests.Entered.{Entered}
 use Rattle.hosted_core.specs.Lines.{entered_lines}
 use Rattle.hosted_core.specs.Scene.{Scene, with_guests}
-use Rattle.told_core.specs.Custody.{Custodies, IsFreeOf}
-use Rattle.told_core.specs.State.{Peer, State, change, changed, nobody, opening, opened_at, peers_of, told_to}
-use Rattle.told_core.specs.Deeds.{Texts, OnlyTold}
-use Rattle.told_core.specs.Asked.{IsRefusal, IsRefused, OpensBare, Opens, HasNoSession, Goes, Quits}
+use Rattle.client_core.specs.Custody.{Custodies, IsFreeOf}
+use Rattle.client_core.specs.State.{Peer, State, change, changed, nobody, opening, opened_at, peers_of, told_to}
+use Rattle.client_core.specs.Deeds.{Texts, OnlyTold}
+use Rattle.client_core.specs.Asked.{IsRefusal, IsRefused, OpensBare, Opens, HasNoSession, Goes, Quits}
 use Rattle.table_core.specs.Brings.{Brings}
 use Rattle.table_core.specs.Objects.{IsNamed, HasEntered, LeavesAt}
 use Rattle.table_core.specs.Parts.{TellsOpened, Stays, HasCome, LeavesOf}

@@ -3,7 +3,7 @@ use Rattle.std.proofs.Common.{◌≡◌, ◌≢◌, ◌∙◌, ap, sym, subst, r
 use Rattle.std.specs.Prelude.{Bool, Option, Some, None, Result, Ok, Err, slice_get, slice_set, slice_index_or}
 use Rattle.std.proofs.lemmas.Option.{same_Some, slice_get-get_or}
 use Rattle.value_core.specs.declared.datum.Datum.{Datum}
-use Rattle.ask_core.specs.declared.answer.SubmitFault.{SubmitFault}
+use Rattle.board_core.specs.declared.answer.SubmitFault.{SubmitFault}
 use Rattle.guest_core.specs.declared.guests.Entered.{Entered}
 use Rattle.guest_core.specs.declared.guests.EnterFault.{EnterFault}
 use Rattle.guest_core.specs.declared.guests.EnterFault.TheVariants.{InUse, Full, Memory}
@@ -14,7 +14,7 @@ use Rattle.guest_core.specs.Seats.{IsLeastFree}
 use Rattle.live_core.specs.declared.live.Taken.{Taken}
 use Rattle.hosted_core.specs.Calls.{Calls, Cancels, CancelsSome}
 use Rattle.live_core.specs.Hall.{Every}
-use Rattle.trace_core.specs.Events.{Called}
+use Rattle.word_core.specs.Events.{Called}
 use Rattle.hosted_core.specs.Scene.{Scene, with_guests}
 use Rattle.hosted_core.specs.Steps.{Comes}
 use Rattle.hosted_core.specs.Lines.{entered_lines}

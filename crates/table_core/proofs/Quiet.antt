@@ -5,7 +5,7 @@ use Rattle.std.proofs.lemmas.Option.{same_Some}
 use Rattle.client_core.specs.declared.client.Client.{Client}
 use Rattle.client_core.specs.declared.clients.Clients.{Clients}
 use Rattle.client_core.specs.Places.{held_in, is_here_in, opened_in, place_at}
-use Rattle.told_core.specs.State.{Peer, peer_of, peers_of}
+use Rattle.client_core.specs.State.{Peer, peer_of, peers_of}
 
 none_left : (n : ℕ) → drop {A = ℕ} n [] ≡ []
 none_left zero = refl

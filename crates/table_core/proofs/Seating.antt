@@ -3,7 +3,7 @@ use Rattle.std.proofs.Common.{◌≡◌, ◌≢◌, ◌⊎◌, inl, inr, eqb, �
 use Rattle.std.specs.Prelude.{Bool, true, false, Option, Some, None, Result, IfSome, IfNone, IfOk, option_map, slice_get, if◌then◌else◌}
 use Rattle.std.specs.declared.alloc.AllocError.{AllocError}
 use Rattle.std.proofs.lemmas.Bool.Decides.{eqb_tells}
-use Rattle.line_core.specs.Runs.{NoLineFeed}
+use Rattle.text_core.specs.Runs.{NoLineFeed}
 use Rattle.std.proofs.lemmas.Option.{same_Some, slice_get-map}
 use Rattle.hosted_core.specs.Scene.{Scene}
 use Rattle.client_core.specs.declared.ask.Ask.{Ask}
@@ -14,10 +14,10 @@ use Rattle.client_core.specs.Held.{waits_of, waits_in, is_not, is_some, rest_in,
 use Rattle.client_core.specs.People.{Person}
 use Rattle.client_core.specs.Places.{has_in, is_here_in, opened_in as has_opened, held_in as all_held, place_at, place_for, Elsewhere}
 use Rattle.client_core.specs.Asks.{Asks}
-use Rattle.told_core.specs.Custody.{Custodies}
-use Rattle.told_core.specs.State.{Peer, State, cut_of, peer_of, peers_of, change, nobody, comer, opening, waiting, holding, left_with, who_in, opened_in, held_in}
-use Rattle.told_core.specs.Asked.{IsFor, Waits}
-use Rattle.told_core.specs.Turns.{TakesLine}
+use Rattle.client_core.specs.Custody.{Custodies}
+use Rattle.client_core.specs.State.{Peer, State, cut_of, peer_of, peers_of, change, nobody, comer, opening, waiting, holding, left_with, who_in, opened_in, held_in}
+use Rattle.client_core.specs.Asked.{IsFor, Waits}
+use Rattle.client_core.specs.Turns.{TakesLine}
 use Rattle.table_core.specs.Seen.{state_of}
 
 -- what is seen of a place

@@ -3,7 +3,7 @@ use Rattle.std.proofs.Common.{◌≡◌, ◌∙◌, ap, sym, subst, refl, ℕ, i
 use Rattle.std.specs.Prelude.{false, Option, Some, None, Result, Ok, Err, IfOk, IfSome, slice_get, slice_set}
 use Rattle.std.specs.declared.alloc.AllocError.{AllocError}
 use Rattle.decl_core.specs.ObjectForm.{ObjectForm}
-use Rattle.gone_core.specs.declared.holding.OwedCall.{OwedCall}
+use Rattle.custody_core.specs.declared.holding.OwedCall.{OwedCall}
 use Rattle.std.proofs.lemmas.List.{append_cancel_right}
 use Rattle.std.proofs.lemmas.Option.{same_Some}
 use Rattle.post_core.specs.Posts.{Tells}
@@ -17,20 +17,20 @@ use Rattle.session_text.specs.declared.line.Line.{Line}
 use Rattle.session_text.specs.Lines.{line_text}
 use Rattle.guest_core.specs.declared.seats.Seat.TheVariants.{Nameless}
 use Rattle.guest_core.specs.Guests.{with_seat}
-use Rattle.hold_form.specs.HoldForm.{EveryForm}
+use Rattle.decl_core.specs.HoldForm.{EveryForm}
 use Rattle.client_core.specs.declared.client.Opened.{Opened}
 use Rattle.client_core.specs.declared.clients.Clients.{Clients}
 use Rattle.hosted_core.specs.Scene.{Scene, with_guests}
-use Rattle.told_core.specs.Custody.{Custody, Custodies, IsFreeOf, IsOwed, HasNone, HasSome, FollowsIn, MayMake, held_lines_in, not_held_text}
-use Rattle.told_core.specs.Custody.IsOwed.{again}
-use Rattle.told_core.specs.Moves.{Begins, BeginsHeld, FrontsHeld}
-use Rattle.told_core.specs.State.{State, opened_at, peers_of}
-use Rattle.told_core.specs.Deeds.{Texts, Deed, OnlyTold}
-use Rattle.told_core.specs.Asked.{AllEnd, Follows, IsRefusal}
-use Rattle.told_core.specs.Gone.{CallsFor, NoneHas, Settles}
-use Rattle.told_core.specs.Gone.Settles.{rests, goes_on, calls, seats, frees}
-use Rattle.told_core.specs.Turns.{GoesOn}
-use Rattle.told_core.proofs.Doing.{all_end_keeps}
+use Rattle.client_core.specs.Custody.{Custody, Custodies, IsFreeOf, IsOwed, HasNone, HasSome, FollowsIn, MayMake, held_lines_in, not_held_text}
+use Rattle.client_core.specs.Custody.IsOwed.{again}
+use Rattle.client_core.specs.Moves.{Begins, BeginsHeld, FrontsHeld}
+use Rattle.client_core.specs.State.{State, opened_at, peers_of}
+use Rattle.client_core.specs.Deeds.{Texts, Deed, OnlyTold}
+use Rattle.client_core.specs.Asked.{AllEnd, Follows, IsRefusal}
+use Rattle.client_core.specs.Gone.{CallsFor, NoneHas, Settles}
+use Rattle.client_core.specs.Gone.Settles.{rests, goes_on, calls, seats, frees}
+use Rattle.client_core.specs.Turns.{GoesOn}
+use Rattle.client_core.proofs.Doing.{all_end_keeps}
 use Rattle.table_core.specs.Brings.{Brings, Continues, SettlesOn}
 use Rattle.table_core.specs.Objects.{IsKnownAt, LeavesAt, NoneWaitsAt, SeatsAt}
 use Rattle.table_core.specs.Parts.{AsksCall, EndsAll, FreesOr, HasMade, IsOwedAt, LeavesOf, MakesCall, MayAsk, MayNotAsk, SeatsOr, TellsAll, TellsTaken, TellsUnheld, bare_seat}

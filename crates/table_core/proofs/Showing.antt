@@ -11,13 +11,13 @@ use Rattle.client_core.specs.declared.ask.Sight.TheVariants as insides
 use Rattle.client_core.specs.declared.client.Opened.{Opened}
 use Rattle.hosted_core.specs.Scene.{Scene}
 use Rattle.client_core.specs.People.{Person}
-use Rattle.hold_form.specs.HoldForm.{HoldForm}
-use Rattle.hold_core.specs.Held.{HeldCall}
-use Rattle.told_core.specs.Custody.{Custody, holds_by, held_by}
-use Rattle.told_core.specs.State.{State, opened_at}
-use Rattle.told_core.specs.Deeds.{Texts, OnlyTold}
-use Rattle.told_core.specs.Asked.{IsRefusal, IsRefused, AnswersInside}
-use Rattle.told_core.specs.Inside.{Crowd, IsWhy, IsWho, IsList, object_in}
+use Rattle.decl_core.specs.HoldForm.{HoldForm}
+use Rattle.guest_core.specs.Held.{HeldCall}
+use Rattle.client_core.specs.Custody.{Custody, holds_by, held_by}
+use Rattle.client_core.specs.State.{State, opened_at}
+use Rattle.client_core.specs.Deeds.{Texts, OnlyTold}
+use Rattle.client_core.specs.Asked.{IsRefusal, IsRefused, AnswersInside}
+use Rattle.client_core.specs.ToldInside.{Crowd, IsWhy, IsWho, IsList, object_in}
 use Rattle.table_core.specs.Brings.{Brings}
 use Rattle.table_core.specs.Looks.{LooksOf}
 use Rattle.table_core.specs.Parts.{Shows, ShowsText}

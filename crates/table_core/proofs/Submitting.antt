@@ -5,7 +5,7 @@ use Rattle.post_core.specs.Posts.{Tells}
 use Rattle.post_core.specs.declared.post.Post.{Post}
 use Rattle.value_core.specs.declared.datum.Datum.{Datum}
 use Rattle.decl_core.specs.ObjectMap.{object_of}
-use Rattle.trace_core.specs.Text.{operation_name}
+use Rattle.word_core.specs.Text.{operation_name}
 use Rattle.session_text.specs.declared.line.Line.{Line}
 use Rattle.session_text.specs.Lines.{accepted_text, ended_text, line_text}
 use Rattle.client_core.specs.declared.client.Opened.{Opened}
@@ -20,11 +20,11 @@ use Rattle.hosted_core.specs.declared.hosted.Keyed.{Keyed}
 use Rattle.hosted_core.specs.declared.hosted.Keyed.TheVariants as keys
 use Rattle.hosted_core.specs.Keys.{Says}
 use Rattle.hosted_core.specs.Scene.{Scene, told_of, with_guests}
-use Rattle.told_core.specs.Custody.{Custodies}
-use Rattle.told_core.specs.State.{Peer, State, change, changed, counted, opening, waiting, opened_at, peers_of, session_by, told_to}
-use Rattle.told_core.specs.Deeds.{Texts, OnlyTold}
-use Rattle.told_core.specs.Asked.{IsRefusal, IsRefused, Sits, Waits, Ends, AllEnd, AnswersCall, keyed_text}
-use Rattle.told_core.proofs.Doing.{ends_keeps, all_end_keeps}
+use Rattle.client_core.specs.Custody.{Custodies}
+use Rattle.client_core.specs.State.{Peer, State, change, changed, counted, opening, waiting, opened_at, peers_of, session_by, told_to}
+use Rattle.client_core.specs.Deeds.{Texts, OnlyTold}
+use Rattle.client_core.specs.Asked.{IsRefusal, IsRefused, Sits, Waits, Ends, AllEnd, AnswersCall, keyed_text}
+use Rattle.client_core.proofs.Doing.{ends_keeps, all_end_keeps}
 use Rattle.table_core.specs.Brings.{Brings}
 use Rattle.table_core.specs.Objects.{HasOperation, SeatsAt, HasCalled}
 use Rattle.table_core.specs.Parts.{Stays, HasMade, TellsTaken, TellsAll, SubmitsOr, MakesCall, AsksCall, UnderKey}

@@ -4,7 +4,7 @@ use Rattle.std.proofs.lemmas.List.{append-nil}
 use Rattle.post_core.specs.Posts.{Tells, owed_to}
 use Rattle.post_core.specs.Texts.{text_at, to}
 use Rattle.post_core.specs.declared.post.Post.{Post}
-use Rattle.told_core.proofs.Moving.{to_more}
+use Rattle.client_core.proofs.Moving.{to_more}
 
 -- nothing is told
 pub tells_none : (post : Post) → Tells post post [] []

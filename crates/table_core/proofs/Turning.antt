@@ -2,14 +2,14 @@
 use Rattle.std.proofs.Common.{◌≡◌, ap, sym, subst, refl, arith, ℕ, zero, suc, ◌+◌, inl, inr, List, [], ◌∷◌, ◌++◌, append_assoc, append-nil, true≢false, not}
 use Rattle.std.specs.Prelude.{Bool, true, false, Option, Some, None, Result, Ok, Err, IfOk}
 use Rattle.std.specs.declared.alloc.AllocError.{AllocError}
-use Rattle.line_core.specs.Runs.{NoLineFeed}
-use Rattle.line_read.specs.Reads.{Reads}
+use Rattle.text_core.specs.Runs.{NoLineFeed}
+use Rattle.word_core.specs.Reads.{Reads}
 use Rattle.post_core.specs.Posts.{Tells, Does}
 use Rattle.post_core.specs.declared.post.Post.{Post}
 use Rattle.post_core.specs.Turns.Asked.{Heard, Noted}
 use Rattle.post_core.specs.declared.served.LineEnd.{LineEnd}
 use Rattle.post_core.specs.declared.served.Note.{Note}
-use Rattle.ask_core.specs.declared.answer.SubmitFault.TheVariants as faults
+use Rattle.board_core.specs.declared.answer.SubmitFault.TheVariants as faults
 use Rattle.session_text.specs.declared.line.Line.TheVariants as lines
 use Rattle.session_text.specs.Lines.{line_text}
 use Rattle.client_core.specs.declared.ask.Ask.{Ask}
@@ -22,15 +22,15 @@ use Rattle.client_core.specs.declared.ask.Sight.{Sight}
 use Rattle.client_core.specs.Inside.{inside_in}
 use Rattle.client_core.specs.Numbers.{cancel_in}
 use Rattle.hosted_core.specs.Scene.{Scene}
-use Rattle.told_core.specs.Custody.{Custodies}
-use Rattle.told_core.specs.State.{State, change, comer, holding, held_at, opened_at, waits_at, who_at, peers_of}
-use Rattle.told_core.specs.Deeds.{Texts, Deed, Nothing, OnlyTold, Then}
-use Rattle.told_core.specs.Asked.{AnswersCancel, AnswersInside, Heeds, Goes}
-use Rattle.told_core.specs.Gone.{Settles}
-use Rattle.told_core.specs.Turns.{IsIdle, HearsLine, HearsLast, HearsAt, TakesLine, GoesOn, EndsAsk, EndsHeld, Withdraws, WithdrawsAt, Leaves, LeavesIf, Comes, IfHere, AllLeave, Notes, place_of}
-use Rattle.told_core.specs.Turns.HearsLine.{does, cancels, sees, puts_off, holds, refuses}
-use Rattle.told_core.specs.Turns.GoesOn.{rests, does as does_more}
-use Rattle.told_core.specs.Turns.EndsHeld.{all, quits, goes_on}
+use Rattle.client_core.specs.Custody.{Custodies}
+use Rattle.client_core.specs.State.{State, change, comer, holding, held_at, opened_at, waits_at, who_at, peers_of}
+use Rattle.client_core.specs.Deeds.{Texts, Deed, Nothing, OnlyTold, Then}
+use Rattle.client_core.specs.Asked.{AnswersCancel, AnswersInside, Heeds, Goes}
+use Rattle.client_core.specs.Gone.{Settles}
+use Rattle.client_core.specs.Turns.{IsIdle, HearsLine, HearsLast, HearsAt, TakesLine, GoesOn, EndsAsk, EndsHeld, Withdraws, WithdrawsAt, Leaves, LeavesIf, Comes, IfHere, AllLeave, Notes, place_of}
+use Rattle.client_core.specs.Turns.HearsLine.{does, cancels, sees, puts_off, holds, refuses}
+use Rattle.client_core.specs.Turns.GoesOn.{rests, does as does_more}
+use Rattle.client_core.specs.Turns.EndsHeld.{all, quits, goes_on}
 use Rattle.table_core.specs.Brings.{Brings, Continues, EndsSome}
 use Rattle.table_core.specs.Moves.{Gives}
 use Rattle.table_core.specs.Seen.{seen, state_of}

@@ -2,10 +2,10 @@
 use Rattle.std.specs.Prelude.{ℕ, ◌++◌}
 use Rattle.post_core.specs.Posts.{Tells}
 use Rattle.post_core.specs.declared.post.Post.{Post}
-use Rattle.told_core.specs.State.{State}
-use Rattle.told_core.specs.Deeds.{Texts, Deed}
-use Rattle.told_core.specs.Gone.{Settles}
-use Rattle.told_core.specs.Turns.{GoesOn, EndsHeld}
+use Rattle.client_core.specs.State.{State}
+use Rattle.client_core.specs.Deeds.{Texts, Deed}
+use Rattle.client_core.specs.Gone.{Settles}
+use Rattle.client_core.specs.Turns.{GoesOn, EndsHeld}
 
 -- something is told and added, and it is what is told and added where this is done
 pub record Brings (deed : Deed) (before : Post) (old : State) (after : Post) (new : State) : Type 0 where

@@ -2,9 +2,9 @@
 use Rattle.std.specs.Prelude.{◌⊎◌, ℕ, List}
 use Rattle.client_core.specs.declared.ask.Sight.{Sight}
 use Rattle.client_core.specs.People.{Person}
-use Rattle.told_core.specs.Deeds.{Deed}
-use Rattle.told_core.specs.Asked.{IsRefused}
-use Rattle.told_core.specs.Inside.{SeesOf}
+use Rattle.client_core.specs.Deeds.{Deed}
+use Rattle.client_core.specs.Asked.{IsRefused}
+use Rattle.client_core.specs.ToldInside.{SeesOf}
 
 -- it is told that, where these clients are there, in this second, or is refused
 abbrev pub LooksOf : List Person → ℕ → ℕ → Sight → Deed

@@ -5,10 +5,10 @@ use Rattle.std.specs.declared.alloc.AllocError.{AllocError}
 use Rattle.path_tree.specs.Identifier.{IsName}
 use Rattle.value_core.specs.declared.datum.Datum.{Datum}
 use Rattle.decl_core.specs.ObjectMap.{object_of}
-use Rattle.script_text.specs.Answers.{cancelled_line}
+use Rattle.word_core.specs.Answers.{cancelled_line}
 use Rattle.session_text.specs.Lines.{accepted_text, cancel_name, withdrawn_text}
-use Rattle.ask_core.specs.declared.answer.Cancelled.TheVariants as answers
-use Rattle.ask_core.specs.declared.answer.SubmitFault.{SubmitFault}
+use Rattle.board_core.specs.declared.answer.Cancelled.TheVariants as answers
+use Rattle.board_core.specs.declared.answer.SubmitFault.{SubmitFault}
 use Rattle.live_core.specs.declared.call.Ran.{Ran}
 use Rattle.live_core.specs.declared.live.Taken.{Taken}
 use Rattle.live_core.specs.Lines.{all_lines}
@@ -25,12 +25,12 @@ use Rattle.hosted_core.specs.Scene.{Scene, told_of, with_guests}
 use Rattle.client_core.specs.declared.client.Opened.{Opened}
 use Rattle.post_core.specs.Posts.{Tells}
 use Rattle.post_core.specs.declared.post.Post.{Post}
-use Rattle.told_core.specs.State.{State, opening, changed, with_object, told_to, counted, session_by}
-use Rattle.told_core.specs.Deeds.{Texts, Deed, OnlyTold}
-use Rattle.told_core.specs.Custody.{Custody, IsOwed, not_held_text}
-use Rattle.told_core.specs.Asked.{IsRefused, Sits, Submits, AllEnd, Ends, Follows, LetsGo, IsNotCancelled, LeavesObject, MayCall, NoneLeaves, keyed_text}
-use Rattle.told_core.specs.Gone.{Frees, SeatsOne}
-use Rattle.told_core.specs.Turns.{NoneWaits}
+use Rattle.client_core.specs.State.{State, opening, changed, with_object, told_to, counted, session_by}
+use Rattle.client_core.specs.Deeds.{Texts, Deed, OnlyTold}
+use Rattle.client_core.specs.Custody.{Custody, IsOwed, not_held_text}
+use Rattle.client_core.specs.Asked.{IsRefused, Sits, Submits, AllEnd, Ends, Follows, LetsGo, IsNotCancelled, LeavesObject, MayCall, NoneLeaves, keyed_text}
+use Rattle.client_core.specs.Gone.{Frees, SeatsOne}
+use Rattle.client_core.specs.Turns.{NoneWaits}
 
 -- the one at a place is told this, and has opened that
 pub record TellsOpened (place : ℕ) (text : List ℕ) (opened : Opened) (old : State) (said added : Texts) (new : State) : Type 0 where

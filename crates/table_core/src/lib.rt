@@ -5,7 +5,7 @@
 //! each waiting call that may start then, in the order of their numbers; each last line goes to the connection that made
 //! the call. Behind a call that waits the lines of its connection are held, but for `cancel` and what asks to see something; where
 //! it has ended they are done in the same turn, whosever turn it is. What a client held that is gone is given back in the
-//! turn in which that is known (`gone`). `told_core` says what a turn gives.
+//! turn in which that is known (`gone`). `client_core` says what a turn gives.
 #![tactic(auto)]
 
 mod gone;

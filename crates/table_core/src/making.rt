@@ -1,18 +1,18 @@
 //! Calls: made, told, and cancelled.
 
 ghost use Rattle.std.specs.Prelude.{◌≡◌, ◌<◌, [], Some, true, false, OnOk, OnErr, IfOk, length, slice_get};
-ghost use Rattle.script_text.specs.Answers.{cancelled_line};
+ghost use Rattle.word_core.specs.Answers.{cancelled_line};
 ghost use Rattle.session_text.specs.Lines.{cancel_name, ended_text, withdrawn_text};
-ghost use Rattle.ask_core.specs.declared.answer.Cancelled.TheVariants as answers;
+ghost use Rattle.board_core.specs.declared.answer.Cancelled.TheVariants as answers;
 ghost use Rattle.client_core.specs.declared.client.Opened.{Opened as AnOpened};
 ghost use Rattle.hosted_core.specs.declared.hosted.Keyed.TheVariants as keys;
 ghost use Rattle.hosted_core.specs.Scene.{Scene, told_of};
 ghost use Rattle.post_core.specs.Posts.{Tells};
-ghost use Rattle.tally_core.specs.Tallies.{CountsTaken};
-ghost use Rattle.told_core.specs.Asked.{Sits, Ends, AllEnd, AnswersCall, AnswersCancel, keyed_text};
-ghost use Rattle.told_core.specs.Deeds.{OnlyTold};
-ghost use Rattle.told_core.specs.State.{counted, opened_at, session_by};
-ghost use Rattle.told_core.specs.Turns.{Withdraws};
+ghost use Rattle.inside_core.specs.Tallies.{CountsTaken};
+ghost use Rattle.client_core.specs.Asked.{Sits, Ends, AllEnd, AnswersCall, AnswersCancel, keyed_text};
+ghost use Rattle.client_core.specs.Deeds.{OnlyTold};
+ghost use Rattle.client_core.specs.State.{counted, opened_at, session_by};
+ghost use Rattle.client_core.specs.Turns.{Withdraws};
 ghost use Rattle.table_core.specs.Brings.{Brings};
 ghost use Rattle.table_core.specs.Parts.{MakesCall, TellsAll, UnderKey, SubmitsOr, MakesAt, TellsTaken, TellsCancelled, CancelsOne, LetsGoAt};
 ghost use Rattle.table_core.specs.Seen.{seen};
@@ -26,7 +26,7 @@ use crate::table::{MOST_LINE, SHORT_LINE, Table};
 use crate::tell::{
     tell_accepted, tell_cancel, tell_ended, tell_kept, tell_line, tell_repeated, tell_withdrawn,
 };
-use ask_core::answer::{Cancelled, SubmitFault};
+use board_core::answer::{Cancelled, SubmitFault};
 use client_core::client::Opened;
 use hosted_core::hosted::Keyed;
 use keep_loop::Post;

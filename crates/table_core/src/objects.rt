@@ -1,16 +1,16 @@
 //! What is done with the object at a place. Where there is none, nothing is done.
 
 ghost use Rattle.std.specs.Prelude.{◌≡◌, [], ◌∷◌, Ok, Err, Some, true, false, IfOk, IfErr, IfSome, OnErr, slice_get, slice_set};
-ghost use Rattle.ask_core.specs.declared.answer.Cancelled.TheVariants as answers;
+ghost use Rattle.board_core.specs.declared.answer.Cancelled.TheVariants as answers;
 ghost use Rattle.hosted_core.specs.declared.hosted.Keyed.TheVariants as keys;
 ghost use Rattle.hosted_core.specs.Keys.{Says, WaitsAs};
 ghost use Rattle.hosted_core.specs.Scene.{Scene, told_of};
 ghost use Rattle.hosted_core.specs.Fronts.{IsNextFront};
 ghost use Rattle.guest_core.specs.Guests.{SomebodyHas};
-ghost use Rattle.told_core.specs.Moves.{Begins, IsFrontAt};
+ghost use Rattle.client_core.specs.Moves.{Begins, IsFrontAt};
 ghost use Rattle.table_core.specs.Objects.{IsNamed, HasOperation, EntersAt, SeatsAt, LeavesAt, CallsAt, CancelsAt, IsKnownAt};
 
-use ask_core::answer::{Cancelled, SubmitFault};
+use board_core::answer::{Cancelled, SubmitFault};
 use guest_core::guests::{EnterFault, Entered};
 use hosted_core::hosted::{Hosted, Keyed};
 use live_core::live::Taken;

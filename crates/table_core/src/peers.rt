@@ -1,15 +1,15 @@
 //! The connections of a table, as a contract sees them: each call says what becomes of the places.
 
 ghost use Rattle.std.specs.Prelude.{◌≡◌, ◌%◌, [], ℕ, true, false, List, Some, None, IfSome, IfNone, OnOk, OnErr, length, slice_get};
-ghost use Rattle.line_core.specs.Runs.{NoLineFeed};
+ghost use Rattle.text_core.specs.Runs.{NoLineFeed};
 ghost use Rattle.hosted_core.specs.Scene.{Scene};
 ghost use Rattle.client_core.specs.Held.{waits_of};
-ghost use Rattle.told_core.specs.Asked.{IsFor, Waits};
-ghost use Rattle.told_core.specs.Custody.{Custodies};
+ghost use Rattle.client_core.specs.Asked.{IsFor, Waits};
+ghost use Rattle.client_core.specs.Custody.{Custodies};
 ghost use Rattle.client_core.specs.declared.client.Opened.{Opened as AnOpened};
-ghost use Rattle.told_core.specs.Gone.{NoneHas};
-ghost use Rattle.told_core.specs.State.{peers_of, change, nobody, comer, opening, waiting, holding, who_in, opened_in, held_in};
-ghost use Rattle.told_core.specs.Turns.{TakesLine};
+ghost use Rattle.client_core.specs.Gone.{NoneHas};
+ghost use Rattle.client_core.specs.State.{peers_of, change, nobody, comer, opening, waiting, holding, who_in, opened_in, held_in};
+ghost use Rattle.client_core.specs.Turns.{TakesLine};
 ghost use Rattle.table_core.specs.Seen.{state_of};
 
 use client_core::ask::Ask;

@@ -1,14 +1,14 @@
 //! Lines that are told to the one at a place. Where nobody is there, nothing is told.
 
 ghost use Rattle.std.specs.Prelude.{◌≡◌, [], OnOk};
-ghost use Rattle.script_text.specs.Answers.{cancelled_line, kept_line};
+ghost use Rattle.word_core.specs.Answers.{cancelled_line, kept_line};
 ghost use Rattle.session_text.specs.Lines.{accepted_text, cancel_name, ended_text, line_text, opened_text};
 ghost use Rattle.session_text.specs.Lines.{repeated_text, withdrawn_text};
 ghost use Rattle.post_core.specs.Posts.{Tells};
-ghost use Rattle.told_core.specs.State.{peers_of, told_to};
+ghost use Rattle.client_core.specs.State.{peers_of, told_to};
 
 use apply_core::reply::Reply;
-use ask_core::answer::Cancelled;
+use board_core::answer::Cancelled;
 use client_core::answer::{
     push_accepted, push_cancel, push_ended, push_kept, push_opened, push_repeated, push_withdrawn,
 };

@@ -1,19 +1,19 @@
 //! What a turn does: the lines of connections, one after the other, and what is noted.
 
 ghost use Rattle.std.specs.Prelude.{◌≡◌, [], List, ℕ, Bool, Some, None, Ok, true, false, OnOk, IfOk, IfSome, length};
-ghost use Rattle.line_read.specs.Reads.{Reads};
+ghost use Rattle.word_core.specs.Reads.{Reads};
 ghost use Rattle.client_core.specs.declared.ask.Sight.{Sight as ASight};
 ghost use Rattle.client_core.specs.Asks.{Asks};
 ghost use Rattle.client_core.specs.Held.{is_some};
 ghost use Rattle.client_core.specs.Inside.{inside_in};
 ghost use Rattle.client_core.specs.Numbers.{cancel_in};
 ghost use Rattle.std.specs.Str.Lines.{strip_carriage_return};
-ghost use Rattle.told_core.specs.Asked.{Acts, Heeds};
-ghost use Rattle.told_core.specs.Deeds.{Then};
-ghost use Rattle.told_core.specs.State.{State, opened_at, peers_of};
-ghost use Rattle.told_core.specs.Turns.{IsIdle, HearsLine, HearsLast, HearsAt, GoesOn, EndsAsk, EndsHeld, WithdrawsAt, Leaves};
-ghost use Rattle.told_core.specs.Gone.{Settles};
-ghost use Rattle.told_core.specs.Turns.{LeavesIf, AllLeave, IfHere, Notes, Comes, place_of};
+ghost use Rattle.client_core.specs.Asked.{Acts, Heeds};
+ghost use Rattle.client_core.specs.Deeds.{Then};
+ghost use Rattle.client_core.specs.State.{State, opened_at, peers_of};
+ghost use Rattle.client_core.specs.Turns.{IsIdle, HearsLine, HearsLast, HearsAt, GoesOn, EndsAsk, EndsHeld, WithdrawsAt, Leaves};
+ghost use Rattle.client_core.specs.Gone.{Settles};
+ghost use Rattle.client_core.specs.Turns.{LeavesIf, AllLeave, IfHere, Notes, Comes, place_of};
 ghost use Rattle.client_core.specs.declared.ask.Ask.TheVariants as asks;
 ghost use Rattle.table_core.specs.Brings.{Brings, Continues, EndsSome};
 ghost use Rattle.table_core.specs.Seen.{seen};
@@ -24,13 +24,13 @@ use crate::peers::{
     who_at,
 };
 use crate::table::{MOST_OWED, Table};
-use ask_core::answer::SubmitFault;
+use board_core::answer::SubmitFault;
 use client_core::ask::{Ask, Sight, ask_of, cancel_of, inside_of};
 use hosted_core::hosted::Hosted;
+use inside_core::look::write_look;
 use keep_loop::{LineEnd, Note, Post, Served, Visible};
 use session_text::line::{Line, Refusal};
 use std::alloc::AllocError;
-use watch_core::look::write_look;
 
 impl Table {
     // Does what a line asks for.

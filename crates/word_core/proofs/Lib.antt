@@ -8,3 +8,14 @@ pub mod Shown
 pub mod Clear
 pub mod Endings
 pub mod Telling
+pub mod Reading
+pub mod Places
+pub mod Plain
+pub mod Safe
+pub mod TraceReading
+pub mod Growing
+pub mod Choices
+pub mod Identifiers
+pub mod ScriptTelling
+pub mod ScriptReading
+pub mod Firsts

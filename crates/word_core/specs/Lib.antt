@@ -6,3 +6,13 @@ pub mod Show
 pub mod Step
 pub mod Ending
 pub mod Says
+pub mod Reads
+pub mod Events
+pub mod Text
+pub mod TraceLaws
+pub mod Identifier
+pub mod Said
+pub mod ScriptView
+pub mod First
+pub mod Answers
+pub mod ScriptLaws

@@ -1,6 +1,6 @@
 -- The words of a line.
 use Rattle.std.specs.Prelude.{◌≡◌, ◌≢◌, ℕ, ◌==◌, List, [], ◌∷◌, ◌++◌, All, if◌then◌else◌}
-use Rattle.line_core.specs.Words.{drop_spaces, NoSpace, EndsWord}
+use Rattle.text_core.specs.Words.{drop_spaces, NoSpace, EndsWord}
 use Rattle.text_core.specs.Plain.{IsText}
 
 -- a word is bytes as they stand, or a text

@@ -10,8 +10,8 @@ use crate::line::{push_line, push_more};
 use crate::number::datum_of;
 use crate::word::{Word, Written};
 use crate::words::{bare_of, only_bare};
-use line_core::words::is_same_word;
 use std::alloc::AllocError;
+use text_core::words::is_same_word;
 use value_core::datum::Datum;
 
 /// How a call ended.

@@ -6,8 +6,8 @@ ghost use Rattle.word_core.specs.Data.{datum_word, session_word};
 ghost use Rattle.word_core.specs.View.{word_of, written_word};
 
 use crate::word::{Word, Written};
-use line_core::reply::push_number;
 use std::alloc::AllocError;
+use text_core::reply::push_number;
 use text_core::text::Text;
 use value_core::datum::Datum;
 

@@ -5,8 +5,8 @@ use Rattle.std.specs.List.{filter}
 use Rattle.std.proofs.lemmas.Bool.{ne_eqb}
 use Rattle.value_core.specs.Contents.{Contents}
 use Rattle.device_core.specs.declared.file.File.{File}
-use Rattle.hand_core.specs.declared.hand.Stamp.{Stamp}
-use Rattle.hand_core.specs.Device.{Assignment, AreServed}
+use Rattle.device_core.specs.declared.hand.Stamp.{Stamp}
+use Rattle.device_core.specs.Device.{Assignment, AreServed}
 use Rattle.device_core.specs.Files.{HasFiles, Serves, files_of}
 use Rattle.device_core.proofs.Agreeing.{some_map}
 use Rattle.decl_core.specs.Bodies.{body_of}
@@ -14,21 +14,21 @@ use Rattle.decl_core.specs.Touched.{Writes}
 use Rattle.page_core.specs.Cut.{most_pages}
 use Rattle.page_core.specs.PartPins.{PartPin, pin_at}
 use Rattle.page_core.specs.Renewed.{IsIn}
-use Rattle.store_core.specs.Pages.{ArePinsServed}
-use Rattle.call_core.proofs.Origins.{new_pins_are_old_or_sealed}
+use Rattle.page_core.specs.Pages.{ArePinsServed}
+use Rattle.run_core.proofs.Origins.{new_pins_are_old_or_sealed}
 use Rattle.run_core.specs.declared.outcome.Outcome.{Outcome}
 use Rattle.apply_core.specs.declared.reply.Reply.{Reply}
 use Rattle.apply_core.specs.declared.reply.Reply.TheVariants.{Done, Refused, Failed}
-use Rattle.call_core.specs.Calls.{Call}
+use Rattle.run_core.specs.Calls.{Call}
 use Rattle.run_core.specs.Runs.{run_call, run_place, run_sealed, SoFar, AreApart, sealed_by_place}
 use Rattle.run_core.specs.Phases.{IsRenewedBy}
 use Rattle.run_core.specs.Steps.{sealed_at, AreServed as AreAllServed}
 use Rattle.run_core.specs.Outcomes.{outcome_call, outcome_reply, outcome_sealed, outcome_news, outcome_gone, outcome_pins, if_done, IsFresh}
-use Rattle.call_core.specs.Truths.{IsTrueOf, PinsAreWhole}
+use Rattle.run_core.specs.Truths.{IsTrueOf, PinsAreWhole}
 use Rattle.board_core.specs.declared.event.TraceEvent.{TraceEvent}
 use Rattle.board_core.specs.declared.event.TraceEvent.TheVariants.{End}
 use Rattle.board_core.specs.declared.receipt.Receipt.{Receipt}
-use Rattle.ask_core.specs.Answers.{Finishes, IsStranger}
+use Rattle.board_core.specs.Answers.{Finishes, IsStranger}
 use Rattle.board_core.specs.Lists.{Every, EachPair, Among}
 use Rattle.board_core.specs.Calls.{RunningCall, WaitingCall, Noted}
 use Rattle.board_core.specs.Board.{Board, ended, entry_of, published}

@@ -10,3 +10,9 @@ pub mod Reading
 pub mod Showing
 pub mod Opening
 pub mod Sequential
+pub mod Asking
+pub mod Counting
+pub mod Numbers
+pub mod Running
+pub mod Telling
+pub mod Waiting

@@ -10,17 +10,17 @@ use Rattle.value_core.specs.Meaning.{opening_of}
 use Rattle.decl_core.specs.declared.object.Object.{Object}
 use Rattle.decl_core.specs.declared.object.Part.{Part}
 use Rattle.device_core.specs.declared.file.File.{File}
-use Rattle.hand_core.specs.declared.hand.Stamp.{Stamp}
-use Rattle.hand_core.specs.Device.{Assignment}
+use Rattle.device_core.specs.declared.hand.Stamp.{Stamp}
+use Rattle.device_core.specs.Device.{Assignment}
 use Rattle.device_core.specs.Files.{HasFiles, Serves, files_of}
 use Rattle.device_core.proofs.Agreeing.{some_map}
 use Rattle.page_core.specs.Bytes.{ArePages}
 use Rattle.page_core.specs.Cut.{most_pages}
 use Rattle.page_core.proofs.ListBytes.{holds_page, pages_bytes}
-use Rattle.store_core.specs.Pages.{AreHeld, ArePinsServed}
-use Rattle.store_core.proofs.Paging.{few_pages}
-use Rattle.hand_core.specs.Papers.{Papers, part_key}
-use Rattle.store_core.specs.Opened.{BeginsWith, IsPinned, AreLoaded, ArePinned}
+use Rattle.page_core.specs.Pages.{AreHeld, ArePinsServed}
+use Rattle.page_core.proofs.Paging.{few_pages}
+use Rattle.device_core.specs.Papers.{Papers, part_key}
+use Rattle.page_core.specs.Opened.{BeginsWith, IsPinned, AreLoaded, ArePinned}
 use Rattle.board_core.specs.Board.{Board, opened}
 use Rattle.board_core.specs.Chain.{ShowContents, Shows}
 use Rattle.board_core.specs.Sound.{IsSound, kinds_of}

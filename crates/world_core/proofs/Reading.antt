@@ -1,8 +1,8 @@
 -- Pages that are read.
 use Rattle.std.proofs.Common.{◌≡◌, ℕ, suc, List, ◌∷◌, ◌++◌, Some, ◌∙◌, ap}
 use Rattle.std.specs.Prelude.{slice_get}
-use Rattle.hand_core.specs.declared.hand.Stamp.{Stamp}
-use Rattle.hand_core.specs.Device.{Assignment, AreServed, bytes_of}
+use Rattle.device_core.specs.declared.hand.Stamp.{Stamp}
+use Rattle.device_core.specs.Device.{Assignment, AreServed, bytes_of}
 use Rattle.page_core.specs.Bytes.{list_bytes, one_behind}
 
 -- the bytes of a page list are those of its first page, and those of the others behind them

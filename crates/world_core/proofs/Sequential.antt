@@ -1,7 +1,7 @@
 -- The history of a world, whose tables are kept, is sequential.
 use Rattle.std.proofs.Common.{◌≡◌, ◌≢◌, ◌<◌, List, [], ◌∷◌, Some, sym, ◌∙◌, ap, arith}
 use Rattle.std.specs.Prelude.{unwrap_or}
-use Rattle.hand_core.specs.Device.{Assignment}
+use Rattle.device_core.specs.Device.{Assignment}
 use Rattle.device_core.specs.Files.{HasFiles, files_of}
 use Rattle.device_core.proofs.Agreeing.{some_map}
 use Rattle.apply_core.specs.History.{leads_to}

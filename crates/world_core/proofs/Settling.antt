@@ -4,26 +4,26 @@ use Rattle.std.proofs.lemmas.Bool.{cases_lt}
 use Rattle.std.specs.Prelude.{Err}
 use Rattle.value_core.specs.Contents.{Contents}
 use Rattle.device_core.specs.declared.file.File.{File}
-use Rattle.hand_core.specs.declared.hand.Stamp.{Stamp}
-use Rattle.hand_core.specs.Device.{Assignment}
+use Rattle.device_core.specs.declared.hand.Stamp.{Stamp}
+use Rattle.device_core.specs.Device.{Assignment}
 use Rattle.device_core.specs.Files.{HasFiles, Serves, files_of}
-use Rattle.store_core.specs.Pages.{ArePinsServed}
+use Rattle.page_core.specs.Pages.{ArePinsServed}
 use Rattle.run_core.specs.Runs.{run_call, AreApart}
 use Rattle.board_core.specs.declared.event.TraceEvent.{TraceEvent}
 use Rattle.board_core.specs.declared.event.TraceEvent.TheVariants.{Start}
 use Rattle.board_core.specs.Lists.{Every, EachPair}
 use Rattle.board_core.specs.Calls.{AcceptedCall, RunningCall, WaitingCall}
 use Rattle.board_core.specs.Board.{Board, Rests, joined, dismissed, released, marked}
-use Rattle.key_core.specs.Keys.{resumed}
+use Rattle.board_core.specs.Keys.{resumed}
 use Rattle.board_core.specs.Started.{Settles, HasStarted, run_of}
 use Rattle.board_core.specs.Chain.{ShowContents, IsTrueEntry}
 use Rattle.board_core.specs.Sound.{IsSound, kinds_of}
-use Rattle.ask_core.specs.declared.answer.Cancelled.{Cancelled}
-use Rattle.ask_core.specs.declared.answer.Cancelled.TheVariants as cancels
-use Rattle.ask_core.specs.Answers.{Asked, Cancels}
-use Rattle.ask_core.specs.Keyed.{SubmitsKeyed}
-use Rattle.ask_core.specs.declared.answer.KeyedFault.{KeyedFault}
-use Rattle.ask_core.specs.declared.answer.KeyedFault.TheVariants as faults
+use Rattle.board_core.specs.declared.answer.Cancelled.{Cancelled}
+use Rattle.board_core.specs.declared.answer.Cancelled.TheVariants as cancels
+use Rattle.board_core.specs.Answers.{Asked, Cancels}
+use Rattle.board_core.specs.Keyed.{SubmitsKeyed}
+use Rattle.board_core.specs.declared.answer.KeyedFault.{KeyedFault}
+use Rattle.board_core.specs.declared.answer.KeyedFault.TheVariants as faults
 use Rattle.world_core.specs.declared.slot.Slot.{Slot}
 use Rattle.world_core.specs.declared.stage.Stage.{Stage}
 use Rattle.world_core.specs.Scene.{Scene, Standing, AreBegun, Goes, call_running, collected}

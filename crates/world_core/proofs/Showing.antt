@@ -7,8 +7,8 @@ use Rattle.value_core.specs.Contents.{Contents}
 use Rattle.value_core.specs.Spelling.{Spells}
 use Rattle.value_core.proofs.Unique.{unique}
 use Rattle.device_core.specs.declared.file.File.{File}
-use Rattle.hand_core.specs.declared.hand.Stamp.{Stamp}
-use Rattle.hand_core.specs.Device.{Assignment}
+use Rattle.device_core.specs.declared.hand.Stamp.{Stamp}
+use Rattle.device_core.specs.Device.{Assignment}
 use Rattle.device_core.specs.Files.{HasFiles, files_of}
 use Rattle.page_core.specs.Bytes.{list_bytes}
 use Rattle.device_core.proofs.Agreeing.{some_map}

@@ -10,8 +10,8 @@ use Rattle.value_core.specs.declared.kind.Kind.{Kind}
 use Rattle.value_core.specs.Contents.{Contents}
 use Rattle.value_core.specs.Spelling.{Spells}
 use Rattle.device_core.specs.declared.file.File.{File}
-use Rattle.hand_core.specs.declared.hand.Stamp.{Stamp}
-use Rattle.hand_core.specs.Device.{Assignment, IsFree}
+use Rattle.device_core.specs.declared.hand.Stamp.{Stamp}
+use Rattle.device_core.specs.Device.{Assignment, IsFree}
 use Rattle.device_core.specs.Files.{HasFiles, IsOpen, Serves}
 use Rattle.page_core.specs.Bytes.{list_bytes}
 use Rattle.page_core.specs.Cut.{most_pages}
@@ -22,21 +22,21 @@ use Rattle.apply_core.specs.declared.reply.Failure.TheVariants as failures
 use Rattle.apply_core.specs.declared.reply.Reply.{Reply}
 use Rattle.apply_core.specs.declared.reply.Reply.TheVariants.{Done, Refused, Failed}
 use Rattle.run_core.specs.declared.run.Run.{Run}
-use Rattle.call_core.specs.Calls.{Call}
+use Rattle.run_core.specs.Calls.{Call}
 use Rattle.run_core.specs.Phases.{ending_of, step_answer, FoundBy}
 use Rattle.world_core.specs.RunLaws.{PensStay, PensAreOpen}
 use Rattle.run_core.specs.Runs.{run_call, run_ending, run_pen, run_place, run_sealed, PenHolds, SoFar, AreApart, ending_by_place}
 use Rattle.apply_core.specs.declared.need.Need.TheVariants as needs
 use Rattle.run_core.specs.Steps.{Place, at_read, at_page, at_create, at_append, at_seal, at_end, need_at, ending_at, Follows, FailsWith, AreServed, IsReadAt, PinsServed, IsJudged, changed, not_changed, wants, reads_on, reads_next, reads_last, misses, pages_on, creates, appends, seals_on, seals_last, fails, stays}
-use Rattle.judge_core.specs.Given.{IsDamaged}
-use Rattle.call_core.specs.Truths.{PinHolds, PinsAreWhole}
+use Rattle.run_core.specs.Given.{IsDamaged}
+use Rattle.run_core.specs.Truths.{PinHolds, PinsAreWhole}
 use Rattle.board_core.specs.Lists.{Every, EachPair}
 use Rattle.board_core.specs.Calls.{RunningCall}
 use Rattle.board_core.specs.Board.{Board}
 use Rattle.board_core.specs.Chain.{AreOf, ChainedAreLegal, ShowContents}
 use Rattle.board_core.specs.Sound.{IsMadeOf, IsPinned, IsRunningIn, kinds_of}
 use Rattle.board_core.proofs.Lists.{Every-at, Every-both, among_at}
-use Rattle.ask_core.specs.Answers.{runs_in}
+use Rattle.board_core.specs.Answers.{runs_in}
 use Rattle.world_core.specs.declared.slot.Slot.{Slot}
 use Rattle.world_core.specs.declared.event.Answer.TheVariants.{Stepped}
 use Rattle.world_core.specs.declared.event.EventAnswer.{EventAnswer}

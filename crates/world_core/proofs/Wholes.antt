@@ -2,10 +2,10 @@
 use Rattle.std.proofs.Common.{◌≡◌, ℕ, zero, suc, List, Some}
 use Rattle.value_core.specs.Contents.{Contents}
 use Rattle.device_core.specs.declared.file.File.{File}
-use Rattle.hand_core.specs.Device.{Assignment}
+use Rattle.device_core.specs.Device.{Assignment}
 use Rattle.device_core.specs.Files.{HasFiles}
 use Rattle.apply_core.specs.History.{leads_to}
-use Rattle.call_core.specs.Truths.{PinsAreWhole}
+use Rattle.run_core.specs.Truths.{PinsAreWhole}
 use Rattle.board_core.specs.Lists.{Every, Among}
 use Rattle.board_core.specs.Calls.{AcceptedCall, RunningCall}
 use Rattle.board_core.specs.Board.{Board, call_at}

@@ -7,25 +7,25 @@ use Rattle.decl_core.specs.Bodies.{body_of}
 use Rattle.decl_core.specs.Form.{Statements}
 use Rattle.decl_core.specs.Touched.{Reads, Writes}
 use Rattle.decl_core.proofs.Footprints.{writes_are_reads}
-use Rattle.hand_core.specs.declared.hand.Stamp.{Stamp}
-use Rattle.hand_core.specs.Device.{Assignment}
+use Rattle.device_core.specs.declared.hand.Stamp.{Stamp}
+use Rattle.device_core.specs.Device.{Assignment}
 use Rattle.page_core.specs.declared.plan.PageWrite.{PageWrite}
 use Rattle.page_core.specs.Cut.{most_pages, together}
 use Rattle.page_core.specs.Laws.{PartRenewal, ArePlanned, no_part, one_part}
 use Rattle.page_core.specs.Plans.{Plans, ends, keeps, replaces, adds}
 use Rattle.page_core.specs.PartPins.{PartPin}
 use Rattle.page_core.specs.Renewed.{with_sealed}
-use Rattle.judge_core.specs.declared.judge.Change.{Change}
-use Rattle.judge_core.specs.Written.{WritesInOrder, parts_changed}
+use Rattle.run_core.specs.declared.judge.Change.{Change}
+use Rattle.run_core.specs.Written.{WritesInOrder, parts_changed}
 use Rattle.run_core.specs.declared.phase.Phase.{Phase}
 use Rattle.run_core.specs.declared.phase.Phase.TheVariants.{Reading, Paging, Creating, Appending, Sealing, Ended}
 use Rattle.run_core.specs.declared.phase.Plan.{Plan}
 use Rattle.run_core.specs.declared.run.Run.{Run}
 use Rattle.apply_core.specs.declared.need.Need.TheVariants as needs
-use Rattle.call_core.specs.Calls.{Call}
-use Rattle.call_core.specs.Planned.{AreRenewals, AreShort, renewed}
-use Rattle.call_core.specs.Planned.{no_part as no_change, same as not_renewed}
-use Rattle.call_core.specs.Truths.{PinsAreWhole}
+use Rattle.run_core.specs.Calls.{Call}
+use Rattle.run_core.specs.CallPlanned.{AreRenewals, AreShort, renewed}
+use Rattle.run_core.specs.CallPlanned.{no_part as no_change, same as not_renewed}
+use Rattle.run_core.specs.Truths.{PinsAreWhole}
 use Rattle.known_core.specs.Masks.{unread}
 use Rattle.run_core.specs.Phases.{FoundBy, IsWrittenSoFar}
 use Rattle.run_core.specs.Runs.{run_call, run_place, SoFar}

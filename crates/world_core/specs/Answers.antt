@@ -3,8 +3,8 @@ use Rattle.std.specs.Prelude.{◌≡◌, ◌≢◌, ℕ, ◌+◌, ◌≤◌, ◌
 use Rattle.std.specs.Prelude.{slice_set, Some, Err}
 use Rattle.std.specs.Global.{Vec}
 use Rattle.value_core.specs.Contents.{Contents}
-use Rattle.hand_core.specs.declared.hand.Stamp.{Stamp}
-use Rattle.hand_core.specs.Device.{Assignment}
+use Rattle.device_core.specs.declared.hand.Stamp.{Stamp}
+use Rattle.device_core.specs.Device.{Assignment}
 use Rattle.device_core.specs.declared.file.File.{File}
 use Rattle.page_core.specs.PartPins.{PartPin}
 use Rattle.apply_core.specs.declared.reply.Failure.TheVariants as failures
@@ -18,15 +18,15 @@ use Rattle.board_core.specs.Lists.{Among}
 use Rattle.board_core.specs.Calls.{AcceptedCall, RunningCall}
 use Rattle.board_core.specs.Board.{joined, dismissed, released, marked, ended, entry_of}
 use Rattle.board_core.specs.Chain.{history_of}
-use Rattle.key_core.specs.Keys as keys
-use Rattle.key_core.specs.Keys.{next_key}
-use Rattle.ask_core.specs.declared.answer.SubmitFault.{SubmitFault}
-use Rattle.ask_core.specs.declared.answer.KeyedFault.{KeyedFault}
-use Rattle.ask_core.specs.declared.answer.Kept.{Kept as KeptCall}
-use Rattle.ask_core.specs.declared.answer.Cancelled.{Cancelled}
-use Rattle.ask_core.specs.declared.answer.Cancelled.TheVariants as cancels
-use Rattle.ask_core.specs.Answers.{Asked, IsGone, IsTaken, IsRefused, Cancels, waits_in, runs_in}
-use Rattle.ask_core.specs.Keyed.{IsKeptCall, SubmitsKeyed}
+use Rattle.board_core.specs.Keys as keys
+use Rattle.board_core.specs.Keys.{next_key}
+use Rattle.board_core.specs.declared.answer.SubmitFault.{SubmitFault}
+use Rattle.board_core.specs.declared.answer.KeyedFault.{KeyedFault}
+use Rattle.board_core.specs.declared.answer.Kept.{Kept as KeptCall}
+use Rattle.board_core.specs.declared.answer.Cancelled.{Cancelled}
+use Rattle.board_core.specs.declared.answer.Cancelled.TheVariants as cancels
+use Rattle.board_core.specs.Answers.{Asked, IsGone, IsTaken, IsRefused, Cancels, waits_in, runs_in}
+use Rattle.board_core.specs.Keyed.{IsKeptCall, SubmitsKeyed}
 use Rattle.world_core.specs.declared.event.Refusal.TheVariants.{Submit, Keyed, NotRunning, NoStep, NotDone, NoSession}
 use Rattle.world_core.specs.declared.event.Refusal.TheVariants.{Memory}
 use Rattle.world_core.specs.declared.event.Answer.{Answer}

@@ -3,7 +3,7 @@ use Rattle.std.specs.Prelude.{◌≡◌, ◌≢◌, ◌<◌, List, map}
 use Rattle.path_tree.specs.Trace.{IsTrace}
 use Rattle.path_tree.specs.Satisfies.{SatisfiesAll}
 use Rattle.decl_core.specs.declared.object.Object.{Object}
-use Rattle.hand_core.specs.Device.{Assignment}
+use Rattle.device_core.specs.Device.{Assignment}
 use Rattle.apply_core.specs.declared.reply.Failure.TheVariants as failures
 use Rattle.apply_core.specs.declared.reply.Reply.TheVariants as replies
 use Rattle.apply_core.specs.History.{IsLegal, leads_to}

@@ -3,12 +3,12 @@ use Rattle.std.specs.Prelude.{◌≡◌, ◌<◌, ◌≤◌, ℕ, true, false, L
 use Rattle.std.specs.Prelude.{Some}
 use Rattle.value_core.specs.Contents.{Contents}
 use Rattle.device_core.specs.declared.file.File.{File}
-use Rattle.hand_core.specs.declared.hand.Stamp.{Stamp}
-use Rattle.hand_core.specs.Device.{Assignment}
+use Rattle.device_core.specs.declared.hand.Stamp.{Stamp}
+use Rattle.device_core.specs.Device.{Assignment}
 use Rattle.device_core.specs.Files.{HasFiles, IsOpen, Serves, files_of}
 use Rattle.run_core.specs.Runs.{run_call, run_place, run_sealed, PenHolds, SoFar, AreApart}
 use Rattle.page_core.specs.Cut.{most_pages}
-use Rattle.store_core.specs.Pages.{ArePinsServed}
+use Rattle.page_core.specs.Pages.{ArePinsServed}
 use Rattle.run_core.specs.Steps.{Place, at_read, at_page, at_create, at_append, at_seal, at_end, AreServed, PinsServed}
 use Rattle.board_core.specs.Lists.{Every, EachPair}
 use Rattle.board_core.specs.declared.event.TraceEvent.TheVariants.{Start}

@@ -8,3 +8,6 @@ pub mod Headline
 pub mod Kept
 pub mod Laws
 pub mod RunLaws
+pub mod Asked
+pub mod Counted
+pub mod Told

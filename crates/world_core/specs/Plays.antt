@@ -3,7 +3,7 @@ use Rattle.std.specs.Prelude.{◌≡◌, ℕ, ◌⊎◌, false, List, [], ◌∷
 use Rattle.apply_core.specs.declared.reply.Reply.{Reply}
 use Rattle.apply_core.specs.declared.need.Need.{Need}
 use Rattle.run_core.specs.declared.step.StepAnswer.TheVariants as steps
-use Rattle.hand_core.specs.declared.hand.HandFault.TheVariants as faults
+use Rattle.device_core.specs.declared.hand.HandFault.TheVariants as faults
 use Rattle.world_core.specs.declared.event.Answer.{Answer}
 use Rattle.world_core.specs.declared.event.Answer.TheVariants.{Number, Stepped, Ended, Cancel, Dropped, Resumed, Kept}
 use Rattle.world_core.specs.declared.event.Answer.TheVariants.{Shown, Refused}

@@ -3,11 +3,11 @@ use Rattle.std.specs.Prelude.{◌≡◌, ℕ, true, List, [], ◌∷◌, ◌++�
 use Rattle.value_core.specs.Contents.{Contents}
 use Rattle.value_core.specs.Meaning.{opening_of}
 use Rattle.decl_core.specs.declared.object.Object.{Object}
-use Rattle.hand_core.specs.declared.hand.Stamp.{Stamp}
+use Rattle.device_core.specs.declared.hand.Stamp.{Stamp}
 use Rattle.device_core.specs.declared.file.File.{File}
-use Rattle.hand_core.specs.Device.{Assignment}
+use Rattle.device_core.specs.Device.{Assignment}
 use Rattle.device_core.specs.Files.{HasFiles}
-use Rattle.call_core.specs.Calls.{Call, call_of}
+use Rattle.run_core.specs.Calls.{Call, call_of}
 use Rattle.run_core.specs.Steps.{Place, Starts}
 use Rattle.board_core.specs.Calls.{RunningCall}
 use Rattle.board_core.specs.Board.{Board, opened}

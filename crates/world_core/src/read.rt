@@ -2,13 +2,13 @@
 
 ghost use Rattle.std.specs.Prelude.{◌≡◌, ◌++◌, IfOk, OnOk, Some, ℕ, List};
 ghost use Rattle.value_core.specs.Contents.{Contents};
-ghost use Rattle.hand_core.specs.Device.{Assignment, AreServed, bytes_of};
+ghost use Rattle.device_core.specs.Device.{Assignment, AreServed, bytes_of};
 ghost use Rattle.device_core.specs.Files.{HasFiles, Serves, files_of};
 ghost use Rattle.page_core.specs.Bytes.{list_bytes};
 ghost use Rattle.board_core.specs.Chain.{Shows};
 
+use device_core::hand::{Hand, Stamp};
 use device_core::memory::MemHand;
-use hand_core::hand::{Hand, Stamp};
 use page_core::page_list::PageList;
 use std::alloc::{AllocError, Global};
 use value_core::decode::{DecodeFault, decode};

@@ -3,10 +3,10 @@
 ghost use Rattle.std.specs.Prelude.{◌≡◌, ◌≢◌, ◌≤◌, ℕ, List, length, Some, None};
 ghost use Rattle.decl_core.specs.Bodies.{body_of};
 ghost use Rattle.decl_core.specs.Touched.{Writes};
-ghost use Rattle.hand_core.specs.declared.hand.Stamp.{Stamp};
-ghost use Rattle.hand_core.specs.Device.{Assignment};
+ghost use Rattle.device_core.specs.declared.hand.Stamp.{Stamp};
+ghost use Rattle.device_core.specs.Device.{Assignment};
 ghost use Rattle.page_core.specs.PartPins.{pin_at};
-ghost use Rattle.call_core.specs.Truths.{IsTrueOf, PinsAreWhole};
+ghost use Rattle.run_core.specs.Truths.{IsTrueOf, PinsAreWhole};
 ghost use Rattle.run_core.specs.Phases.{IsRenewedBy};
 ghost use Rattle.run_core.specs.Runs.{run_call, run_ending, run_sealed, SoFar};
 ghost use Rattle.run_core.specs.Outcomes.{outcome_call, outcome_reply, outcome_sealed, outcome_news, outcome_gone};

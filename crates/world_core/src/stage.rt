@@ -2,8 +2,8 @@
 
 ghost use Rattle.std.specs.Prelude.{◌≡◌, ◌≢◌, ◌↔◌, IsTrue, ◌≤◌, ◌<◌, ◌⊎◌, ℕ, List, [], ◌∷◌, ◌++◌, length, map, IfSome};
 ghost use Rattle.std.specs.Prelude.{IfNone, IfOk, Some, None, true, false, vec_capacity, slice_get};
-ghost use Rattle.hand_core.specs.declared.hand.Stamp.{Stamp};
-ghost use Rattle.hand_core.specs.Device.{Assignment, IsFree};
+ghost use Rattle.device_core.specs.declared.hand.Stamp.{Stamp};
+ghost use Rattle.device_core.specs.Device.{Assignment, IsFree};
 ghost use Rattle.device_core.specs.Files.{HasFiles, IsOpen, Serves, files_of};
 ghost use Rattle.apply_core.specs.declared.reply.Failure.TheVariants as failures;
 ghost use Rattle.apply_core.specs.declared.reply.Reply.TheVariants as replies;
@@ -29,7 +29,7 @@ use crate::pens::{pens_are_open, pens_stay};
 use crate::read::read_value;
 use crate::slot::Slot;
 use apply_core::need::Need;
-use ask_core::answer::{Cancelled, Collected, Keyed};
+use board_core::answer::{Cancelled, Collected, Keyed};
 use board_core::event::TraceEvent;
 use board_core::laws::{chained_are_legal, truth_is_noted};
 use desk_core::desk::Desk;

@@ -11,13 +11,13 @@ ghost use Rattle.world_core.specs.Headline.{IsSequential, EveryHistoryIsSequenti
 use crate::event::{Event, EventAnswer};
 use crate::laws::{fails_only_with_its_device, replies_are_told};
 use crate::stage::{MOST_OPEN, Stage};
+use decl_core::analyse::Accepted;
 use desk_core::desk::Desk;
 use device_core::mem_shelf::MemShelf;
 use device_core::memory::MemHand;
-use exclude_core::analyse::Accepted;
+use page_core::open::open_parts;
 use std::alloc::{AllocError, Global};
 use std::marker::Model;
-use store_core::open::open_parts;
 use value_core::value::Value;
 
 /// An object, its desk, the runs of its calls, and one device in memory. It has to be spent, by [`World::end`].

@@ -9,12 +9,12 @@ use crate::paths::calls::{finish_operation, start_operation};
 use crate::paths::command::{Command, command_of};
 use crate::paths::operations::Operations;
 use crate::paths::path_line::{PathLine, push_line_fault, read_path_line};
-use line_core::Machine;
-use line_core::reply::{push_count, push_reply};
 use path_tree::node::OpId;
 use path_tree::print::print_path;
 use path_tree::tree::PathTree;
 use std::alloc::{AllocError, Global};
+use text_core::Machine;
+use text_core::reply::{push_count, push_reply};
 
 /// The most paths of a run.
 pub const MOST_PATHS: usize = 16;

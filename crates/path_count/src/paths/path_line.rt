@@ -8,7 +8,6 @@ ghost use Rattle.path_tree.specs.declared.token.Symbol.TheVariants.{Semicolon};
 ghost use Rattle.path_count.specs.PathLine.{IsPathEnd, StandsBehind};
 ghost use Rattle.path_count.specs.ReadLine.{EndsInMark, IsReadLine, IsReadTokens, line_fault_text};
 
-use line_core::reply::{push_fault, push_number};
 use path_tree::lex::fault::LexFault;
 use path_tree::lex::lex;
 use path_tree::name::Name;
@@ -17,6 +16,7 @@ use path_tree::read::parse_path;
 use path_tree::token::{Symbol, Token, TokenKind};
 use path_tree::tree::PathTree;
 use std::alloc::{AllocError, Global};
+use text_core::reply::{push_fault, push_number};
 
 /// Why a line is no path.
 #[derive(Clone, Copy)]

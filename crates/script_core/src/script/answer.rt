@@ -3,10 +3,10 @@
 ghost use Rattle.std.specs.Prelude.{◌≡◌, ◌++◌, ℕ, List, IfOk, OnOk, MatchOption, true, false, drop, map};
 ghost use Rattle.std.specs.List.{flat_map};
 ghost use Rattle.board_core.specs.Sound.{event_number};
-ghost use Rattle.ask_core.specs.Answers.{runs_in};
-ghost use Rattle.script_text.specs.Answers.{refused_line, started_line, all_stepped_line};
-ghost use Rattle.script_text.specs.Said.{a_do, all_steps, a_trace};
-ghost use Rattle.script_text.specs.View.{said_view};
+ghost use Rattle.board_core.specs.Answers.{runs_in};
+ghost use Rattle.word_core.specs.Answers.{refused_line, started_line, all_stepped_line};
+ghost use Rattle.word_core.specs.Said.{a_do, all_steps, a_trace};
+ghost use Rattle.word_core.specs.ScriptView.{said_view};
 ghost use Rattle.world_core.specs.Names.{refusal_name};
 ghost use Rattle.world_core.specs.Scene.{Scene};
 ghost use Rattle.world_core.specs.declared.event.Answer.TheVariants.{Number};
@@ -15,18 +15,18 @@ ghost use Rattle.script_core.specs.Does.{Does, Happens, IsNoWant, IsTold, StepsO
 ghost use Rattle.script_core.specs.Does.{event_lines, has_gone, next_number, repeat_line};
 
 use crate::script::steps::step_to_end;
-use ask_core::answer::{CallState, Cancelled, Kept, KeyedFault, SubmitFault};
+use board_core::answer::{CallState, Cancelled, Kept, KeyedFault, SubmitFault};
 use board_core::event::TraceEvent;
 use decl_core::object::Object;
 use desk_core::desk::Desk;
 use run_core::step::StepAnswer;
-use script_text::answers::{
+use std::alloc::{AllocError, Global};
+use value_core::datum::Datum;
+use word_core::answers::{
     push_all_stepped, push_called, push_cancelled, push_dropped, push_finished, push_kept,
     push_refused, push_repeated, push_resumed, push_shown, push_started, push_stepped,
 };
-use script_text::said::Said;
-use std::alloc::{AllocError, Global};
-use value_core::datum::Datum;
+use word_core::said::Said;
 use world_core::event::{Answer, Event, EventAnswer, Refusal};
 use world_core::world::World;
 

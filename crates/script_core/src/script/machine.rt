@@ -4,15 +4,15 @@ ghost use Rattle.std.specs.Prelude.{◌≡◌, ◌++◌, ◌↔◌, ℕ, List, I
 ghost use Rattle.script_core.specs.Writes.{IsBegun, IsOther, NamesObject, Writes, told_of};
 
 use crate::script::answer::answer_said;
+use decl_core::analyse::Accepted;
 use decl_core::object::Object;
-use exclude_core::analyse::Accepted;
-use inside_desk::answer::push_answer;
-use inside_desk::question::question_of;
-use line_core::Machine;
-use script_text::answers::push_bad_line;
-use script_text::first::object_line;
-use script_text::said::{is_skipped, read_line};
 use std::alloc::{AllocError, Global};
+use text_core::Machine;
+use word_core::answers::push_bad_line;
+use word_core::first::object_line;
+use word_core::said::{is_skipped, read_line};
+use world_core::answer::push_answer;
+use world_core::question::question_of;
 use world_core::world::World;
 
 /// What the lines of a script have done so far. It has to be spent, by [`Script::end`].

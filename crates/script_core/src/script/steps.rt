@@ -1,7 +1,7 @@
 //! The steps of a run, to its end.
 
 ghost use Rattle.std.specs.Prelude.{◌≡◌, true, false};
-ghost use Rattle.ask_core.specs.Answers.{runs_in};
+ghost use Rattle.board_core.specs.Answers.{runs_in};
 ghost use Rattle.script_core.specs.Does.{IsStep, IsOver, StepsOn};
 
 use world_core::event::{Answer, Event};

@@ -1,4 +1,4 @@
-use Rattle.script_open.proofs.Heads.{none_named}
+use Rattle.check_core.proofs.Heads.{none_named}
 use Rattle.answer_core.proofs.Audits.{unnamed_run}
 use Rattle.answer_core.proofs.audit.audit_said.Goals as goal
 

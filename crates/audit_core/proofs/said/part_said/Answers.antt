@@ -2,7 +2,7 @@ use Rattle.std.proofs.Common.{refl}
 use Rattle.word_core.specs.Words.{bare}
 use Rattle.audit_core.specs.Said.{part_said, part_behind}
 use Rattle.audit_core.specs.View.{said_view}
-use Rattle.line_read.proofs.Reading.{behind}
+use Rattle.word_core.proofs.Reading.{behind}
 use Rattle.audit_core.proofs.said.part_said.Goals as goal
 
 pub returns-in-Some : goal.returns-in-Some

@@ -3,7 +3,7 @@ use Rattle.word_core.specs.Words.{bare}
 use Rattle.word_core.specs.Data.{◌>>=◌}
 use Rattle.audit_core.specs.Said.{start_by, start_of}
 use Rattle.audit_core.specs.View.{said_view}
-use Rattle.line_read.proofs.Reading.{behind_ok}
+use Rattle.word_core.proofs.Reading.{behind_ok}
 use Rattle.audit_core.proofs.said.start_by.Goals as goal
 
 pub returns-in-Some-next_bare : goal.returns-in-Some-next_bare

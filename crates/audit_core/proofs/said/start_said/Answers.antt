@@ -2,7 +2,7 @@ use Rattle.std.proofs.Common.{refl}
 use Rattle.word_core.specs.Words.{bare}
 use Rattle.audit_core.specs.Said.{start_said, start_behind}
 use Rattle.audit_core.specs.View.{said_view}
-use Rattle.line_read.proofs.Reading.{behind_ok}
+use Rattle.word_core.proofs.Reading.{behind_ok}
 use Rattle.audit_core.proofs.said.start_said.Goals as goal
 
 pub returns-in-Some : goal.returns-in-Some

@@ -2,7 +2,7 @@ use Rattle.std.proofs.Common.{◌∷◌, refl}
 use Rattle.word_core.specs.Words.{bare}
 use Rattle.audit_core.specs.Reads.{done_reply}
 use Rattle.audit_core.specs.View.{told_view}
-use Rattle.line_read.proofs.Reading.{behind}
+use Rattle.word_core.proofs.Reading.{behind}
 use Rattle.audit_core.proofs.Reading.{nothing_told}
 use Rattle.audit_core.proofs.told.done_reply.Goals as goal
 

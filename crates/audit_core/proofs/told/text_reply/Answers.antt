@@ -2,7 +2,7 @@ use Rattle.std.proofs.Common.{◌∷◌, refl}
 use Rattle.word_core.specs.View.{word_of}
 use Rattle.audit_core.specs.Reads.{text_reply}
 use Rattle.audit_core.specs.View.{told_view}
-use Rattle.line_read.proofs.Reading.{behind_ok}
+use Rattle.word_core.proofs.Reading.{behind_ok}
 use Rattle.audit_core.proofs.told.text_reply.Goals as goal
 
 pub returns-in-Found : goal.returns-in-Found

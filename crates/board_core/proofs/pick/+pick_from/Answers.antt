@@ -1,5 +1,5 @@
 use Rattle.std.proofs.Common.{◌≡◌, suc, ◌+◌, ◌<◌, ◌⊎◌, List, ◌++◌, length, take, drop, sym, ap, ◌∙◌, subst, arith}
-use Rattle.hand_core.specs.declared.hand.Stamp.{Stamp}
+use Rattle.device_core.specs.declared.hand.Stamp.{Stamp}
 use Rattle.board_core.specs.Free.{HasFile, IsIn}
 use Rattle.board_core.proofs.Picking.{stands, pick_ends, pick_goes, pick_stays}
 use Rattle.board_core.proofs.pick.+pick_from.Goals as goal

@@ -1,5 +1,5 @@
 use Rattle.std.proofs.Common.{◌↔◌, ◌⊎◌, ℕ, IsTrue, take, ap, subst}
-use Rattle.hand_core.specs.declared.hand.Stamp.{Stamp}
+use Rattle.device_core.specs.declared.hand.Stamp.{Stamp}
 use Rattle.board_core.specs.Free.{HasFile, IsIn}
 use Rattle.board_core.proofs.Picking.{first_there}
 use Rattle.board_core.proofs.pick.goes.Goals as goal

@@ -1,5 +1,5 @@
 use Rattle.std.proofs.Common.{List, [], subst}
-use Rattle.hand_core.specs.declared.hand.Stamp.{Stamp}
+use Rattle.device_core.specs.declared.hand.Stamp.{Stamp}
 use Rattle.board_core.specs.Free.{IsIn, Picks}
 use Rattle.board_core.proofs.pick.pick.Goals as goal
 

@@ -1,5 +1,5 @@
 use Rattle.std.proofs.Common.{◌≡◌}
-use Rattle.gone_core.specs.Holding.{Holding}
+use Rattle.custody_core.specs.Holding.{Holding}
 use Rattle.custody_core.specs.Due.{EndsAll}
 use Rattle.custody_core.proofs.Placing.{at_place, followed}
 use Rattle.custody_core.proofs.Becoming.{becomes}

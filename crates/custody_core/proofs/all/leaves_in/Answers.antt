@@ -1,5 +1,5 @@
 use Rattle.custody_core.proofs.Placing.{at_place, same_at, stays_at, free_at}
-use Rattle.gone_core.specs.Holding.{Goes}
+use Rattle.custody_core.specs.Holding.{Goes}
 use Rattle.custody_core.proofs.Becoming.{becomes}
 use Rattle.custody_core.proofs.all.leaves_in.Goals as goal
 

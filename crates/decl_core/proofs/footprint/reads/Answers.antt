@@ -1,5 +1,5 @@
 use Rattle.decl_core.specs.View.{all_of}
-use Rattle.decl_core.proofs.Touched.{reads_bits}
+use Rattle.decl_core.proofs.DeclTouched.{reads_bits}
 use Rattle.decl_core.proofs.footprint.reads.Goals as goal
 
 pub returns-clause-named : goal.returns-clause-named

@@ -1,5 +1,5 @@
 use Rattle.decl_core.specs.View.{all_of}
-use Rattle.decl_core.proofs.Touched.{writes_bits}
+use Rattle.decl_core.proofs.DeclTouched.{writes_bits}
 use Rattle.decl_core.proofs.footprint.writes.Goals as goal
 
 pub returns-clause-changed : goal.returns-clause-changed

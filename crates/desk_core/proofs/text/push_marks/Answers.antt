@@ -2,7 +2,7 @@ use Rattle.std.proofs.Common.{◌∙◌, ◌<◌, ◌++◌, ap, map, length, ari
 use Rattle.std.specs.Arc.{arc_value}
 use Rattle.decl_core.specs.ObjectMap.{object_of}
 use Rattle.word_core.specs.Words.{line_of}
-use Rattle.trace_core.specs.Text.{event_words}
+use Rattle.word_core.specs.Text.{event_words}
 use Rattle.desk_core.specs.declared.marks.Mark.TheVariants.{Start}
 use Rattle.desk_core.specs.Told.{line_told}
 use Rattle.desk_core.proofs.Telling.{one_line}

@@ -1,7 +1,7 @@
 use Rattle.std.proofs.Common.{◌≡◌, ◌++◌, map, drop}
 use Rattle.std.specs.Arc.{arc_value}
 use Rattle.decl_core.specs.ObjectMap.{object_of}
-use Rattle.trace_core.specs.Text.{event_words, lines_of}
+use Rattle.word_core.specs.Text.{event_words, lines_of}
 use Rattle.desk_core.specs.Kept.{events_of}
 use Rattle.desk_core.specs.Told.{line_told}
 use Rattle.desk_core.proofs.text.push_marks.Given as goal

@@ -2,7 +2,7 @@ use Rattle.std.proofs.Common.{◌∙◌}
 use Rattle.word_core.specs.View.{words_of}
 use Rattle.front_read.proofs.Calling.{some_same, not_some}
 use Rattle.front_read.proofs.Answering.{ending_read}
-use Rattle.trace_core.specs.Text.{reply_ending}
+use Rattle.word_core.specs.Text.{reply_ending}
 use Rattle.front_read.proofs.answer.reply_of_two.Goals as goal
 
 pub returns-in-Some-clause-found : goal.returns-in-Some-clause-found

@@ -1,8 +1,8 @@
 use Rattle.decl_core.specs.ObjectMap.{object_of}
 use Rattle.std.specs.Prelude.{codes}
 use Rattle.word_core.specs.View.{words_of}
-use Rattle.front_core.specs.Front.{IsCarried}
-use Rattle.front_core.specs.Text.{carried_words}
+use Rattle.live_core.specs.Front.{IsCarried}
+use Rattle.live_core.specs.Text.{carried_words}
 use Rattle.front_read.specs.Rows.{row_words}
 use Rattle.front_read.specs.Row.{carried_row}
 use Rattle.front_read.proofs.Clear.{carried_clear}

@@ -2,7 +2,7 @@ use Rattle.std.proofs.Common.{◌≡◌, ◌++◌, ◌∷◌, subst}
 use Rattle.std.specs.Prelude.{codes}
 use Rattle.word_core.specs.Words.{bare, line_of}
 use Rattle.decl_core.specs.ObjectMap.{object_of}
-use Rattle.front_core.specs.Text.{carried_words}
+use Rattle.live_core.specs.Text.{carried_words}
 use Rattle.front_read.specs.Rows.{row_words}
 use Rattle.front_read.specs.Row.{carried_row}
 use Rattle.front_read.proofs.Standing.{not_there}

@@ -1,7 +1,7 @@
 use Rattle.std.specs.Prelude.{codes}
 use Rattle.word_core.specs.View.{words_of}
-use Rattle.front_core.specs.Front.{IsClient}
-use Rattle.front_core.specs.Text.{client_words}
+use Rattle.live_core.specs.Front.{IsClient}
+use Rattle.live_core.specs.Text.{client_words}
 use Rattle.front_read.specs.Rows.{row_words}
 use Rattle.front_read.specs.Row.{client_row}
 use Rattle.front_read.proofs.Clear.{client_clear}

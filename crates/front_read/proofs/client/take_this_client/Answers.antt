@@ -1,7 +1,7 @@
 use Rattle.std.proofs.Common.{◌≡◌, ◌++◌, subst}
 use Rattle.std.specs.Prelude.{codes}
 use Rattle.word_core.specs.Words.{line_of}
-use Rattle.front_core.specs.Text.{client_words}
+use Rattle.live_core.specs.Text.{client_words}
 use Rattle.front_read.specs.Rows.{row_words}
 use Rattle.front_read.proofs.Standing.{not_there}
 use Rattle.front_read.proofs.client.take_this_client.Goals as goal

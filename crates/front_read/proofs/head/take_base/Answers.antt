@@ -1,8 +1,8 @@
 use Rattle.std.proofs.Common.{ℕ}
 use Rattle.std.specs.Prelude.{Some, None}
 use Rattle.word_core.specs.View.{words_of}
-use Rattle.front_core.specs.Front.{IsLong}
-use Rattle.front_core.specs.Text.{base_words}
+use Rattle.live_core.specs.Front.{IsLong}
+use Rattle.live_core.specs.Text.{base_words}
 use Rattle.front_read.specs.Words.{base_of}
 use Rattle.front_read.proofs.Clear.{base_clear}
 use Rattle.front_read.proofs.Telling.{by_function, base_told, base_is}

@@ -1,8 +1,8 @@
 use Rattle.std.proofs.Common.{ℕ}
 use Rattle.std.specs.Prelude.{Some, None}
 use Rattle.word_core.specs.View.{words_of}
-use Rattle.front_core.specs.Front.{IsKey}
-use Rattle.front_core.specs.Text.{object_words}
+use Rattle.live_core.specs.Front.{IsKey}
+use Rattle.live_core.specs.Text.{object_words}
 use Rattle.front_read.specs.Words.{epoch_of}
 use Rattle.front_read.proofs.Clear.{object_clear}
 use Rattle.front_read.proofs.Telling.{by_function, epoch_told, epoch_is}

@@ -2,7 +2,7 @@ use Rattle.std.proofs.Common.{subst}
 use Rattle.front_read.specs.Rows.{TakesThis}
 use Rattle.word_core.specs.View.{words_of}
 use Rattle.value_core.specs.Contents.{Contents}
-use Rattle.trace_core.specs.Text.{part_words}
+use Rattle.word_core.specs.Text.{part_words}
 use Rattle.front_read.specs.Parts.{IsValueOf}
 use Rattle.front_read.proofs.Clear.{part_clear}
 use Rattle.front_read.proofs.Standing.{no_words, not_told, takes_told, have_words, have_none}

@@ -1,7 +1,7 @@
 use Rattle.std.proofs.Common.{ℕ}
 use Rattle.word_core.specs.View.{words_of}
-use Rattle.front_core.specs.Front.{IsLong}
-use Rattle.front_core.specs.Text.{source_words}
+use Rattle.live_core.specs.Front.{IsLong}
+use Rattle.live_core.specs.Text.{source_words}
 use Rattle.front_read.proofs.Clear.{source_clear}
 use Rattle.front_read.proofs.Standing.{no_words, not_told, gives_ok, have_words, have_none}
 use Rattle.front_read.proofs.head.take_source.Goals as goal

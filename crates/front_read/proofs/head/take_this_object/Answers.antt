@@ -1,4 +1,4 @@
-use Rattle.front_core.specs.Text.{object_words}
+use Rattle.live_core.specs.Text.{object_words}
 use Rattle.front_read.proofs.Standing.{not_there}
 use Rattle.front_read.proofs.head.take_this_object.Goals as goal
 

@@ -1,4 +1,4 @@
-use Rattle.trace_core.specs.Text.{part_words}
+use Rattle.word_core.specs.Text.{part_words}
 use Rattle.front_read.proofs.Standing.{not_there}
 use Rattle.front_read.proofs.head.take_this_part.Goals as goal
 

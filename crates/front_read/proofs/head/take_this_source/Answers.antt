@@ -1,4 +1,4 @@
-use Rattle.front_core.specs.Text.{source_words}
+use Rattle.live_core.specs.Text.{source_words}
 use Rattle.front_read.proofs.Standing.{not_there}
 use Rattle.front_read.proofs.head.take_this_source.Goals as goal
 

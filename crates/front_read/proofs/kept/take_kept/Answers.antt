@@ -1,8 +1,8 @@
 use Rattle.decl_core.specs.ObjectMap.{object_of}
 use Rattle.std.specs.Prelude.{codes}
 use Rattle.word_core.specs.View.{words_of}
-use Rattle.front_core.specs.Front.{IsKept}
-use Rattle.front_core.specs.Text.{kept_words}
+use Rattle.live_core.specs.Front.{IsKept}
+use Rattle.live_core.specs.Text.{kept_words}
 use Rattle.front_read.specs.Rows.{row_words}
 use Rattle.front_read.specs.Row.{kept_row}
 use Rattle.front_read.proofs.Clear.{kept_clear}

@@ -2,7 +2,7 @@ use Rattle.std.proofs.Common.{◌≡◌, ◌++◌, subst}
 use Rattle.std.specs.Prelude.{codes}
 use Rattle.word_core.specs.Words.{line_of}
 use Rattle.decl_core.specs.ObjectMap.{object_of}
-use Rattle.front_core.specs.Text.{kept_words, answer_of}
+use Rattle.live_core.specs.Text.{kept_words, answer_of}
 use Rattle.front_read.specs.Rows.{row_words}
 use Rattle.front_read.specs.Row.{kept_row}
 use Rattle.front_read.proofs.Standing.{not_there}

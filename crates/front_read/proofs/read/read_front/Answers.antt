@@ -1,6 +1,6 @@
 use Rattle.decl_core.specs.ObjectMap.{object_of}
-use Rattle.front_core.specs.Front.{opening_of}
-use Rattle.front_core.specs.Text.{front_text}
+use Rattle.live_core.specs.Front.{opening_of}
+use Rattle.live_core.specs.Text.{front_text}
 use Rattle.front_read.proofs.Whole.{front_stands, rest_short, told_of, found_of, not_found}
 use Rattle.front_read.proofs.Moving.{front_moves, front_none, stops_there}
 use Rattle.front_read.proofs.read.read_front.Goals as goal

@@ -1,7 +1,7 @@
 use Rattle.std.proofs.Common.{length}
 use Rattle.std.specs.Prelude.{codes}
-use Rattle.front_core.specs.Front.{IsClient}
-use Rattle.front_core.specs.Text.{client_words}
+use Rattle.live_core.specs.Front.{IsClient}
+use Rattle.live_core.specs.Text.{client_words}
 use Rattle.front_read.specs.Rows.{AreRows}
 use Rattle.front_read.proofs.read.take_all_clients.Given as goal
 

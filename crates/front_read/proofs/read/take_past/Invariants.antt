@@ -1,8 +1,8 @@
 use Rattle.std.proofs.Common.{length}
 use Rattle.std.specs.Prelude.{codes}
 use Rattle.decl_core.specs.ObjectMap.{object_of}
-use Rattle.front_core.specs.Front.{IsRun}
-use Rattle.front_core.specs.Text.{run_words}
+use Rattle.live_core.specs.Front.{IsRun}
+use Rattle.live_core.specs.Text.{run_words}
 use Rattle.front_read.specs.Rows.{AreRows}
 use Rattle.front_read.proofs.read.take_past.Given as goal
 

@@ -1,9 +1,9 @@
 use Rattle.decl_core.specs.ObjectMap.{object_of}
 use Rattle.std.specs.Prelude.{codes}
 use Rattle.word_core.specs.View.{words_of}
-use Rattle.front_core.specs.declared.past.PastRun.{PastRun}
-use Rattle.front_core.specs.Front.{IsRun}
-use Rattle.front_core.specs.Text.{run_words}
+use Rattle.live_core.specs.declared.past.PastRun.{PastRun}
+use Rattle.live_core.specs.Front.{IsRun}
+use Rattle.live_core.specs.Text.{run_words}
 use Rattle.front_read.specs.Rows.{row_words}
 use Rattle.front_read.proofs.Clear.{run_clear}
 use Rattle.front_read.proofs.Standing.{no_words, not_told, takes_told, have_words, have_none}

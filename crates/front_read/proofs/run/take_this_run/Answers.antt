@@ -3,7 +3,7 @@ use Rattle.std.specs.Prelude.{codes}
 use Rattle.std.proofs.lemmas.List.{append-nil}
 use Rattle.word_core.specs.Words.{line_of}
 use Rattle.decl_core.specs.ObjectMap.{object_of}
-use Rattle.front_core.specs.Text.{run_words}
+use Rattle.live_core.specs.Text.{run_words}
 use Rattle.front_read.specs.Rows.{row_words}
 use Rattle.front_read.proofs.Standing.{not_there}
 use Rattle.front_read.proofs.run.take_this_run.Goals as goal

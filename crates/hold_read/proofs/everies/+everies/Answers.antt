@@ -1,6 +1,6 @@
 use Rattle.std.proofs.Common.{◌≡◌, true, false, arith}
 use Rattle.std.proofs.lemmas.Result.{err_from_is_err_and}
-use Rattle.hold_form.specs.HoldMap.{everies_of, holds_of}
+use Rattle.decl_core.specs.HoldMap.{everies_of, holds_of}
 use Rattle.decl_core.specs.ObjectMap.{operations_of}
 use Rattle.hold_read.specs.declared.words.Word.TheVariants as words
 use Rattle.hold_read.specs.Words.{begins_word}

@@ -1,7 +1,7 @@
 use Rattle.std.proofs.Common.{◌≡◌, true, false, arith}
 use Rattle.std.proofs.lemmas.Result.{err_from_is_err_and}
 use Rattle.path_tree.specs.declared.token.Symbol.TheVariants.{Comma}
-use Rattle.hold_form.specs.HoldMap.{holds_of}
+use Rattle.decl_core.specs.HoldMap.{holds_of}
 use Rattle.decl_core.specs.ObjectMap.{operations_of}
 use Rattle.decl_read.specs.Declarations.{begins}
 use Rattle.hold_read.specs.HoldReading.{next_undo_in}

@@ -1,6 +1,6 @@
 use Rattle.std.proofs.Common.{refl, sym, subst}
 use Rattle.decl_core.specs.ObjectMap.{objects_of}
-use Rattle.hold_form.specs.HoldMap.{all_rules_of}
+use Rattle.decl_core.specs.HoldMap.{all_rules_of}
 use Rattle.hold_read.specs.HeldSources.{SayNothing}
 use Rattle.hold_read.specs.OldSources.{nothing_of_each}
 use Rattle.hold_read.proofs.OldSources.{old_is_held, old_say_nothing}

@@ -1,7 +1,7 @@
 use Rattle.std.proofs.Common.{ap, refl, ◌∙◌}
 use Rattle.std.specs.Map.{values_of}
 use Rattle.decl_core.specs.ObjectMap.{objects_of}
-use Rattle.hold_form.specs.HoldMap.{all_rules_of}
+use Rattle.decl_core.specs.HoldMap.{all_rules_of}
 use Rattle.hold_read.proofs.Reading.{ruled_all, found_all, same_some, only_memory}
 use Rattle.hold_read.proofs.read.with_rules.Goals as goal
 

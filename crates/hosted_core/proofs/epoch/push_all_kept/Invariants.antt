@@ -1,7 +1,7 @@
 use Rattle.std.proofs.Common.{◌≡◌, ◌++◌, take}
 use Rattle.decl_core.specs.ObjectMap.{object_of}
-use Rattle.front_core.specs.Front.{Every}
-use Rattle.front_core.specs.Text.{kept_text}
+use Rattle.live_core.specs.Front.{Every}
+use Rattle.live_core.specs.Text.{kept_text}
 use Rattle.hosted_core.specs.Fits.{GuestFits}
 use Rattle.hosted_core.specs.Fronts.{kept_of}
 use Rattle.hosted_core.proofs.epoch.push_all_kept.Given as goal

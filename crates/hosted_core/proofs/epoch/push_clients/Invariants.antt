@@ -1,5 +1,5 @@
 use Rattle.std.proofs.Common.{◌≡◌, ◌++◌, map, take}
-use Rattle.front_core.specs.Text.{clients_text}
+use Rattle.live_core.specs.Text.{clients_text}
 use Rattle.hosted_core.specs.Fronts.{client_of}
 use Rattle.hosted_core.proofs.epoch.push_clients.Given as goal
 

@@ -1,5 +1,5 @@
 use Rattle.std.proofs.Common.{◌≡◌, ◌<◌, length, get_or, ◌∙◌, ap, subst}
-use Rattle.trace_core.proofs.Places.{name_at}
+use Rattle.word_core.proofs.Places.{name_at}
 use Rattle.hosted_core.proofs.event.name_of.Goals as goal
 
 pub returns-in-Some : goal.returns-in-Some

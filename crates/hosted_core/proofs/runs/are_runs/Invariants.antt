@@ -1,5 +1,5 @@
 use Rattle.std.proofs.Common.{length}
-use Rattle.front_core.specs.Front.{Every}
+use Rattle.live_core.specs.Front.{Every}
 use Rattle.hosted_core.specs.Fits.{RunFits}
 use Rattle.hosted_core.proofs.runs.are_runs.Given as goal
 

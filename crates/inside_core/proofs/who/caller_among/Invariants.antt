@@ -2,7 +2,7 @@ use Rattle.std.proofs.Common.{◌≡◌, ◌≤◌, ℕ, take, length}
 use Rattle.std.specs.Prelude.{false}
 use Rattle.client_core.specs.declared.client.Opened.{Opened}
 use Rattle.live_core.specs.Hall.{Every}
-use Rattle.told_core.specs.Inside.{calls_at}
+use Rattle.client_core.specs.ToldInside.{calls_at}
 use Rattle.inside_core.specs.Adds.{crowd_of}
 use Rattle.inside_core.proofs.who.caller_among.Given as goal
 

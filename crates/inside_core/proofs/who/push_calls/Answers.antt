@@ -1,7 +1,7 @@
 use Rattle.std.proofs.Common.{◌≡◌, ◌<◌, ◌+◌, ◌∙◌, ap, sym, subst, arith, List, length, take, get_or}
-use Rattle.trace_core.specs.Events.{Called}
+use Rattle.word_core.specs.Events.{Called}
 use Rattle.live_core.specs.Hall.{Hall}
-use Rattle.told_core.specs.Inside.{waiting_in}
+use Rattle.client_core.specs.ToldInside.{waiting_in}
 use Rattle.inside_core.specs.Adds.{crowd_of, AddsWaits}
 use Rattle.inside_core.proofs.Adding.{waits_more}
 use Rattle.inside_core.proofs.who.push_calls.Goals as goal

@@ -1,5 +1,5 @@
 use Rattle.std.proofs.Common.{take}
-use Rattle.told_core.specs.Inside.{waiting_in}
+use Rattle.client_core.specs.ToldInside.{waiting_in}
 use Rattle.inside_core.specs.Adds.{crowd_of, AddsWaits, AreKnown}
 use Rattle.inside_core.proofs.who.push_calls.Given as goal
 

@@ -1,6 +1,6 @@
 use Rattle.std.proofs.Common.{arith}
 use Rattle.decl_core.specs.ObjectMap.{object_of}
-use Rattle.hold_form.specs.HoldMap.{holds_of}
+use Rattle.decl_core.specs.HoldMap.{holds_of}
 use Rattle.inside_core.proofs.Holding.{held_all, held_full}
 use Rattle.inside_core.proofs.who.push_held.Goals as goal
 

@@ -1,7 +1,7 @@
 use Rattle.std.proofs.Common.{◌≤◌, take}
 use Rattle.decl_core.specs.ObjectMap.{object_of}
-use Rattle.hold_form.specs.HoldMap.{holds_of}
-use Rattle.told_core.specs.Inside.{held_in}
+use Rattle.decl_core.specs.HoldMap.{holds_of}
+use Rattle.client_core.specs.ToldInside.{held_in}
 use Rattle.inside_core.specs.Adds.{AddsHeld}
 use Rattle.inside_core.proofs.who.push_held.Given as goal
 

@@ -1,4 +1,4 @@
-use Rattle.why_core.specs.Found.{whys_of}
+use Rattle.inside_text.specs.Found.{whys_of}
 use Rattle.inside_text.specs.Who.{Refused}
 use Rattle.inside_core.specs.Adds.{crowd_of}
 use Rattle.inside_core.proofs.Adding.{one_wait}

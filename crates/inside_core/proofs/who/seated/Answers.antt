@@ -1,5 +1,5 @@
 use Rattle.std.proofs.Common.{◌≡◌, arith, length}
-use Rattle.told_core.specs.State.{peers_of}
+use Rattle.client_core.specs.State.{peers_of}
 use Rattle.inside_core.proofs.Sitting.{are_sitting}
 use Rattle.inside_core.proofs.who.seated.Goals as goal
 

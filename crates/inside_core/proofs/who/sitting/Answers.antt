@@ -1,5 +1,5 @@
 use Rattle.std.proofs.Common.{◌<◌, length, arith}
-use Rattle.told_core.specs.State.{peers_of}
+use Rattle.client_core.specs.State.{peers_of}
 use Rattle.inside_core.proofs.Sitting.{sits_more}
 use Rattle.inside_core.proofs.who.sitting.Goals as goal
 

@@ -1,6 +1,6 @@
 use Rattle.std.proofs.Common.{◌≡◌, take}
-use Rattle.told_core.specs.State.{peers_of}
-use Rattle.told_core.specs.Inside.{sitting_from}
+use Rattle.client_core.specs.State.{peers_of}
+use Rattle.client_core.specs.ToldInside.{sitting_from}
 use Rattle.inside_core.proofs.who.sitting.Given as goal
 
 abbrev pub invariant-loop-place : goal.invariant-loop-place

@@ -2,10 +2,10 @@ use Rattle.std.proofs.Common.{◌≡◌, ◌+◌, ◌∙◌, ap, subst, ℕ, Lis
 use Rattle.client_core.specs.declared.client.Opened.{Opened}
 use Rattle.decl_core.specs.ObjectForm.{ObjectForm}
 use Rattle.decl_core.specs.ObjectMap.{object_of}
-use Rattle.hold_form.specs.HoldForm.{HoldForm}
-use Rattle.hold_form.specs.HoldMap.{holds_of}
+use Rattle.decl_core.specs.HoldForm.{HoldForm}
+use Rattle.decl_core.specs.HoldMap.{holds_of}
 use Rattle.inside_text.specs.Who.{who_line}
-use Rattle.told_core.specs.Inside.{Crowd, last_told, waiting_in, held_in}
+use Rattle.client_core.specs.ToldInside.{Crowd, last_told, waiting_in, held_in}
 use Rattle.inside_core.specs.Adds.{crowd_of, AddsSeats, AddsWaits, AddsHeld}
 use Rattle.inside_core.proofs.Adding.{who_is}
 use Rattle.inside_core.proofs.who.who_of.Goals as goal

@@ -1,6 +1,6 @@
 use Rattle.std.proofs.Common.{◌∙◌, ap, arith, length}
 use Rattle.keep_core.proofs.Few.{few_entries}
-use Rattle.keep_core.proofs.Ending.{has_all_by}
+use Rattle.keep_core.proofs.KeepEnding.{has_all_by}
 use Rattle.keep_core.proofs.close.has_all.Goals as goal
 
 pub have_slips-requires : goal.have_slips-requires

@@ -1,5 +1,5 @@
 use Rattle.std.proofs.Common.{◌∙◌, ap, Some}
-use Rattle.line_core.specs.declared.machine.LinesFault.{LinesFault}
+use Rattle.text_core.specs.declared.machine.LinesFault.{LinesFault}
 use Rattle.keep_core.specs.Troubles.{first_of}
 use Rattle.keep_core.proofs.Keeping.{traces_quiet, traces_not}
 use Rattle.keep_core.proofs.close.keep_trace.Goals as goal

@@ -2,8 +2,8 @@ use Rattle.std.proofs.Common.{◌≡◌, ◌∙◌, ap, subst, refl, inl, List, 
 use Rattle.std.specs.FinMap.{insert}
 use Rattle.decl_core.specs.declared.object.Object.{Object}
 use Rattle.decl_core.specs.ObjectMap.{object_of}
-use Rattle.trace_core.specs.Text.{trace_text as text_of}
-use Rattle.store_core.specs.Saved.{StoreLeaves}
+use Rattle.word_core.specs.Text.{trace_text as text_of}
+use Rattle.page_core.specs.Saved.{StoreLeaves}
 use Rattle.desk_core.specs.Told.{lines_told}
 use Rattle.keep_core.proofs.close.store_trace.Goals as goal
 

@@ -9,9 +9,9 @@ use Rattle.apply_core.proofs.Blocks.{block_as}
 use Rattle.known_core.proofs.act.+acting.Goals as goal
 
 pub act-act_all-requires : goal.act-act_all-requires
-act-act_all-requires t c =
-    (search (rules, the_lemmas), subst (StatementFits (map kind_of c.args.parts.now.items)) (block_as c.args.s.now c.in-Block.all c.deref.result.now c.in-Block.is c.deref.ensures.value) c.requires.fits)
+act-act_all-requires g t c =
+    λ κs longer. (search (rules, the_lemmas), (longer, subst (StatementFits (map kind_of (g.P.PartValues.values c.args.parts.now))) (block_as c.args.s.now c.in-Block.all c.deref.result.now c.in-Block.is c.deref.ensures.value) c.requires.fits))
 
 pub act-returns-in-Block-clause-left : goal.act-returns-in-Block-clause-left
-act-returns-in-Block-clause-left t c =
-    subst (λ s. Leaves c.act_all.result (after_known (known_by c.args.known.now) c.args.args.now s (changing c.args.parts.now.items c.args.reply.now)) (changing c.act_all.new.parts.items c.act_all.new.reply)) (sym (block_as c.args.s.now c.in-Block.all c.deref.result.now c.in-Block.is c.deref.ensures.value)) c.act_all.ensures.left
+act-returns-in-Block-clause-left g t c =
+    subst (λ s. Leaves c.act_all.result (after_known (known_by c.args.known.now) c.args.args.now s (changing (g.P.PartValues.values c.args.parts.now) c.args.reply.now)) (changing (g.P.PartValues.values c.act_all.new.parts) c.act_all.new.reply)) (sym (block_as c.args.s.now c.in-Block.all c.deref.result.now c.in-Block.is c.deref.ensures.value)) c.act_all.ensures.left

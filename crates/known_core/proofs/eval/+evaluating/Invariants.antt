@@ -6,5 +6,5 @@ use Rattle.known_core.specs.Sums.{seeing, with_terms}
 use Rattle.known_core.proofs.eval.+evaluating.Given as goal
 
 abbrev pub invariant-sum-loop-term : goal.invariant-sum-loop-term
-invariant-sum-loop-term l =
-    TermsFit (map kind_of l.parts) (drop l.term-index l.terms) × (with_terms (known_by l.known) (seeing l.args l.parts) l.total (drop l.term-index l.terms) ≡ with_terms (known_by l.known) (seeing l.args l.parts) l.first l.terms)
+invariant-sum-loop-term g l =
+    TermsFit (map kind_of (g.P.PartValues.values l.parts)) (drop l.term-index l.terms) × (with_terms (known_by l.known) (seeing l.args (g.P.PartValues.values l.parts)) l.total (drop l.term-index l.terms) ≡ with_terms (known_by l.known) (seeing l.args (g.P.PartValues.values l.parts)) l.first l.terms)

@@ -1,7 +1,7 @@
 use Rattle.std.proofs.Common.{◌≡◌, ◌<◌, ◌∙◌, length, get_or, subst, ap, sym, map}
 use Rattle.value_core.specs.Datum.{elem_of}
 use Rattle.decl_core.specs.ObjectMap.{object_of}
-use Rattle.trace_core.specs.Events.{body_at}
+use Rattle.word_core.specs.Events.{body_at}
 use Rattle.live_core.proofs.Forms.{replied, fits_same, reads_held}
 use Rattle.live_core.proofs.body.do_call.Goals as goal
 

@@ -1,5 +1,5 @@
 use Rattle.std.proofs.Common.{◌≢◌, ◌≤◌, take, length}
-use Rattle.trace_core.specs.Events.{Called}
+use Rattle.word_core.specs.Events.{Called}
 use Rattle.live_core.specs.Hall.{Every}
 use Rattle.live_core.proofs.waiting.place_for.Given as goal
 

@@ -1,6 +1,6 @@
 use Rattle.std.proofs.Common.{take}
 use Rattle.board_core.specs.Lists.{Every}
-use Rattle.slip_core.specs.Slips.{StandsIn}
+use Rattle.office_core.specs.Slips.{StandsIn}
 use Rattle.office_core.proofs.find.first_mismatched_slip.Given as goal
 
 abbrev pub invariant-loop-k : goal.invariant-loop-k

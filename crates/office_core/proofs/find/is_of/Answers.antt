@@ -1,6 +1,6 @@
 use Rattle.office_core.specs.Submissions.{IsCallOf}
 use Rattle.board_core.specs.Board.{call_at}
-use Rattle.slip_core.proofs.Found.{is_there}
+use Rattle.office_core.proofs.SlipFound.{is_there}
 use Rattle.office_core.proofs.find.is_of.Goals as goal
 
 pub returns-in-Some : goal.returns-in-Some

@@ -1,6 +1,6 @@
 use Rattle.std.proofs.Common.{◌≡◌, ◌≢◌, List, [], ◌∷◌, ◌<◌, length, arith, sym, subst}
 use Rattle.std.proofs.lemmas.List.{nil_from_length}
-use Rattle.hand_core.specs.declared.hand.Stamp.{Stamp}
+use Rattle.device_core.specs.declared.hand.Stamp.{Stamp}
 use Rattle.page_core.specs.Plans.{IsPlan}
 use Rattle.page_core.proofs.Planning.{ok_then, is_none, is_some, plan_ends, plan_keeps, plan_replaces, plan_adds}
 use Rattle.page_core.proofs.plan.+plan_part.Goals as goal

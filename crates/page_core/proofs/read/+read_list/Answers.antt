@@ -1,6 +1,6 @@
 use Rattle.std.proofs.Common.{Err, List, ℕ, suc, ◌+◌, ◌++◌, ap, ◌∙◌, append_assoc}
 use Rattle.std.specs.Prelude.{slice_get}
-use Rattle.hand_core.specs.declared.hand.Stamp.{Stamp}
+use Rattle.device_core.specs.declared.hand.Stamp.{Stamp}
 use Rattle.page_core.proofs.Calling.{read_one, read_and_more}
 use Rattle.page_core.proofs.ListBytes.{page_more}
 use Rattle.page_core.proofs.read.+read_list.Goals as goal

@@ -1,5 +1,5 @@
 use Rattle.std.proofs.Common.{[], ◌∷◌, refl, ◌∙◌, Ok, Err}
-use Rattle.hand_core.specs.Made.{creates, appends, seals, discards}
+use Rattle.device_core.specs.Made.{creates, appends, seals, discards}
 use Rattle.page_core.specs.Calls.{written, not_begun, not_added, not_sealed}
 use Rattle.page_core.proofs.write.write_file.Goals as goal
 

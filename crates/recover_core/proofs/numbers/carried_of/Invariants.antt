@@ -1,5 +1,5 @@
 use Rattle.std.proofs.Common.{◌≡◌, ◌++◌, length}
-use Rattle.replay_core.specs.Carried.{carried_calls}
+use Rattle.audit_core.specs.Carried.{carried_calls}
 use Rattle.recover_core.specs.Carried.{calls_of}
 use Rattle.recover_core.proofs.numbers.carried_of.Given as goal
 

@@ -1,8 +1,8 @@
 use Rattle.std.proofs.Common.{ℕ, ◌+◌, ◌≤◌, length}
 use Rattle.decl_core.specs.ObjectMap.{object_of}
-use Rattle.front_core.specs.Front.{Opening}
+use Rattle.live_core.specs.Front.{Opening}
 use Rattle.guest_core.specs.Guests.{Guests}
-use Rattle.replay_core.specs.Steps.{nothing_heard}
+use Rattle.audit_core.specs.Steps.{nothing_heard}
 use Rattle.recover_core.specs.Playing.{PlayStands}
 use Rattle.recover_core.proofs.Hearing.{Follows}
 use Rattle.recover_core.proofs.playing.play.Given as goal

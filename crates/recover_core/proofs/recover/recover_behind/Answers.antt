@@ -1,5 +1,5 @@
 use Rattle.std.proofs.Common.{inl, refl, subst}
-use Rattle.front_core.specs.Front.{opening_of}
+use Rattle.live_core.specs.Front.{opening_of}
 use Rattle.recover_core.specs.Clients.{OpenAll}
 use Rattle.recover_core.proofs.Recovering.{if_ok}
 use Rattle.recover_core.proofs.recover.recover_behind.Goals as goal

@@ -1,5 +1,5 @@
 use Rattle.std.proofs.Common.{Some, inl, inr, ap, sym, subst}
-use Rattle.call_core.specs.Tasks.{task_call}
+use Rattle.run_core.specs.Tasks.{task_call}
 use Rattle.run_core.specs.declared.phase.Phase.TheVariants.{Creating, Appending, Sealing}
 use Rattle.run_core.specs.Steps.{Follows, place_in, at_end, stays}
 use Rattle.run_core.proofs.Pens.{no_file}

@@ -1,5 +1,5 @@
 use Rattle.std.proofs.Common.{[], refl, ◌+◌, length, arith}
-use Rattle.call_core.specs.Tasks.{task_call}
+use Rattle.run_core.specs.Tasks.{task_call}
 use Rattle.run_core.specs.AtOnce.{reads_none}
 use Rattle.run_core.proofs.AtOnce.{has_place}
 use Rattle.run_core.proofs.MadeAtOnce.{part_last, parts_on, pins_still}

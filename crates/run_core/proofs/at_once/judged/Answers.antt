@@ -1,6 +1,6 @@
 use Rattle.std.proofs.Common.{◌<◌, inl, inr, refl, sym, subst, arith, ◌+◌}
 use Rattle.std.proofs.lemmas.Bool.{cases_lt}
-use Rattle.call_core.specs.Tasks.{task_call}
+use Rattle.run_core.specs.Tasks.{task_call}
 use Rattle.run_core.proofs.Paging.{paged_there}
 use Rattle.run_core.proofs.MadeAtOnce.{page_on, pages_over, page_fails}
 use Rattle.run_core.proofs.at_once.judged.Goals as goal

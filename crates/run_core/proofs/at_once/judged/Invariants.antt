@@ -1,12 +1,12 @@
 use Rattle.std.proofs.Common.{◌≡◌, ℕ, List}
 use Rattle.std.specs.Arc.{arc_value}
-use Rattle.hand_core.specs.declared.hand.Stamp.{Stamp}
-use Rattle.hand_core.specs.Device.{Assignment, Always}
+use Rattle.device_core.specs.declared.hand.Stamp.{Stamp}
+use Rattle.device_core.specs.Device.{Assignment, Always}
 use Rattle.known_core.specs.Masks.{unread}
-use Rattle.judge_core.specs.Verdicts.{HasReads}
-use Rattle.seen_core.specs.Seen.{IsSeen}
-use Rattle.call_core.specs.Tasks.{task_call}
-use Rattle.call_core.specs.Truths.{PinsAreWhole}
+use Rattle.run_core.specs.Verdicts.{HasReads}
+use Rattle.run_core.specs.Seen.{IsSeen}
+use Rattle.run_core.specs.Tasks.{task_call}
+use Rattle.run_core.specs.Truths.{PinsAreWhole}
 use Rattle.run_core.proofs.MadeAtOnce.{ReadsSoFar}
 use Rattle.run_core.proofs.at_once.judged.Given as goal
 

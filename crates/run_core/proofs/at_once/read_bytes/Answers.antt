@@ -1,5 +1,5 @@
 use Rattle.std.proofs.Common.{true≢false, sym, ◌∙◌, Ok, Err, ◌+◌}
-use Rattle.call_core.specs.Tasks.{task_call}
+use Rattle.run_core.specs.Tasks.{task_call}
 use Rattle.run_core.proofs.Fronts.{first_is_read, list_is_read}
 use Rattle.run_core.proofs.MadeAtOnce.{all_read, first_read}
 use Rattle.run_core.proofs.at_once.read_bytes.Goals as goal

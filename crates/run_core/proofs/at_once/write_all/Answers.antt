@@ -1,11 +1,11 @@
 use Rattle.std.proofs.Common.{◌≡◌, List, ◌++◌, length, ap, sym, ◌∙◌, subst, arith}
-use Rattle.hand_core.specs.declared.hand.Stamp.{Stamp}
+use Rattle.device_core.specs.declared.hand.Stamp.{Stamp}
 use Rattle.page_core.specs.declared.plan.PageWrite.{PageWrite}
 use Rattle.page_core.specs.PartPins.{pins_by, count_pages}
 use Rattle.page_core.specs.Renewed.{AreSealed, ArePlaces, with_sealed}
 use Rattle.page_core.proofs.PartRows.{count_by}
-use Rattle.call_core.specs.Planned.{AreSized}
-use Rattle.call_core.proofs.Sizes.{sized_by}
+use Rattle.run_core.specs.CallPlanned.{AreSized}
+use Rattle.run_core.proofs.Sizes.{sized_by}
 use Rattle.run_core.proofs.WritingAll.{all_places, sealed_long}
 use Rattle.run_core.proofs.MadeAtOnce.{each_served, none_served}
 use Rattle.page_core.specs.Calls.{WritesPages}

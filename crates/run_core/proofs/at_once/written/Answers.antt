@@ -3,10 +3,10 @@ use Rattle.std.specs.Arc.{arc_value}
 use Rattle.decl_core.specs.Bodies.{body_of}
 use Rattle.page_core.specs.PartPins.{PartPin, pin_at}
 use Rattle.page_core.specs.Renewed.{with_sealed}
-use Rattle.hand_core.specs.declared.hand.Stamp.{Stamp}
+use Rattle.device_core.specs.declared.hand.Stamp.{Stamp}
 use Rattle.apply_core.specs.declared.reply.Reply.TheVariants as replies
-use Rattle.call_core.specs.Planned.{IsPlanned}
-use Rattle.call_core.specs.Tasks.{task_call}
+use Rattle.run_core.specs.CallPlanned.{IsPlanned}
+use Rattle.run_core.specs.Tasks.{task_call}
 use Rattle.run_core.proofs.Inside.{none_has, plan_writes}
 use Rattle.run_core.proofs.Telling.{told_of, renewed_of}
 use Rattle.run_core.proofs.Writing.{all_left}

@@ -3,8 +3,8 @@ use Rattle.std.specs.Arc.{arc_value}
 use Rattle.decl_core.specs.Bodies.{body_of}
 use Rattle.apply_core.specs.declared.reply.Reply.TheVariants as replies
 use Rattle.page_core.specs.PartPins.{PartPin, pin_at}
-use Rattle.call_core.specs.Planned.{IsPlanned}
-use Rattle.call_core.specs.Tasks.{task_call}
+use Rattle.run_core.specs.CallPlanned.{IsPlanned}
+use Rattle.run_core.specs.Tasks.{task_call}
 use Rattle.run_core.proofs.Inside.{none_has, plan_writes}
 use Rattle.run_core.proofs.Stepping.{ended_there, judged_there, ended_reads, begun_reads}
 use Rattle.run_core.proofs.Writing.{written_first, none_written}

@@ -1,7 +1,7 @@
 use Rattle.std.proofs.Common.{◌+◌, Err, ap, sym, subst, arith}
 use Rattle.std.specs.Arc.{arc_value}
-use Rattle.hand_core.specs.declared.hand.HandFault.TheVariants.{Memory}
-use Rattle.call_core.specs.Tasks.{task_call}
+use Rattle.device_core.specs.declared.hand.HandFault.TheVariants.{Memory}
+use Rattle.run_core.specs.Tasks.{task_call}
 use Rattle.run_core.specs.Steps.{Follows, at_read, reads_next, reads_last, misses}
 use Rattle.run_core.proofs.Fronts.{front_none}
 use Rattle.run_core.proofs.Inside.{none_has}

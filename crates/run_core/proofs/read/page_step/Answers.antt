@@ -1,7 +1,7 @@
 use Rattle.std.proofs.Common.{Ok, Err, sym, ◌∙◌, inl, inr}
 use Rattle.std.specs.Arc.{arc_value}
-use Rattle.hand_core.specs.declared.hand.HandFault.TheVariants.{Memory}
-use Rattle.call_core.specs.Tasks.{task_call}
+use Rattle.device_core.specs.declared.hand.HandFault.TheVariants.{Memory}
+use Rattle.run_core.specs.Tasks.{task_call}
 use Rattle.run_core.specs.Steps.{pages_on}
 use Rattle.run_core.proofs.Inside.{none_has}
 use Rattle.run_core.proofs.Paging.{paged_there}

@@ -1,7 +1,7 @@
 use Rattle.std.proofs.Common.{◌+◌, Ok, Err, arith, sym, ◌∙◌, inl, inr, refl}
 use Rattle.std.specs.Arc.{arc_value}
-use Rattle.hand_core.specs.declared.hand.HandFault.TheVariants.{Memory}
-use Rattle.call_core.specs.Tasks.{task_call}
+use Rattle.device_core.specs.declared.hand.HandFault.TheVariants.{Memory}
+use Rattle.run_core.specs.Tasks.{task_call}
 use Rattle.run_core.specs.Steps.{reads_on}
 use Rattle.run_core.proofs.Fronts.{reading_on, part_is_read}
 use Rattle.run_core.proofs.Inside.{none_has}

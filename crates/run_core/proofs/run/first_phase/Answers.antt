@@ -1,6 +1,6 @@
 use Rattle.std.proofs.Common.{arith}
 use Rattle.std.specs.Arc.{arc_value}
-use Rattle.call_core.specs.Tasks.{task_call}
+use Rattle.run_core.specs.Tasks.{task_call}
 use Rattle.run_core.specs.Steps.{with_part}
 use Rattle.run_core.proofs.Fronts.{front_none}
 use Rattle.run_core.proofs.Stepping.{ends_there, reading_reads}

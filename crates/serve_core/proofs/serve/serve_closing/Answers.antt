@@ -1,6 +1,6 @@
 use Rattle.std.proofs.Common.{subst, inr, refl}
-use Rattle.hand_core.specs.Papers.{Papers}
-use Rattle.line_core.specs.declared.machine.LinesFault.TheVariants.{Memory}
+use Rattle.device_core.specs.Papers.{Papers}
+use Rattle.text_core.specs.declared.machine.LinesFault.TheVariants.{Memory}
 use Rattle.serve_core.proofs.Running.{run_served, run_failed, run_none, not_opened}
 use Rattle.serve_core.proofs.serve.serve_closing.Goals as goal
 

@@ -1,6 +1,6 @@
 use Rattle.std.proofs.Common.{refl, subst, inl, inr, ℕ}
-use Rattle.line_core.specs.declared.machine.LinesFault.TheVariants.{Memory}
-use Rattle.folder_core.specs.Numbers.{AreBetween}
+use Rattle.text_core.specs.declared.machine.LinesFault.TheVariants.{Memory}
+use Rattle.page_core.specs.Numbers.{AreBetween}
 use Rattle.serve_core.proofs.Running.{run_none, run_behind}
 use Rattle.serve_core.proofs.Tidying.{moved_not, moved_all}
 use Rattle.serve_core.proofs.serve.serve_keeping.Goals as goal

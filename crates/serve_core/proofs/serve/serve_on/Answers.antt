@@ -1,7 +1,7 @@
 use Rattle.std.proofs.Common.{subst, refl, inl, inr}
 use Rattle.std.specs.Io.KnownBytes.{Appends}
 use Rattle.decl_core.specs.ObjectMap.{objects_of}
-use Rattle.source_core.specs.View.{IsJudgedSource}
+use Rattle.check_core.specs.SourceView.{IsJudgedSource}
 use Rattle.serve_core.proofs.Running.{refused_as, keeps_same, if_ok, any_ok}
 use Rattle.serve_core.proofs.serve.serve_on.Goals as goal
 

@@ -1,5 +1,5 @@
 use Rattle.std.proofs.Common.{inr}
-use Rattle.line_core.specs.declared.machine.LinesFault.TheVariants.{Memory}
+use Rattle.text_core.specs.declared.machine.LinesFault.TheVariants.{Memory}
 use Rattle.serve_core.proofs.Running.{run_none, run_of}
 use Rattle.serve_core.proofs.serve.serve_ready.Goals as goal
 

@@ -1,5 +1,5 @@
 use Rattle.std.proofs.Common.{[], Ok}
-use Rattle.line_core.specs.declared.machine.LinesFault.TheVariants.{Memory}
+use Rattle.text_core.specs.declared.machine.LinesFault.TheVariants.{Memory}
 use Rattle.keep_core.proofs.Telling.{line_told, write_told}
 use Rattle.serve_core.proofs.Running.{none_said}
 use Rattle.serve_core.specs.Runs.{listening_line}

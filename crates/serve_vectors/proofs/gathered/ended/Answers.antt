@@ -1,6 +1,6 @@
 use Rattle.std.proofs.Common.{sym, subst}
 use Rattle.board_core.specs.Lists.{Every}
-use Rattle.slip_core.specs.Slips.{IsTrueTold}
+use Rattle.office_core.specs.Slips.{IsTrueTold}
 use Rattle.serve_vectors.proofs.gathered.ended.Goals as goal
 
 pub new-backed-requires : goal.new-backed-requires

@@ -1,5 +1,5 @@
 use Rattle.std.proofs.Common.{◌↔◌, length}
-use Rattle.talk_core.specs.Written.{AreFirst}
+use Rattle.session_core.specs.Written.{AreFirst}
 use Rattle.session_core.proofs.end.are_first.Given as goal
 
 abbrev pub invariant-loop-note : goal.invariant-loop-note

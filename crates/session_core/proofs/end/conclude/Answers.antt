@@ -1,6 +1,6 @@
 use Rattle.std.proofs.Common.{subst, sym}
-use Rattle.talk_core.specs.Written.{HasWritten}
-use Rattle.talk_core.proofs.Saying.{wrote}
+use Rattle.session_core.specs.Written.{HasWritten}
+use Rattle.session_core.proofs.Saying.{wrote}
 use Rattle.session_core.proofs.end.conclude.Goals as goal
 
 pub returns-clause-written : goal.returns-clause-written

@@ -1,5 +1,5 @@
 use Rattle.std.proofs.Common.{Some, ap, []}
-use Rattle.hear_core.specs.declared.fault.HearFault.TheVariants as hears
+use Rattle.session_text.specs.declared.fault.HearFault.TheVariants as hears
 use Rattle.session_core.proofs.Ending.{caused_of, none_said}
 use Rattle.session_core.specs.Working.{begins}
 use Rattle.session_core.proofs.serve.serve_from.Goals as goal

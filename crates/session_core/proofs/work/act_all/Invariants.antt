@@ -1,4 +1,4 @@
-use Rattle.talk_core.specs.Truth.{Keeps, AreTrue}
+use Rattle.session_core.specs.Truth.{Keeps, AreTrue}
 use Rattle.session_core.specs.Working.{WorksOn}
 use Rattle.session_core.proofs.work.act_all.Given as goal
 

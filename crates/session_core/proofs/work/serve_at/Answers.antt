@@ -1,6 +1,6 @@
 use Rattle.std.proofs.Common.{ℕ, subst}
-use Rattle.slip_core.specs.Slips.{told_by}
-use Rattle.talk_core.proofs.Truths.{more_true}
+use Rattle.office_core.specs.Slips.{told_by}
+use Rattle.session_core.proofs.Truths.{more_true}
 use Rattle.session_core.specs.Making.{MakesOnce}
 use Rattle.session_core.proofs.Making.{one_made}
 use Rattle.session_core.proofs.Telling.{as_true}

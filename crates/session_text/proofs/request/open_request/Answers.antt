@@ -1,6 +1,6 @@
 use Rattle.std.proofs.Common.{refl}
 use Rattle.word_core.specs.Words.{bare}
-use Rattle.line_read.proofs.Reading.{behind_ok}
+use Rattle.word_core.proofs.Reading.{behind_ok}
 use Rattle.session_text.specs.Requests.{open_request, open_named}
 use Rattle.session_text.specs.View.{request_view}
 use Rattle.session_text.proofs.request.open_request.Goals as goal

@@ -1,6 +1,6 @@
 use Rattle.std.proofs.Common.{sym, ◌∙◌}
 use Rattle.std.proofs.lemmas.Bool.{false≢true}
-use Rattle.session_text.proofs.Reading.{quit_read, no_quit}
+use Rattle.session_text.proofs.SessionReading.{quit_read, no_quit}
 use Rattle.session_text.proofs.request.quit_request.Goals as goal
 
 pub returns-then-is_blank : goal.returns-then-is_blank

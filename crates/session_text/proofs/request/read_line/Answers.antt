@@ -1,9 +1,9 @@
 use Rattle.std.proofs.Common.{refl}
 use Rattle.word_core.specs.Words.{bare}
-use Rattle.line_read.proofs.Reading.{behind_ok}
+use Rattle.word_core.proofs.Reading.{behind_ok}
 use Rattle.session_text.specs.Requests.{request_of, request_by}
 use Rattle.session_text.specs.View.{request_view}
-use Rattle.session_text.proofs.Reading.{read_of}
+use Rattle.session_text.proofs.SessionReading.{read_of}
 use Rattle.session_text.proofs.request.read_line.Goals as goal
 
 pub returns-in-Some : goal.returns-in-Some

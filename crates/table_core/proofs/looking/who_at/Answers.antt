@@ -1,5 +1,5 @@
 use Rattle.std.specs.Prelude.{slice_get}
-use Rattle.hold_form.specs.HoldMap.{holds_of}
+use Rattle.decl_core.specs.HoldMap.{holds_of}
 use Rattle.inside_core.specs.Adds.{crowd_of}
 use Rattle.table_core.proofs.Placing.{at_place}
 use Rattle.table_core.proofs.Showing.{who_there}

@@ -1,6 +1,6 @@
 use Rattle.std.proofs.Common.{List, length, sym, ap, subst, arith}
-use Rattle.hand_core.specs.declared.hand.Stamp.{Stamp}
-use Rattle.hand_core.specs.Device.{AreServed}
+use Rattle.device_core.specs.declared.hand.Stamp.{Stamp}
+use Rattle.device_core.specs.Device.{AreServed}
 use Rattle.device_core.specs.declared.file.File.{File}
 use Rattle.device_core.specs.Files.{Serves, files_of}
 use Rattle.world_core.proofs.Reading.{first_served, others_served}

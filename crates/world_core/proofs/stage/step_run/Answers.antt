@@ -1,6 +1,6 @@
 use Rattle.std.proofs.Common.{sym, ◌∙◌, subst}
 use Rattle.device_core.specs.declared.memory.MemHand.{MemHand}
-use Rattle.hand_core.specs.declared.hand.Stamp.{Stamp}
+use Rattle.device_core.specs.declared.hand.Stamp.{Stamp}
 use Rattle.device_core.specs.Files.{HasFiles, IsOpen, Serves, files_of}
 use Rattle.run_core.specs.Runs.{run_sealed, PenHolds}
 use Rattle.run_core.specs.Steps.{AreServed}

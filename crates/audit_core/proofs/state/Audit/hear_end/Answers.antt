@@ -2,7 +2,7 @@ use Rattle.std.proofs.Common.{◌≡◌, ◌≢◌, ℕ, ◌+◌, ◌∷◌, len
 use Rattle.std.proofs.lemmas.Bool.{false≢true}
 use Rattle.path_tree.specs.Trace.{End}
 use Rattle.decl_core.specs.ObjectMap.{object_of}
-use Rattle.trace_core.specs.Events.{ended, call_of, trace_of, body_at}
+use Rattle.word_core.specs.Events.{ended, call_of, trace_of, body_at}
 use Rattle.apply_core.specs.History.{IsReplyOn}
 use Rattle.audit_core.specs.Tells.{end_told}
 use Rattle.audit_core.specs.Calls.{called, AreSlots}

@@ -1,7 +1,7 @@
 use Rattle.std.proofs.Common.{◌≡◌, ◌∙◌, ap, ℕ, List, ◌++◌}
 use Rattle.decl_core.specs.ObjectMap.{object_of}
-use Rattle.hold_form.specs.HoldForm.{RulesForm}
-use Rattle.hold_form.specs.HoldMap.{holds_of}
+use Rattle.decl_core.specs.HoldForm.{RulesForm}
+use Rattle.decl_core.specs.HoldMap.{holds_of}
 use Rattle.custody_core.specs.Views.{custodies_of}
 use Rattle.custody_core.proofs.Placing.{lines_are, some_at}
 use Rattle.custody_core.proofs.all.AllHeld.push_lines_of.Goals as goal

@@ -1,6 +1,6 @@
 use Rattle.std.proofs.Common.{◌≡◌, ◌∙◌, true, refl, sym, ap, subst}
 use Rattle.board_core.specs.Board.{Board, call_at, dismissed, Admits}
-use Rattle.ask_core.specs.Answers.{waits_in, runs_in}
+use Rattle.board_core.specs.Answers.{waits_in, runs_in}
 use Rattle.board_core.specs.Started.{Settles}
 use Rattle.board_core.proofs.Admission.{rests_after, dismissed_history, settled}
 use Rattle.desk_core.proofs.desk.Desk.cancel.Goals as goal

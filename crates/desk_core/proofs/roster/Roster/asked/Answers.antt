@@ -4,7 +4,7 @@ use Rattle.std.proofs.lemmas.List.{length-map}
 use Rattle.decl_core.specs.declared.object.Operation.{Operation}
 use Rattle.board_core.specs.Calls.{AcceptedCall}
 use Rattle.board_core.specs.Board.{Board}
-use Rattle.ask_core.specs.Answers.{IsGone, IsNamedAt, IsAsked, is_busy}
+use Rattle.board_core.specs.Answers.{IsGone, IsNamedAt, IsAsked, is_busy}
 use Rattle.board_core.proofs.Traces.{true_false}
 use Rattle.desk_core.proofs.roster.Roster.asked.Goals as goal
 

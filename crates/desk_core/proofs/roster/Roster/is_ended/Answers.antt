@@ -9,7 +9,7 @@ use Rattle.board_core.specs.Board.{Board}
 use Rattle.board_core.specs.Sound.{IsNoted}
 use Rattle.board_core.proofs.Lists.{Every-map}
 use Rattle.board_core.proofs.Sound.{call_number}
-use Rattle.ask_core.specs.Answers.{ended_in}
+use Rattle.board_core.specs.Answers.{ended_in}
 use Rattle.desk_core.specs.Kept.{board_of, IsPlaceOf}
 use Rattle.desk_core.proofs.Places.{place_tells, none_beyond}
 use Rattle.desk_core.proofs.roster.Roster.is_ended.Goals as goal

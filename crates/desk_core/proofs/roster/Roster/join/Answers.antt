@@ -9,13 +9,13 @@ use Rattle.board_core.specs.Board.{Board, joined, bodies, paths_of, past_of}
 use Rattle.desk_core.specs.Kept.{board_of, IsMarkIn, ArePlaces}
 use Rattle.board_core.specs.Sound.{IsSound, IsFirstNamed}
 use Rattle.board_core.proofs.Sound.{sound-joined, past_joined}
-use Rattle.ask_core.specs.Answers.{is_busy}
+use Rattle.board_core.specs.Answers.{is_busy}
 use Rattle.desk_core.proofs.Busy.{not_open}
 use Rattle.board_core.proofs.Made.{some_body, made_of}
 use Rattle.desk_core.proofs.Marking.{events_same}
 use Rattle.desk_core.proofs.Places.{places_joined, noted_below}
-use Rattle.key_core.specs.Index.{AreIndexed}
-use Rattle.key_core.proofs.Indexing.{indexed_joined}
+use Rattle.board_core.specs.Index.{AreIndexed}
+use Rattle.board_core.proofs.Indexing.{indexed_joined}
 use Rattle.board_core.specs.Lists.{Every}
 use Rattle.desk_core.proofs.Tables.{joined_is, same_is}
 use Rattle.desk_core.proofs.roster.Roster.join.Goals as goal

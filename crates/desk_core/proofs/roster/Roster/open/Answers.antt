@@ -5,8 +5,8 @@ use Rattle.path_count.specs.Stands.{StandsFor}
 use Rattle.board_core.specs.Board.{past_of}
 use Rattle.board_core.specs.Sound.{IsSound}
 use Rattle.board_core.proofs.Sound.{sound-opened}
-use Rattle.key_core.specs.Index.{AreIndexed}
-use Rattle.key_core.proofs.Indexing.{indexed_opened}
+use Rattle.board_core.specs.Index.{AreIndexed}
+use Rattle.board_core.proofs.Indexing.{indexed_opened}
 use Rattle.desk_core.proofs.Marking.{events_are, no_marks}
 use Rattle.desk_core.proofs.Places.{no_places}
 use Rattle.desk_core.proofs.Tables.{opened_is}

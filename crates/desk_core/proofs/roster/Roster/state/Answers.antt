@@ -7,7 +7,7 @@ use Rattle.board_core.specs.Lists.{Among}
 use Rattle.board_core.specs.Calls.{Noted}
 use Rattle.board_core.specs.Board.{Board}
 use Rattle.board_core.proofs.Lists.{among_at}
-use Rattle.ask_core.specs.Answers.{ended_in}
+use Rattle.board_core.specs.Answers.{ended_in}
 use Rattle.desk_core.specs.Kept.{board_of, IsPlaceOf}
 use Rattle.desk_core.proofs.Places.{place_tells, place_entry}
 use Rattle.desk_core.proofs.roster.Roster.state.Goals as goal

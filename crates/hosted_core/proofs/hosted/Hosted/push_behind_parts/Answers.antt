@@ -1,6 +1,6 @@
 use Rattle.std.proofs.Common.{◌++◌, ap, ◌∙◌}
 use Rattle.decl_core.specs.ObjectMap.{object_of}
-use Rattle.front_core.specs.Text.{runs_text}
+use Rattle.live_core.specs.Text.{runs_text}
 use Rattle.hosted_core.specs.Scene.{Scene}
 use Rattle.hosted_core.proofs.Writing.{past_told}
 use Rattle.hosted_core.proofs.hosted.Hosted.push_behind_parts.Goals as goal

@@ -1,6 +1,6 @@
 use Rattle.std.proofs.Common.{◌≡◌, ◌+◌, ◌++◌, length}
 use Rattle.decl_core.specs.ObjectMap.{object_of}
-use Rattle.front_core.specs.Text.{carried_text}
+use Rattle.live_core.specs.Text.{carried_text}
 use Rattle.hosted_core.specs.Fronts.{carried_from}
 use Rattle.hosted_core.proofs.hosted.Hosted.push_calls.Given as goal
 

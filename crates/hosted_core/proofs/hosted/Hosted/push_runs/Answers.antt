@@ -4,8 +4,8 @@ use Rattle.value_core.specs.Contents.{IsContents}
 use Rattle.decl_core.specs.declared.object.Object.{Object}
 use Rattle.decl_core.specs.ObjectMap.{parts_of}
 use Rattle.word_core.specs.Words.{line_of}
-use Rattle.trace_core.specs.Text.{lines_of, parts_words}
-use Rattle.front_core.specs.Text.{object_words, source_words}
+use Rattle.word_core.specs.Text.{lines_of, parts_words}
+use Rattle.live_core.specs.Text.{object_words, source_words}
 use Rattle.hosted_core.specs.Scene.{Scene}
 use Rattle.hosted_core.proofs.Writing.{front_told}
 use Rattle.hosted_core.proofs.hosted.Hosted.push_runs.Goals as goal

@@ -1,5 +1,5 @@
 use Rattle.std.proofs.Common.{◌≡◌, ◌≤◌, map, take, length}
-use Rattle.trace_core.specs.Events.{Called}
+use Rattle.word_core.specs.Events.{Called}
 use Rattle.hosted_core.specs.Scene.{told_of}
 use Rattle.hosted_core.proofs.hosted.Hosted.told_of_waiting.Given as goal
 

@@ -2,7 +2,7 @@ use Rattle.std.proofs.Common.{◌∙◌, ap, sym, subst, true, false}
 use Rattle.board_core.specs.Sound.{IsSound}
 use Rattle.office_core.specs.Insides.{InsideView}
 use Rattle.std.proofs.lemmas.Bool.{false≢true}
-use Rattle.keep_core.proofs.Ending.{ending_by, closed_by, lacking_by, refused_by_office}
+use Rattle.keep_core.proofs.KeepEnding.{ending_by, closed_by, lacking_by, refused_by_office}
 use Rattle.keep_core.proofs.close.Closing.close_one.Goals as goal
 
 pub returns-then-whole-clause-ended : goal.returns-then-whole-clause-ended

@@ -1,5 +1,5 @@
 use Rattle.std.proofs.Common.{ap, length}
-use Rattle.keep_core.proofs.Ending.{ends_closed}
+use Rattle.keep_core.proofs.KeepEnding.{ends_closed}
 use Rattle.keep_core.proofs.close.Closing.end_closed.Goals as goal
 
 pub returns-clause-ends : goal.returns-clause-ends

@@ -1,4 +1,4 @@
-use Rattle.keep_core.proofs.Ending.{ends_refused}
+use Rattle.keep_core.proofs.KeepEnding.{ends_refused}
 use Rattle.keep_core.proofs.close.Closing.end_refused.Goals as goal
 
 pub returns-clause-ends : goal.returns-clause-ends

@@ -1,6 +1,6 @@
 use Rattle.std.proofs.Common.{◌≡◌, ◌∙◌, ap, sym, subst, refl, List, length, true}
 use Rattle.decl_core.specs.declared.object.Object.{Object}
-use Rattle.hand_core.specs.declared.hand.Stamp.{Stamp}
+use Rattle.device_core.specs.declared.hand.Stamp.{Stamp}
 use Rattle.keep_core.specs.Kept.{Saves}
 use Rattle.keep_core.proofs.Keeping.{saves_all, saves_front, saves_then}
 use Rattle.keep_core.proofs.close.Closing.save_all.Goals as goal

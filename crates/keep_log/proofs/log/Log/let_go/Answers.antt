@@ -1,4 +1,4 @@
-use Rattle.log_core.specs.Events.{lets_go}
+use Rattle.keep_log.specs.Events.{lets_go}
 use Rattle.keep_log.proofs.Telling.{told_line}
 use Rattle.keep_log.proofs.log.Log.let_go.Goals as goal
 

@@ -1,4 +1,4 @@
-use Rattle.log_core.specs.Events.{lacks}
+use Rattle.keep_log.specs.Events.{lacks}
 use Rattle.keep_log.proofs.Telling.{told_line}
 use Rattle.keep_log.proofs.log.Log.no_status.Goals as goal
 

@@ -1,6 +1,6 @@
 use Rattle.std.proofs.Common.{◌≡◌, ◌++◌, ◌∙◌, List, ap, subst}
-use Rattle.status_text.specs.declared.numbers.Stored.{Stored}
-use Rattle.status_text.specs.Server.{outside_text}
+use Rattle.inside_core.specs.declared.numbers.Stored.{Stored}
+use Rattle.inside_core.specs.Server.{outside_text}
 use Rattle.keep_log.proofs.Telling.{composed}
 use Rattle.keep_log.proofs.shown.Showing.compose.Goals as goal
 

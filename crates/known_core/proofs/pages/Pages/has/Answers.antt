@@ -1,7 +1,7 @@
 use Rattle.std.proofs.Common.{◌≡◌, ◌<◌, ◌==◌, ℕ, ◌+◌, ◌≤◌, ◌/◌, ◌^◌, false, List, sym, ap, ◌∙◌, subst, get_or}
 use Rattle.std.specs.Int.{bit_at}
 use Rattle.std.proofs.lemmas.Nat.Bits.{bit_at_above}
-use Rattle.piece_core.specs.Pages.{page_of}
+use Rattle.apply_core.specs.Pages.{page_of}
 use Rattle.known_core.specs.Masks.{known_by}
 use Rattle.known_core.proofs.pages.Pages.has.Goals as goal
 

@@ -2,7 +2,7 @@ use Rattle.std.proofs.Common.{◌≡◌, ◌∙◌, ◌*◌, ◌/◌, [], length
 use Rattle.std.specs.Prelude.{IfSome}
 use Rattle.path_tree.specs.Trace.{running_calls}
 use Rattle.path_count.specs.Stands.{StandsFor, started_calls}
-use Rattle.past_core.specs.Past.{events_of}
+use Rattle.path_count.specs.Past.{events_of}
 use Rattle.value_core.specs.Contents.{kind_of}
 use Rattle.decl_core.specs.declared.object.Part.{Part}
 use Rattle.decl_core.specs.ObjectMap.{object_of}

@@ -2,10 +2,10 @@ use Rattle.std.proofs.Common.{◌≡◌, ◌∙◌, ℕ, Some, List, ap, sym, su
 use Rattle.std.specs.Prelude.{slice_get, slice_set}
 use Rattle.board_core.specs.Board.{Board, released, marked}
 use Rattle.board_core.specs.Started.{Settles}
-use Rattle.ask_core.specs.Answers.{runs_by}
-use Rattle.seat_core.specs.declared.clients.Client.{Client}
-use Rattle.seat_core.specs.Clients.{AreClients}
-use Rattle.seat_core.proofs.Naming.{clients_put, client_within}
+use Rattle.board_core.specs.Answers.{runs_by}
+use Rattle.office_core.specs.declared.clients.Client.{Client}
+use Rattle.office_core.specs.Clients.{AreClients}
+use Rattle.office_core.proofs.Naming.{clients_put, client_within}
 use Rattle.office_core.specs.Insides.{InsideView}
 use Rattle.office_core.proofs.inside.Inside.park_at.Goals as goal
 

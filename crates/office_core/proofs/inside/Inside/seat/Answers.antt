@@ -1,5 +1,5 @@
 use Rattle.std.proofs.Common.{◌+◌, arith}
-use Rattle.seat_core.proofs.Naming.{clients_given}
+use Rattle.office_core.proofs.Naming.{clients_given}
 use Rattle.office_core.proofs.inside.Inside.seat.Goals as goal
 
 pub invariant_of-self : goal.invariant_of-self

@@ -1,10 +1,10 @@
 use Rattle.std.proofs.Common.{◌≡◌, ◌∙◌, ◌⊎◌, inl, ℕ, Some, None, List, ap, sym, subst, refl, arith}
 use Rattle.std.specs.Prelude.{slice_get, slice_set}
 use Rattle.board_core.specs.Board.{Board}
-use Rattle.key_core.specs.Keys.{resumed}
-use Rattle.seat_core.specs.declared.clients.Client.{Client}
-use Rattle.seat_core.specs.Clients.{AreClients}
-use Rattle.seat_core.proofs.Naming.{clients_taken, parked_within}
+use Rattle.board_core.specs.Keys.{resumed}
+use Rattle.office_core.specs.declared.clients.Client.{Client}
+use Rattle.office_core.specs.Clients.{AreClients}
+use Rattle.office_core.proofs.Naming.{clients_taken, parked_within}
 use Rattle.office_core.specs.Insides.{InsideView}
 use Rattle.office_core.proofs.inside.Inside.seat_again.Goals as goal
 

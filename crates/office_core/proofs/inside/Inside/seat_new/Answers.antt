@@ -1,8 +1,8 @@
 use Rattle.std.proofs.Common.{◌≡◌, ◌≢◌, ◌+◌, None, List, ap, sym, subst, refl, arith}
 use Rattle.board_core.specs.Lists.{Every}
-use Rattle.seat_core.specs.declared.clients.Client.{Client}
-use Rattle.seat_core.specs.Clients.{AreClients}
-use Rattle.seat_core.proofs.Naming.{clients_more}
+use Rattle.office_core.specs.declared.clients.Client.{Client}
+use Rattle.office_core.specs.Clients.{AreClients}
+use Rattle.office_core.proofs.Naming.{clients_more}
 use Rattle.office_core.specs.Insides.{InsideView}
 use Rattle.office_core.proofs.inside.Inside.seat_new.Goals as goal
 

@@ -1,5 +1,5 @@
 use Rattle.std.proofs.Common.{◌≡◌, List, ℕ, sym, ap, ◌∙◌, arith}
-use Rattle.hand_core.specs.declared.hand.Stamp.{Stamp}
+use Rattle.device_core.specs.declared.hand.Stamp.{Stamp}
 use Rattle.page_core.specs.PartPins.{pins_by}
 use Rattle.page_core.proofs.PartRows.{same_rows}
 use Rattle.page_core.proofs.part_pins.PartPins.is_same.Goals as goal

@@ -1,5 +1,5 @@
 use Rattle.std.proofs.Common.{◌≡◌, List, ◌++◌, length, drop, replicate, subst}
-use Rattle.hand_core.specs.declared.hand.Stamp.{Stamp}
+use Rattle.device_core.specs.declared.hand.Stamp.{Stamp}
 use Rattle.page_core.specs.Pins.{most_pins}
 use Rattle.page_core.proofs.PinRows.{kept}
 use Rattle.page_core.proofs.pins.Pins.new.Goals as goal

@@ -1,7 +1,7 @@
 use Rattle.std.proofs.Common.{◌≡◌, ◌<◌, List, length, ap, sym, ◌∙◌, arith, length-take}
 use Rattle.std.proofs.Math.Seq.{take-set-lt}
 use Rattle.std.specs.List.{slice_set}
-use Rattle.hand_core.specs.declared.hand.Stamp.{Stamp}
+use Rattle.device_core.specs.declared.hand.Stamp.{Stamp}
 use Rattle.page_core.specs.Pins.{pins_of}
 use Rattle.page_core.proofs.pins.Pins.set.Goals as goal
 

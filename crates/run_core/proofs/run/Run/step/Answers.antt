@@ -1,11 +1,11 @@
 use Rattle.std.proofs.Common.{◌≡◌, ◌⊎◌, inl, inr, Some, rules, ap, sym, subst, ◌∙◌}
 use Rattle.std.specs.Arc.{arc_value}
-use Rattle.hand_core.specs.Device.{IsFree}
+use Rattle.device_core.specs.Device.{IsFree}
 use Rattle.page_core.specs.PartPins.{pin_at}
 use Rattle.run_core.specs.Phases.{ending_of, sealed_in, news_in, pen_in, PenHoldsIn, HasItsReads, FoundBy}
 use Rattle.run_core.specs.Calling.{StepMakes}
 use Rattle.run_core.specs.Steps.{ReadsItsPart, place_in}
-use Rattle.call_core.specs.Tasks.{task_call}
+use Rattle.run_core.specs.Tasks.{task_call}
 use Rattle.run_core.proofs.Serving.{step_reads, read_is_served}
 use Rattle.run_core.proofs.SameRuns.{same_run}
 use Rattle.run_core.proofs.run.Run.step.Goals as goal

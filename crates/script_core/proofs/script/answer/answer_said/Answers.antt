@@ -1,6 +1,6 @@
 use Rattle.std.proofs.Common.{sym, subst}
-use Rattle.script_text.specs.View.{said_view}
-use Rattle.script_text.specs.Said.{a_call, a_keyed_call}
+use Rattle.word_core.specs.ScriptView.{said_view}
+use Rattle.word_core.specs.Said.{a_call, a_keyed_call}
 use Rattle.world_core.specs.Events.{call, call_key, step, finish, cancel, leave, resume, look}
 use Rattle.script_core.specs.Does.{IsEvent, calls, calls_by, steps, finishes, cancels_it, leaves, is_back, looks}
 use Rattle.script_core.proofs.Telling.{told_event}

@@ -1,8 +1,8 @@
 use Rattle.std.proofs.Common.{◌≡◌, false, sym, ap, ◌∙◌, subst}
 use Rattle.board_core.specs.Board.{Board}
-use Rattle.ask_core.specs.Answers.{runs_in}
-use Rattle.script_text.specs.Answers.{refused_line, all_stepped_line}
-use Rattle.script_text.specs.Said.{all_steps}
+use Rattle.board_core.specs.Answers.{runs_in}
+use Rattle.word_core.specs.Answers.{refused_line, all_stepped_line}
+use Rattle.word_core.specs.Said.{all_steps}
 use Rattle.script_core.specs.Does.{Does, all_stepped, not_stepped}
 use Rattle.script_core.proofs.Telling.{told_lines}
 use Rattle.script_core.proofs.script.answer.tell_steps.Goals as goal

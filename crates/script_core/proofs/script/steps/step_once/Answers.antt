@@ -1,6 +1,6 @@
 use Rattle.std.proofs.Common.{true, ◌≡◌}
 use Rattle.script_core.specs.Does.{IsOver}
-use Rattle.ask_core.specs.Answers.{runs_in}
+use Rattle.board_core.specs.Answers.{runs_in}
 use Rattle.script_core.proofs.Stepping.{step_over}
 use Rattle.script_core.proofs.script.steps.step_once.Goals as goal
 

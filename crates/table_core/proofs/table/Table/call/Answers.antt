@@ -2,7 +2,7 @@ use Rattle.session_text.specs.declared.line.Line.TheVariants as lines
 use Rattle.session_text.specs.declared.line.Refusal.TheVariants as refusals
 use Rattle.std.proofs.Common.{sym, subst, List, Option, ℕ}
 use Rattle.hosted_core.specs.Scene.{Scene}
-use Rattle.told_core.specs.Asked.{AnswersCall}
+use Rattle.client_core.specs.Asked.{AnswersCall}
 use Rattle.table_core.specs.Brings.{Brings}
 use Rattle.table_core.specs.Objects.{HasOperation}
 use Rattle.table_core.specs.Seen.{seen}

@@ -1,7 +1,7 @@
 use Rattle.std.proofs.Common.{◌∙◌, ap, subst, Option, Result, Some}
 use Rattle.guest_core.specs.declared.guests.Entered.{Entered}
 use Rattle.guest_core.specs.declared.guests.EnterFault.{EnterFault}
-use Rattle.told_core.specs.State.{peers_of}
+use Rattle.client_core.specs.State.{peers_of}
 use Rattle.table_core.specs.Objects.{EntersAt}
 use Rattle.table_core.proofs.Entering.{comes_in}
 use Rattle.custody_core.specs.Views.{custodies_of}

@@ -1,4 +1,4 @@
-use Rattle.told_core.specs.Turns.{AllLeave}
+use Rattle.client_core.specs.Turns.{AllLeave}
 use Rattle.table_core.specs.Brings.{Brings}
 use Rattle.table_core.specs.Seen.{seen}
 use Rattle.table_core.proofs.table.Table.end.Given as goal

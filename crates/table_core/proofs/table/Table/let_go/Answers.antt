@@ -1,5 +1,5 @@
 use Rattle.std.proofs.Common.{subst, Option, ℕ}
-use Rattle.told_core.specs.State.{peers_of}
+use Rattle.client_core.specs.State.{peers_of}
 use Rattle.table_core.specs.Objects.{CancelsAt}
 use Rattle.table_core.proofs.Cancelling.{lets_go_some}
 use Rattle.custody_core.specs.Views.{custodies_of}

@@ -4,7 +4,7 @@ use Rattle.client_core.specs.declared.ask.Sight.TheVariants as insides
 use Rattle.session_text.specs.declared.line.Line.TheVariants as lines
 use Rattle.session_text.specs.declared.line.Refusal.TheVariants as refusals
 use Rattle.hosted_core.specs.Scene.{Scene}
-use Rattle.told_core.specs.Inside.{IsWhy}
+use Rattle.client_core.specs.ToldInside.{IsWhy}
 use Rattle.client_core.specs.People.{people_of}
 use Rattle.table_core.specs.Seen.{seen}
 use Rattle.table_core.proofs.Showing.{look_refused, why_shown}

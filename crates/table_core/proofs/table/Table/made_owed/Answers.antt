@@ -1,7 +1,7 @@
 use Rattle.std.proofs.Common.{◌∙◌, ap, subst, List, slice_get}
 use Rattle.hosted_core.specs.Scene.{Scene}
 use Rattle.live_core.specs.declared.call.Ran.{Ran}
-use Rattle.told_core.specs.Asked.{AllEnd}
+use Rattle.client_core.specs.Asked.{AllEnd}
 use Rattle.table_core.specs.Brings.{Brings}
 use Rattle.table_core.specs.Seen.{seen}
 use Rattle.table_core.proofs.Settling.{ends_all, ends_same}

@@ -1,7 +1,7 @@
 use Rattle.std.proofs.Common.{subst, Result}
-use Rattle.ask_core.specs.declared.answer.SubmitFault.{SubmitFault}
+use Rattle.board_core.specs.declared.answer.SubmitFault.{SubmitFault}
 use Rattle.live_core.specs.declared.live.Taken.{Taken}
-use Rattle.told_core.specs.State.{peers_of}
+use Rattle.client_core.specs.State.{peers_of}
 use Rattle.table_core.specs.Objects.{CallsAt}
 use Rattle.table_core.proofs.Submitting.{makes_at}
 use Rattle.custody_core.specs.Views.{custodies_of}

@@ -1,5 +1,5 @@
 use Rattle.std.proofs.Common.{◌∙◌, inl, refl}
-use Rattle.told_core.specs.State.{peers_of}
+use Rattle.client_core.specs.State.{peers_of}
 use Rattle.table_core.specs.Seen.{seen, state_of}
 use Rattle.table_core.proofs.Entering.{objects_are}
 use Rattle.table_core.proofs.Submitting.{err_sits}

@@ -2,8 +2,8 @@ use Rattle.std.proofs.Common.{◌≡◌, ◌∙◌, ap, sym, subst, List, Some, 
 use Rattle.client_core.specs.declared.client.Opened.{Opened}
 use Rattle.hosted_core.specs.Scene.{Scene}
 use Rattle.live_core.specs.declared.call.Ran.{Ran}
-use Rattle.told_core.specs.State.{change, opening, peers_of}
-use Rattle.told_core.specs.Asked.{AllEnd}
+use Rattle.client_core.specs.State.{change, opening, peers_of}
+use Rattle.client_core.specs.Asked.{AllEnd}
 use Rattle.table_core.specs.Brings.{Brings}
 use Rattle.table_core.specs.Seen.{seen, state_of}
 use Rattle.table_core.proofs.Submitting.{taken_by}

@@ -4,7 +4,7 @@ use Rattle.run_core.specs.Runs.{run_call}
 use Rattle.board_core.specs.Calls.{RunningCall}
 use Rattle.board_core.specs.Board.{Board, taken_at}
 use Rattle.board_core.specs.Sound.{IsSound}
-use Rattle.ask_core.specs.Answers.{Collects}
+use Rattle.board_core.specs.Answers.{Collects}
 use Rattle.world_core.specs.declared.slot.Slot.{Slot as ASlot}
 use Rattle.world_core.specs.Scene.{call_running}
 use Rattle.world_core.specs.Kept.{IsKept}

@@ -1,6 +1,6 @@
 use Rattle.std.proofs.Common.{sym, ◌∙◌, ap, subst, length}
 use Rattle.board_core.specs.Board.{Board, joined}
-use Rattle.ask_core.specs.Answers.{Asked}
+use Rattle.board_core.specs.Answers.{Asked}
 use Rattle.world_core.specs.declared.event.EventAnswer.{EventAnswer}
 use Rattle.world_core.specs.declared.event.Answer.TheVariants.{Number, Refused}
 use Rattle.world_core.specs.declared.event.Refusal.TheVariants.{Submit}

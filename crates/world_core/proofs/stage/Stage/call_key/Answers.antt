@@ -1,10 +1,10 @@
 use Rattle.std.proofs.Common.{sym, ◌∙◌, ap, subst, length}
 use Rattle.std.specs.Prelude.{Ok, Err}
 use Rattle.board_core.specs.Board.{Board, joined}
-use Rattle.ask_core.specs.declared.answer.Keyed.{Keyed}
-use Rattle.ask_core.specs.declared.answer.Keyed.TheVariants as keyed
-use Rattle.ask_core.specs.Answers.{Asked}
-use Rattle.ask_core.specs.Keyed.{SubmitsKeyed}
+use Rattle.board_core.specs.declared.answer.Keyed.{Keyed}
+use Rattle.board_core.specs.declared.answer.Keyed.TheVariants as keyed
+use Rattle.board_core.specs.Answers.{Asked}
+use Rattle.board_core.specs.Keyed.{SubmitsKeyed}
 use Rattle.world_core.specs.declared.event.EventAnswer.{EventAnswer}
 use Rattle.world_core.specs.declared.event.Answer.TheVariants.{Number, Kept, Refused}
 use Rattle.world_core.specs.declared.event.Refusal.TheVariants.{Keyed as KeyRefused}

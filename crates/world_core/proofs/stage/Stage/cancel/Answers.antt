@@ -1,6 +1,6 @@
 use Rattle.std.proofs.Common.{sym, ◌∙◌, ap, subst, length}
 use Rattle.board_core.specs.Board.{Board, Rests, dismissed}
-use Rattle.ask_core.specs.Answers.{Cancels}
+use Rattle.board_core.specs.Answers.{Cancels}
 use Rattle.world_core.specs.declared.event.EventAnswer.{EventAnswer}
 use Rattle.world_core.specs.declared.event.Answer.TheVariants.{Cancel}
 use Rattle.world_core.specs.declared.stage.Stage.{Stage}

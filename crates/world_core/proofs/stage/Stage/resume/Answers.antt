@@ -2,7 +2,7 @@ use Rattle.std.proofs.Common.{◌≡◌, ◌<◌, ◌≤◌, ◌⊎◌, ◌∙�
 use Rattle.board_core.specs.Calls.{RunningCall}
 use Rattle.board_core.specs.Board.{Board}
 use Rattle.board_core.specs.Sound.{IsSound}
-use Rattle.key_core.specs.Keys as keys
+use Rattle.board_core.specs.Keys as keys
 use Rattle.world_core.specs.declared.event.EventAnswer.{EventAnswer}
 use Rattle.world_core.specs.declared.event.Answer.TheVariants.{Resumed, Refused}
 use Rattle.world_core.specs.declared.event.Refusal.TheVariants.{NoSession}

@@ -1,6 +1,6 @@
 use Rattle.std.proofs.Common.{[], refl, sym, subst}
 use Rattle.std.proofs.lemmas.List.{append-nil}
-use Rattle.script_text.specs.View.{said_view}
+use Rattle.word_core.specs.ScriptView.{said_view}
 use Rattle.board_core.specs.Sound.{IsSound}
 use Rattle.script_core.specs.Writes.{skipped, done}
 use Rattle.script_core.proofs.script.machine.Script.answer_line.Goals as goal

@@ -1,7 +1,7 @@
 use Rattle.std.proofs.Common.{subst}
-use Rattle.script_text.specs.Answers.{bad_line}
-use Rattle.inside_desk.specs.Asked.{view_of}
-use Rattle.inside_desk.specs.Told.{IsTold}
+use Rattle.word_core.specs.Answers.{bad_line}
+use Rattle.world_core.specs.Asked.{view_of}
+use Rattle.world_core.specs.Told.{IsTold}
 use Rattle.script_core.specs.Writes.{asked, bad}
 use Rattle.script_core.proofs.script.machine.Script.answer_other.Goals as goal
 

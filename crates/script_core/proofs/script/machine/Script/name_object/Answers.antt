@@ -1,7 +1,7 @@
 use Rattle.std.proofs.Common.{◌≡◌, [], refl, sym, ap, ◌∙◌, subst}
 use Rattle.std.proofs.lemmas.List.{append-nil}
 use Rattle.board_core.specs.Board.{Board}
-use Rattle.script_text.specs.Answers.{bad_line}
+use Rattle.word_core.specs.Answers.{bad_line}
 use Rattle.script_core.specs.Writes.{NamesObject, named, not_named}
 use Rattle.script_core.proofs.script.machine.Script.name_object.Goals as goal
 

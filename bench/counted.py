@@ -1,0 +1,88 @@
+"""Counts the instructions that a server takes for a call, by valgrind's callgrind.
+
+usage: bench/counted [--program FILE] [--before FILE] [--calls N] [--only WORD]
+
+Of `keep` (`--sync 1000`) and of `serve`: `get` and `put` of `cell`, plain and by a name under keys, on one connection,
+50 calls at a time. A server that has done 1,000 calls is taken off one that has done N more (2,000). With --before also
+those of an earlier program, and how many times as many there are now. Only rows are counted whose title has WORD. The
+program is the one that ./pathserve runs, or FILE. The folders are made where TMPDIR says; it needs `valgrind`. It is no
+part of the gate.
+"""
+import argparse
+import pathlib
+import re
+import signal
+import socket
+import subprocess
+import tempfile
+
+from bench import keys
+from tools.ready import given_words, program
+
+# So many calls are made before those that are counted, and so many are sent at once.
+FIRST, LOT = 1_000, 50
+# Of each way how it is begun.
+WAYS = {"keep": ["--sync", "1000"], "serve": ["--sessions", "1"]}
+
+
+def lots(call, named, count):
+    """Lines with so many calls, in lots."""
+    for first in range(1, count + 1, LOT):
+        marks = [(f"#{it} " if named else "", str(it)) for it in range(first, first + LOT)]
+        yield "".join(f"call {key}{call.replace('#', number)}\n" for key, number in marks).encode()
+
+
+def talk(port, call, named, count):
+    """Makes so many calls, each of which has to be done."""
+    with socket.create_connection(("127.0.0.1", port)) as wire, wire.makefile("rb") as said:
+        wire.sendall(b"open cell as c1\n" if named else b"open cell\n")
+        said.readline()
+        for lot in lots(call, named, count):
+            wire.sendall(lot)
+            done = 0
+            while done < LOT:
+                line = said.readline()
+                if not line or line.startswith((b"refused", b"no ")):
+                    raise SystemExit(f"a call was not done: {line!r}")
+                done += line.startswith(b"done ")
+
+
+def counted(binary, way, call, named, count):
+    """The instructions of a server from its start to its end."""
+    with tempfile.TemporaryDirectory(prefix="counted-") as made:
+        folder, port = pathlib.Path(made), keys.free_port()
+        (folder / "objects").write_text(keys.CELL, encoding="ascii")
+        (folder / "place").mkdir()
+        words = ["valgrind", "--tool=callgrind", f"--callgrind-out-file={folder / 'counts'}", binary]
+        words += [way, folder / "objects", folder / "place", port, *WAYS[way]]
+        with (folder / "notes").open("wb") as notes:
+            with subprocess.Popen([str(it) for it in words], stdout=subprocess.PIPE, stderr=notes) as ran:
+                try:
+                    if not ran.stdout.readline().startswith(b"listening"):
+                        raise SystemExit(f"{binary} does not serve")
+                    talk(port, call, named, count)
+                    ran.send_signal(signal.SIGTERM)
+                    ran.wait(60)
+                finally:
+                    ran.kill()
+        return int(re.search(rb"Collected : (\d+)", (folder / "notes").read_bytes())[1])
+
+
+def main():
+    words = given_words()
+    parser = argparse.ArgumentParser(usage=__doc__.split("\n\n")[1].removeprefix("usage: "))
+    parser.add_argument("--before")
+    parser.add_argument("--calls", type=int, default=2_000)
+    parser.add_argument("--only", default="")
+    options = parser.parse_args(words)
+    binaries = [*([options.before] if options.before else []), program()]
+    for way in WAYS:
+        for call in ("get", "put #"):
+            for named in (False, True):
+                title = f"{way}: {call.split()[0]}{', by a name under keys' if named else ''}"
+                if options.only not in title:
+                    continue
+                count = lambda calls: [counted(it, way, call, named, FIRST + calls) for it in binaries]
+                found = [(last - first) / options.calls for first, last in zip(count(0), count(options.calls))]
+                ratio = f", {found[1] / found[0]:.3f} times" if options.before else ""
+                print(f"{title}: {' and '.join(f'{it:,.0f}' for it in found)}{ratio}", flush=True)

@@ -1,7 +1,0 @@
--- The small files that were sealed last.
-use Rattle.std.specs.Prelude.{◌≡◌, List, None, All, length}
-use Rattle.ahead_core.specs.declared.sealed.Kept.{Kept}
-
--- room for eight files, none of which is kept
-abbrev pub HasRoom : List Kept → Type 0
-HasRoom files = (length files ≡ 8) × All (λ kept. kept.number ≡ None) files

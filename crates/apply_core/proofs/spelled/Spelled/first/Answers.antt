@@ -1,0 +1,9 @@
+use Rattle.value_core.specs.declared.kind.Kind.TheVariants as kinds
+use Rattle.apply_core.specs.There.{contents_there}
+use Rattle.apply_core.proofs.Holding.{held_as, held_kind, queue_kind}
+use Rattle.apply_core.proofs.spelled.Spelled.first.Goals as goal
+
+pub returns-clause-value : goal.returns-clause-value
+returns-clause-value c =
+    let kind = queue_kind c.self.inside.kind c.args.self.now c.sort.result (held_kind c.self.inside.bytes.items c.self.inside.kind (contents_there c.self.inside.kind c.self.inside.bytes.items) c.args.self.now c.self.invariant c.self.view_is) c.requires c.sort.ensures in
+    c.first.ensures.value c.args.self.now (held_as c.self.inside.bytes.items c.deref.result.now c.self.inside.kind (kinds.Queue c.sort.result) (contents_there c.self.inside.kind c.self.inside.bytes.items) c.args.self.now c.self.invariant c.self.view_is c.deref.ensures.value kind)

@@ -1,0 +1,27 @@
+use Rattle.std.proofs.Common.{refl}
+use Rattle.value_core.specs.declared.kind.Kind.TheVariants as kinds
+use Rattle.value_core.specs.Contents.{kind_of}
+use Rattle.value_core.specs.Meaning.{with_element}
+use Rattle.apply_core.specs.There.{contents_there}
+use Rattle.apply_core.proofs.Holding.{held_as, held_kind, array_kind, fresh, fresh_kind, undone, length_of}
+use Rattle.apply_core.proofs.spelled.Spelled.set.Goals as goal
+
+pub invariant_of-self : goal.invariant_of-self
+invariant_of-self c =
+    let kind = array_kind c.self.inside.kind c.args.self.now c.sort.result (held_kind c.self.inside.bytes.items c.self.inside.kind (contents_there c.self.inside.kind c.self.inside.bytes.items) c.args.self.now c.self.invariant c.self.view_is) c.requires.kind c.sort.ensures in
+    (fresh c.self.inside.kind (kinds.Array (length_of (kind_of c.args.self.now)) c.sort.result) c.in-Ok.bytes.items (with_element c.args.self.now c.args.index c.args.datum.now) kind (c.in-Ok.ensures (length_of (kind_of c.args.self.now)) c.args.self.now (held_as c.self.inside.bytes.items c.deref.result.now c.self.inside.kind (kinds.Array (length_of (kind_of c.args.self.now)) c.sort.result) (contents_there c.self.inside.kind c.self.inside.bytes.items) c.args.self.now c.self.invariant c.self.view_is c.deref.ensures.value kind))).spelled
+
+pub returns-in-Ok-clause-change : goal.returns-in-Ok-clause-change
+returns-in-Ok-clause-change c =
+    let kind = array_kind c.self.inside.kind c.args.self.now c.sort.result (held_kind c.self.inside.bytes.items c.self.inside.kind (contents_there c.self.inside.kind c.self.inside.bytes.items) c.args.self.now c.self.invariant c.self.view_is) c.requires.kind c.sort.ensures in
+    (fresh c.self.inside.kind (kinds.Array (length_of (kind_of c.args.self.now)) c.sort.result) c.in-Ok.bytes.items (with_element c.args.self.now c.args.index c.args.datum.now) kind (c.in-Ok.ensures (length_of (kind_of c.args.self.now)) c.args.self.now (held_as c.self.inside.bytes.items c.deref.result.now c.self.inside.kind (kinds.Array (length_of (kind_of c.args.self.now)) c.sort.result) (contents_there c.self.inside.kind c.self.inside.bytes.items) c.args.self.now c.self.invariant c.self.view_is c.deref.ensures.value kind))).means
+
+pub returns-in-Ok-clause-kind : goal.returns-in-Ok-clause-kind
+returns-in-Ok-clause-kind c =
+    let kind = array_kind c.self.inside.kind c.args.self.now c.sort.result (held_kind c.self.inside.bytes.items c.self.inside.kind (contents_there c.self.inside.kind c.self.inside.bytes.items) c.args.self.now c.self.invariant c.self.view_is) c.requires.kind c.sort.ensures in
+    fresh_kind c.self.inside.kind c.in-Ok.bytes.items (with_element c.args.self.now c.args.index c.args.datum.now) c.args.self.now (fresh c.self.inside.kind (kinds.Array (length_of (kind_of c.args.self.now)) c.sort.result) c.in-Ok.bytes.items (with_element c.args.self.now c.args.index c.args.datum.now) kind (c.in-Ok.ensures (length_of (kind_of c.args.self.now)) c.args.self.now (held_as c.self.inside.bytes.items c.deref.result.now c.self.inside.kind (kinds.Array (length_of (kind_of c.args.self.now)) c.sort.result) (contents_there c.self.inside.kind c.self.inside.bytes.items) c.args.self.now c.self.invariant c.self.view_is c.deref.ensures.value kind))) (held_kind c.self.inside.bytes.items c.self.inside.kind (contents_there c.self.inside.kind c.self.inside.bytes.items) c.args.self.now c.self.invariant c.self.view_is)
+
+pub returns-in-Err-clause-change : goal.returns-in-Err-clause-change
+returns-in-Err-clause-change c =
+    let kind = array_kind c.self.inside.kind c.args.self.now c.sort.result (held_kind c.self.inside.bytes.items c.self.inside.kind (contents_there c.self.inside.kind c.self.inside.bytes.items) c.args.self.now c.self.invariant c.self.view_is) c.requires.kind c.sort.ensures in
+    undone (kinds.Array (length_of (kind_of c.args.self.now)) c.sort.result) c.in-Err.fault (with_element c.args.self.now c.args.index c.args.datum.now) c.args.self.now c.args.self.now (c.in-Err.ensures (length_of (kind_of c.args.self.now)) c.args.self.now (held_as c.self.inside.bytes.items c.deref.result.now c.self.inside.kind (kinds.Array (length_of (kind_of c.args.self.now)) c.sort.result) (contents_there c.self.inside.kind c.self.inside.bytes.items) c.args.self.now c.self.invariant c.self.view_is c.deref.ensures.value kind)) refl

@@ -1,3 +1,0 @@
-pub mod Answers
-pub mod Keyed
-pub mod KeyedLaws

@@ -1,3 +1,0 @@
-pub mod Answers
-pub mod Asker
-pub mod Awaits

@@ -1,5 +1,0 @@
-pub mod Running
-pub mod Naming
-pub mod Refusing
-pub mod Telling
-pub mod Opening

@@ -1,5 +1,0 @@
-use Rattle.call_core.proofs.Left.{new_pins_are_left}
-use Rattle.call_core.proofs.laws.new_pins_are_left.Goals as goal
-
-pub returns : goal.returns
-returns c = new_pins_are_left

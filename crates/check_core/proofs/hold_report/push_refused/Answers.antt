@@ -1,0 +1,7 @@
+use Rattle.check_core.specs.HeldReport.{refused}
+use Rattle.check_core.proofs.hold_report.push_refused.Goals as goal
+
+pub returns-in_ok-push_unseparated-in-Unseparated :
+    goal.returns-in_ok-push_unseparated-in-Unseparated
+returns-in_ok-push_unseparated-in-Unseparated c =
+    (_, c.in_ok-push_unseparated-in-Unseparated.ensures, refused (rw c.in-Unseparated.is at c.requires))

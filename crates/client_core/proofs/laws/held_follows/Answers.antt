@@ -1,0 +1,5 @@
+use Rattle.client_core.proofs.Holding.{held_follows}
+use Rattle.client_core.proofs.laws.held_follows.Goals as goal
+
+pub returns : goal.returns
+returns c = held_follows

@@ -1,6 +1,0 @@
-use Rattle.decl_core.specs.ObjectMap.{object_of}
-use Rattle.exclude_core.specs.Rest.{IsCertified}
-use Rattle.exclude_core.proofs.analyse.certify_row.Given as goal
-
-abbrev pub invariant-loop-second : goal.invariant-loop-second
-invariant-loop-second l = IsCertified (object_of l.object) l.first l.second l.entries.items

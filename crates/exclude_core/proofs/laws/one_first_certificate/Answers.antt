@@ -1,5 +1,0 @@
-use Rattle.exclude_core.proofs.OneCertificate.{one_first_certificate}
-use Rattle.exclude_core.proofs.laws.one_first_certificate.Goals as goal
-
-pub returns : goal.returns
-returns c = one_first_certificate

@@ -1,5 +1,0 @@
-use Rattle.exclude_core.proofs.NeverMeet.{separated_never_meet}
-use Rattle.exclude_core.proofs.laws.separated_never_meet.Goals as goal
-
-pub returns : goal.returns
-returns c = separated_never_meet

@@ -1,5 +1,0 @@
-use Rattle.std.proofs.Common.{length}
-use Rattle.folder_audit.proofs.audit.+audit_objects.Given as goal
-
-abbrev pub decreases-audit_objects : goal.decreases-audit_objects
-decreases-audit_objects g l = length l.objects.now

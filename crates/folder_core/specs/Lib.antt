@@ -1,4 +1,0 @@
-pub mod Numbers
-pub mod Finding
-pub mod Deeds
-pub mod Told

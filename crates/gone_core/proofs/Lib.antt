@@ -1,4 +1,0 @@
-mod Owing
-mod Places
-mod Rows
-mod Starting

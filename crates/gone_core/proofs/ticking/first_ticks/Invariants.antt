@@ -1,7 +1,0 @@
-use Rattle.std.proofs.Common.{◌≡◌, take, map}
-use Rattle.hold_form.specs.HoldMap.{everies_of}
-use Rattle.gone_core.specs.Ticks.{first_tick}
-use Rattle.gone_core.proofs.ticking.first_ticks.Given as goal
-
-abbrev pub invariant-loop-every : goal.invariant-loop-every
-invariant-loop-every l = l.all.items ≡ map first_tick (everies_of (take l.every-index l.everies))

@@ -1,5 +1,0 @@
-pub mod Lines
-pub mod Told
-pub mod Hearing
-pub mod Ears
-pub mod Handing

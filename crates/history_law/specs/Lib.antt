@@ -1,0 +1,16 @@
+pub mod Named
+pub mod Laws
+pub mod CrashLaws
+pub mod SavedLaws
+pub mod Year
+pub mod Read
+pub mod Lives
+pub mod Keys
+pub mod Stands
+pub mod Happens
+pub mod Told
+pub mod Begins
+pub mod WrittenRead
+pub mod Written
+pub mod Held
+pub mod Keyed

@@ -1,0 +1,52 @@
+//! A journal that begins anew, between two epochs.
+
+ghost use Rattle.std.specs.Prelude.{◌≡◌, ◌⊎◌, ◌+◌, ◌<◌, ◌^◌, List, ℕ, length, true, false, IfOk, OnOk};
+ghost use Rattle.decl_core.specs.ObjectForm.{ObjectForm};
+ghost use Rattle.audit_core.specs.Verdicts.{IsLegalTrace};
+ghost use Rattle.post_core.specs.Device.{LeavesOnly};
+ghost use Rattle.post_core.specs.Journal.{recovered, AreLines, Begins};
+ghost use Rattle.post_core.specs.Order.{IsInOrder, Holds};
+ghost use Rattle.history_law.specs.CrashLaws.{TellsParts, IsLeft};
+
+use crate::crash_laws::crash_leaves_legal;
+use post_core::device::{Device, DeviceError};
+use post_core::journal::Journal;
+use std::alloc::Global;
+
+/// Begins the journal of an object anew with this front, and room for so many bytes behind it, as [`Journal::change`] does.
+/// Where the text of before is a legal trace of an object whose parts are stored, a crash at any moment leaves of it a
+/// legal trace, with each end that was stored and no end that was not made; or the front. Where the answer is `false`, the
+/// journal holds what it held, and a crash leaves nothing but such a trace.
+pub fn begin_anew<D: Device>(
+    alloc: Global,
+    journal: &mut Journal<D>,
+    front: &[u8],
+    room: usize,
+) -> Result<bool, DeviceError>
+    requires in_order { IsInOrder D.seen D.may_leave journal.old }
+    requires lines { AreLines front.now }
+    requires small { length front.now + room < 2 ^ 62 }
+
+    ensures in_order { OnOk result (IsInOrder D.seen D.may_leave journal.new) }
+    ensures begun { IfOk result (λ went. went ≡ true → ((stored text : List ℕ) → Holds D.seen journal.old stored text
+        → Holds D.seen journal.new front.now front.now)) }
+    ensures kept { IfOk result (λ went. went ≡ false → ((stored text : List ℕ) → Holds D.seen journal.old stored text
+        → Holds D.seen journal.new stored text)) }
+
+    ensures any_moment { (o : ObjectForm) (opening stored text : List ℕ) (ends : ℕ)
+        → TellsParts o opening → AreLines opening → Begins opening stored → AreLines stored
+        → Holds D.seen journal.old stored text → IsLegalTrace o text ends
+        → LeavesOnly D.moment D.left_since journal.old.device journal.new.device
+        (λ c. IsLeft o stored text ends (recovered c) ⊎ (recovered c ≡ front.now)) }
+
+    ensures any_moment_kept { IfOk result (λ went. went ≡ false → ((o : ObjectForm) (opening stored text : List ℕ) (ends : ℕ)
+        → TellsParts o opening → AreLines opening → Begins opening stored → AreLines stored
+        → Holds D.seen journal.old stored text → IsLegalTrace o text ends
+        → LeavesOnly D.moment D.left_since journal.old.device journal.new.device
+        (λ c. IsLeft o stored text ends (recovered c)))) }
+{
+    // Called for its contract alone.
+    crash_leaves_legal();
+    let went = journal.change(alloc, front, room)?;
+    Ok(went)
+}

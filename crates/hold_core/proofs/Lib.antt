@@ -1,4 +1,0 @@
-pub mod Given
-pub mod Ending
-pub mod Undoing
-pub mod Newest

@@ -1,2 +1,0 @@
-pub mod HoldForm
-pub mod HoldMap

@@ -1,8 +1,0 @@
-use Rattle.std.proofs.Common.{refl}
-use Rattle.decl_core.specs.ObjectMap.{object_of}
-use Rattle.hold_form.specs.HoldMap.{holds_of}
-use Rattle.hold_front.proofs.Reading.{have_none, no_words}
-use Rattle.hold_front.proofs.read.take_held.Goals as goal
-
-pub returns-in-None : goal.returns-in-None
-returns-in-None c = (no_words (object_of c.args.object.now) (holds_of c.args.holds.now) c.args.line.now c.object_has_names.ensures (have_none c.args.line.now c.in_ok-words_of.field-0 c.in_ok-words_of.ensures c.in-None.is), refl)

@@ -1,6 +1,0 @@
-pub mod Ended
-pub mod Keeps
-pub mod Played
-pub mod Older
-pub mod Crashed
-pub mod Newest

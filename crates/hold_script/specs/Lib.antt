@@ -1,4 +1,0 @@
-pub mod Does
-pub mod Asked
-pub mod Writes
-pub mod Run

@@ -1,2 +1,0 @@
-pub mod HeldReports
-pub mod HeldLine

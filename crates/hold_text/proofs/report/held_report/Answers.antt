@@ -1,9 +1,0 @@
-use Rattle.std.proofs.Common.{sym}
-use Rattle.hold_form.specs.HoldMap.{all_rules_of}
-use Rattle.hold_text.proofs.HeldReports.{check_counted}
-use Rattle.hold_text.proofs.report.held_report.Goals as goal
-
-pub returns : goal.returns
-returns c =
-    let r = c.in_ok-report.ensures in
-    check_counted c.args.objects.items (all_rules_of c.args.rules.now) r.0 _ r.1 _ _ r.2 (sym c.requires) r.3 r.4

@@ -1,3 +1,0 @@
-pub mod HoldLines
-pub mod HeldReport
-pub mod HeldTold

@@ -1,0 +1,350 @@
+//! What the objects of a table know, between two turns.
+
+ghost use Rattle.std.specs.Prelude.{◌≡◌, ◌<◌, ◌≤◌, ◌⊎◌, ◌==◌, if◌then◌else◌, length, ◌-◌, IfOk, OnOk, slice_get};
+ghost use Rattle.client_core.specs.People.{people_of, called_in};
+ghost use Rattle.decl_core.specs.ObjectMap.{object_of};
+ghost use Rattle.word_core.specs.Text.{operation_name};
+ghost use Rattle.inside_core.specs.Laws.{sum_of};
+ghost use Rattle.inside_core.specs.Tallies.{ends_of, taken_of};
+ghost use Rattle.custody_core.specs.Views.{custodies_of};
+ghost use Rattle.client_core.specs.Custody.{held_by};
+ghost use Rattle.client_core.specs.ToldInside.{Crowd, sits_in, sitting_from};
+ghost use Rattle.client_core.specs.State.{opened_in, peers_of};
+ghost use Rattle.inside_core.specs.Looks.{waiting_of, told_ends, left_of, wait_in, wait_at, crowd_at, IsLongest, IsTally, AreTallies, Shows};
+ghost use Rattle.inside_core.specs.Looks.{ShowsAt, ShowsAll, IsStatus};
+
+use crate::numbers::{EndCounts, OperationTally, SeenObject};
+use crate::objects::push_objects;
+use crate::tallies::{CallEnds, Tallies};
+use client_core::client::Opened;
+use client_core::clients::Clients;
+use custody_core::all::AllHeld;
+use decl_core::object::Object;
+use hosted_core::hosted::Hosted;
+use live_core::call::Call;
+use live_core::live::Live;
+use std::alloc::{AllocError, Global};
+
+// So many calls an epoch may have, with those of its past.
+const MOST_CALLS: u32 = 65_536;
+
+// 1 where a call is of the operation at a place; else 0.
+fn is_of(call: &Call, operation: usize) -> u64
+    ensures count { result ≡ (if call.now.operation == operation then 1 else 0) }
+    ensures one { result ≤ 1 }
+{
+    if call.operation() as usize == operation {
+        return 1;
+    }
+    0
+}
+
+// How many of these calls are of the operation at a place.
+fn waiting_of(waiting: &[Call], operation: usize) -> u64
+    ensures { result ≡ waiting_of operation waiting.now }
+{
+    let mut count: u64 = 0;
+    for call in waiting {
+        count += is_of(call, operation);
+    }
+    count
+}
+
+// What the one at a place has opened.
+fn opened_at(clients: &Clients, place: usize) -> Option<Opened>
+    ensures { result ≡ opened_in (slice_get (peers_of clients.now) place) }
+{
+    clients.opened(place)
+}
+
+// How many places there are.
+fn count(clients: &Clients) -> usize
+    ensures { result ≡ length (peers_of clients.now) }
+{
+    clients.count()
+}
+
+// 1 where what was opened is the object at a place, by a session; else 0.
+fn sits(opened: Option<Opened>, at: usize) -> usize
+    ensures count { result ≡ length (sits_in at 0 0 opened) }
+    ensures one { result ≤ 1 }
+{
+    match opened {
+        None => 0,
+        Some(opened) => {
+            if opened.object != at {
+                return 0;
+            }
+            if opened.session == 0 {
+                return 0;
+            }
+            1
+        }
+    }
+}
+
+// How many connections have opened the object at a place, by a session.
+fn sessions_of(clients: &Clients, at: usize) -> usize
+    ensures { result ≡ length (sitting_from 0 at 0 (peers_of clients.now)) }
+{
+    let mut sessions: usize = 0;
+    for place in 0..count(clients) {
+        sessions += sits(opened_at(clients, place), at);
+    }
+    sessions
+}
+
+// The second in which the last call of the one at a place was taken.
+fn called_at(clients: &Clients, place: usize) -> u64
+    ensures { result ≡ called_in (slice_get (people_of clients.now) place) }
+{
+    clients.called(place)
+}
+
+// For how many seconds one waits for a call of the object at a place, of which the last call was taken then.
+fn wait_of(opened: Option<Opened>, at: usize, second: u64, called: u64) -> u64
+    ensures { result ≡ wait_in at opened (second - called) }
+{
+    match opened {
+        None => 0,
+        Some(opened) => {
+            if opened.object != at {
+                return 0;
+            }
+            if !opened.waits {
+                return 0;
+            }
+            second.saturating_sub(called)
+        }
+    }
+}
+
+// For how many seconds the one at a place waits for a call of the object at another.
+fn waits_at(clients: &Clients, place: usize, at: usize, second: u64) -> u64
+    ensures { result ≡ wait_at (crowd_at clients.now at second) place }
+{
+    wait_of(
+        opened_at(clients, place),
+        at,
+        second,
+        called_at(clients, place),
+    )
+}
+
+// The greater one of two numbers.
+fn greater(one: u64, other: u64) -> u64
+    ensures one { one ≤ result }
+    ensures other { other ≤ result }
+    ensures which { (result ≡ one) ⊎ (result ≡ other) }
+{
+    if one < other {
+        return other;
+    }
+    one
+}
+
+// For how many seconds the one waits that waits longest for a call of the object at a place.
+fn longest_wait(clients: &Clients, at: usize, second: u64) -> u64
+    ensures { IsLongest (crowd_at clients.now at second) result }
+{
+    let mut longest: u64 = 0;
+    for place in 0..count(clients) {
+        longest = greater(longest, waits_at(clients, place, at, second));
+    }
+    longest
+}
+
+// The name of the operation at a place; no bytes where there is none.
+fn bytes_of(object: &Object, operation: usize) -> &[u8]
+    ensures { result.now ≡ operation_name (object_of object.now) operation }
+{
+    match object.operations.get(operation) {
+        Some(found) => found.name.as_bytes(),
+        None => &[],
+    }
+}
+
+// The name of the operation at a place.
+fn name_of(alloc: Global, object: &Object, operation: usize) -> Result<Vec<u8>, AllocError>
+    ensures { IfOk result (λ name. name.items ≡ operation_name (object_of object.now) operation) }
+{
+    let name = bytes_of(object, operation).to_vec(alloc)?;
+    Ok(name)
+}
+
+// How the calls of the operation at a place ended.
+fn ends_at(ends: &[CallEnds], operation: usize) -> EndCounts
+    ensures { result ≡ told_ends (slice_get ends.now operation) }
+{
+    match ends.get(operation) {
+        Some(ends) => EndCounts {
+            done: ends.done,
+            refused: ends.refused,
+            failed: ends.failed,
+        },
+        None => EndCounts {
+            done: 0,
+            refused: 0,
+            failed: 0,
+        },
+    }
+}
+
+// What is told of the operation at a place.
+fn tally_of(
+    alloc: Global,
+    live: &Live,
+    ends: &[CallEnds],
+    operation: usize,
+) -> Result<OperationTally, AllocError>
+    ensures { IfOk result (λ tally. IsTally live.now ends.now operation tally) }
+{
+    Ok(OperationTally {
+        name: name_of(alloc, live.object(), operation)?,
+        ends: ends_at(ends, operation),
+        running: 0,
+        waiting: waiting_of(live.waiting(), operation),
+    })
+}
+
+// What is told of all operations of an object.
+fn tallies_of(
+    alloc: Global,
+    live: &Live,
+    ends: &[CallEnds],
+) -> Result<Vec<OperationTally>, AllocError>
+    ensures all { IfOk result (λ tallies. AreTallies live.now ends.now 0 tallies.items) }
+    ensures count { IfOk result (λ tallies. length tallies.items ≡ length live.now.object.operations.items) }
+{
+    let mut tallies = Vec::new(alloc);
+    for place in 0..live.object().operations.len() {
+        tallies.push(tally_of(alloc, live, ends, place)?)?;
+    }
+    Ok(tallies)
+}
+
+// How many of so many calls that were taken did not end.
+fn left_by(taken: u64, ends: &[CallEnds]) -> u64
+    ensures { result ≡ taken - sum_of ends.now }
+{
+    match ends {
+        [] => taken,
+        [first, others @ ..] => {
+            let left = taken
+                .saturating_sub(first.done)
+                .saturating_sub(first.refused)
+                .saturating_sub(first.failed);
+            left_by(left, others)
+        }
+    }
+}
+
+// How many of so many calls that were taken neither ended nor wait: they were cancelled.
+fn cancelled_of(taken: u64, ends: &[CallEnds], waiting: usize) -> u64
+    ensures { result ≡ taken - sum_of ends.now - waiting }
+{
+    left_by(taken, ends).saturating_sub(waiting as u64)
+}
+
+// How many numbers of this epoch are taken, with those of its past.
+fn given_of(live: &Live) -> u64
+    ensures { result ≡ 65536 - left_of live.now }
+{
+    u64::from(MOST_CALLS - live.numbers_left())
+}
+
+// How many calls of the object at a place are held.
+fn held_at(custody: &AllHeld, at: usize) -> u64
+    ensures { result ≡ length (held_by (slice_get (custodies_of custody.now) at)) }
+{
+    let (_, held) = custody.held_of(at);
+    held.len() as u64
+}
+
+// What is told of an object, where so many have opened it by a session, for so long one waits, and so many calls are held.
+fn seen_of(
+    alloc: Global,
+    object: &Hosted,
+    tallies: &Tallies,
+    at: usize,
+    sessions: usize,
+    waited: u64,
+    held: u64,
+) -> Result<SeenObject, AllocError>
+    ensures { IfOk result (λ seen. Shows object.now (slice_get tallies.now.objects.items at) sessions waited held
+        seen) }
+{
+    let live = object.live();
+    let ends = tallies.ends(at);
+    Ok(SeenObject {
+        name: object.name().as_bytes().to_vec(alloc)?,
+        sessions: sessions as u64,
+        given: given_of(live),
+        limit: u64::from(MOST_CALLS),
+        cancelled: cancelled_of(tallies.taken(at), ends, live.waiting().len()),
+        waited,
+        held,
+        operations: tallies_of(alloc, live, ends)?,
+    })
+}
+
+// What is told of the object at a place in this second.
+fn seen_at(
+    alloc: Global,
+    objects: &[Hosted],
+    tallies: &Tallies,
+    clients: &Clients,
+    custody: &AllHeld,
+    second: u64,
+    at: usize,
+) -> Result<SeenObject, AllocError>
+    requires { at < length objects.now }
+    ensures { IfOk result (λ seen. ShowsAt objects.now tallies.now.objects.items clients.now (custodies_of custody.now) second at
+        seen) }
+{
+    let sessions = sessions_of(clients, at);
+    let waited = longest_wait(clients, at, second);
+    let held = held_at(custody, at);
+    let seen = seen_of(alloc, &objects[at], tallies, at, sessions, waited, held)?;
+    Ok(seen)
+}
+
+// What is told of all objects in this second.
+fn seen_in(
+    alloc: Global,
+    objects: &[Hosted],
+    tallies: &Tallies,
+    clients: &Clients,
+    custody: &AllHeld,
+    second: u64,
+) -> Result<Vec<SeenObject>, AllocError>
+    ensures all { IfOk result (λ all. ShowsAll objects.now tallies.now.objects.items clients.now (custodies_of custody.now) second 0
+        all.items) }
+    ensures count { IfOk result (λ all. length all.items ≡ length objects.now) }
+{
+    let mut seen = Vec::new(alloc);
+    for at in 0..objects.len() {
+        let one = seen_at(alloc, objects, tallies, clients, custody, second, at)?;
+        seen.push(one)?;
+    }
+    Ok(seen)
+}
+
+/// Puts a status in place of what is in `out`: the text of what is told of all objects, of their connections, of the counts
+/// of their calls and of what is held, in this second. The error is that memory was refused.
+pub fn write_look(
+    alloc: Global,
+    objects: &[Hosted],
+    tallies: &Tallies,
+    clients: &Clients,
+    custody: &AllHeld,
+    second: u64,
+    out: &mut Vec<u8>,
+) -> Result<(), AllocError>
+    ensures { OnOk result (IsStatus objects.now tallies.now.objects.items clients.now (custodies_of custody.now) second out.new.items) }
+{
+    let seen = seen_in(alloc, objects, tallies, clients, custody, second)?;
+    out.clear();
+    push_objects(out, &seen)?;
+    Ok(())
+}

@@ -1,5 +1,0 @@
-use Rattle.std.proofs.Common.{length}
-use Rattle.inside_desk.proofs.answer.+is_needed.Given as goal
-
-abbrev pub decreases-is_needed : goal.decreases-is_needed
-decreases-is_needed l = length l.reasons.now

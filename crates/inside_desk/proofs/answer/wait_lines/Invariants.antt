@@ -1,5 +1,0 @@
-use Rattle.inside_desk.specs.Told.{HasTold}
-use Rattle.inside_desk.proofs.answer.wait_lines.Given as goal
-
-abbrev pub invariant-loop-place : goal.invariant-loop-place
-invariant-loop-place l = HasTold l.desk l.place l.count l.text.items

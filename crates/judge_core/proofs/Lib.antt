@@ -1,9 +1,0 @@
-pub mod Changes
-pub mod DecodedParts
-pub mod Touching
-pub mod Completing
-pub mod Deciding
-pub mod Stopping
-pub mod Wholes
-pub mod Growing
-pub mod Alike

@@ -1,5 +1,0 @@
-use Rattle.judge_core.proofs.Growing.{miss_is_damaged}
-use Rattle.judge_core.proofs.laws.miss_is_damaged.Goals as goal
-
-pub returns : goal.returns
-returns c = miss_is_damaged

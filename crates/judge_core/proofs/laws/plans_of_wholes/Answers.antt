@@ -1,5 +1,0 @@
-use Rattle.judge_core.proofs.Alike.{plans_of_wholes}
-use Rattle.judge_core.proofs.laws.plans_of_wholes.Goals as goal
-
-pub returns : goal.returns
-returns c = plans_of_wholes

@@ -1,0 +1,58 @@
+-- The lines of events.
+use Rattle.std.specs.Prelude.{ℕ, List, [], ◌∷◌, ◌++◌, codes}
+use Rattle.jiff_core.specs.declared.civil.datetime.DateTime.{DateTime}
+use Rattle.keep_log.specs.declared.event.LetGo.{LetGo}
+use Rattle.keep_log.specs.declared.event.LetGo.TheVariants.{Broke, Unwritten, Over}
+use Rattle.keep_log.specs.declared.event.Work.{Work}
+use Rattle.keep_log.specs.declared.event.Work.TheVariants.{Write, Sync, Change}
+use Rattle.keep_log.specs.declared.line.LineForm.{LineForm}
+use Rattle.keep_log.specs.declared.line.Level.TheVariants.{Info, Warn, Error}
+use Rattle.keep_log.specs.Lines.{Field, fields_text, line, line_end}
+use Rattle.keep_log.specs.Lines.Field.{number, word}
+
+abbrev pub starts : LineForm → DateTime → ℕ → List ℕ → List ℕ → List ℕ
+starts form moment objects folder place = line form moment Info (codes "start")
+    (number (codes "objects") objects ∷ word (codes "folder") folder ∷ word (codes "place") place ∷ [])
+
+abbrev pub carries_on : LineForm → DateTime → List ℕ → ℕ → ℕ → List ℕ
+carries_on form moment object bytes lines = line form moment Info (codes "recovered")
+    (word (codes "object") object ∷ number (codes "bytes") bytes ∷ number (codes "lines") lines ∷ [])
+
+abbrev pub begins : LineForm → DateTime → List ℕ → List ℕ
+begins form moment object = line form moment Info (codes "begun") (word (codes "object") object ∷ [])
+
+abbrev pub changes : LineForm → DateTime → List ℕ → ℕ → List ℕ
+changes form moment object bytes = line form moment Info (codes "epoch")
+    (word (codes "object") object ∷ number (codes "bytes") bytes ∷ [])
+
+abbrev pub keeps : LineForm → DateTime → List ℕ → List ℕ
+keeps form moment object = line form moment Warn (codes "no-epoch") (word (codes "object") object ∷ [])
+
+abbrev pub why_word : LetGo → List ℕ
+why_word Broke = codes "broke"
+why_word Unwritten = codes "unwritten"
+why_word Over = codes "over"
+
+abbrev pub work_word : Work → List ℕ
+work_word Write = codes "write"
+work_word Sync = codes "sync"
+work_word Change = codes "change"
+
+-- what failed, and the end of the line
+abbrev pub works : LineForm → Work → List ℕ
+works form work = fields_text form (word (codes "work") (work_word work) ∷ []) ++ line_end form
+
+abbrev pub lets_go : LineForm → DateTime → ℕ → LetGo → List ℕ
+lets_go form moment connection why = line form moment Info (codes "let-go")
+    (number (codes "connection") connection ∷ word (codes "why") (why_word why) ∷ [])
+
+abbrev pub fails : LineForm → DateTime → List ℕ → Work → List ℕ
+fails form moment object work = line form moment Error (codes "journal-failed")
+    (word (codes "object") object ∷ word (codes "work") (work_word work) ∷ [])
+
+abbrev pub lacks : LineForm → DateTime → List ℕ → List ℕ
+lacks form moment path = line form moment Warn (codes "no-status") (word (codes "path") path ∷ [])
+
+abbrev pub ends : LineForm → DateTime → ℕ → ℕ → List ℕ
+ends form moment status seconds = line form moment Info (codes "end")
+    (number (codes "status") status ∷ number (codes "seconds") seconds ∷ [])

@@ -1,3 +1,0 @@
-mod Calls
-pub mod Going
-pub mod Saving

@@ -1,5 +1,0 @@
-use Rattle.kept_law.proofs.Keying.{start_has_keys}
-use Rattle.kept_law.proofs.laws.start_has_keys.Goals as goal
-
-pub returns : goal.returns
-returns c = start_has_keys

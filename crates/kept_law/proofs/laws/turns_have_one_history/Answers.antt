@@ -1,5 +1,0 @@
-use Rattle.kept_law.proofs.Living.{turns_have_one_history}
-use Rattle.kept_law.proofs.laws.turns_have_one_history.Goals as goal
-
-pub returns : goal.returns
-returns c = turns_have_one_history

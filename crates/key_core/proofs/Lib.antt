@@ -1,5 +1,0 @@
-pub mod Items
-pub mod Keys
-pub mod Resumed
-pub mod Indexing
-pub mod Sending

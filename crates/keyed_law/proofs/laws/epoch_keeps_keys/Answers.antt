@@ -1,5 +1,0 @@
-use Rattle.keyed_law.proofs.Keeping.{epoch_keeps_keys}
-use Rattle.keyed_law.proofs.laws.epoch_keeps_keys.Goals as goal
-
-pub returns : goal.returns
-returns c = epoch_keeps_keys

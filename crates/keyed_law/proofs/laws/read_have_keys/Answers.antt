@@ -1,5 +1,0 @@
-use Rattle.keyed_law.proofs.Keeping.{read_have_keys}
-use Rattle.keyed_law.proofs.laws.read_have_keys.Goals as goal
-
-pub returns : goal.returns
-returns c = read_have_keys

@@ -1,5 +1,0 @@
-use Rattle.keyed_law.proofs.Keeping.{steps_keep_keys}
-use Rattle.keyed_law.proofs.laws.steps_keep_keys.Goals as goal
-
-pub returns : goal.returns
-returns c = steps_keep_keys

@@ -1,9 +1,0 @@
-pub mod Beginning
-pub mod Ending
-pub mod Keeping
-pub mod Lists
-pub mod Reading
-pub mod Rows
-pub mod Sorted
-pub mod Starting
-pub mod Turning

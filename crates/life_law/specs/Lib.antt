@@ -1,4 +1,0 @@
-pub mod Ends
-pub mod Keeps
-pub mod Lives
-pub mod Rows

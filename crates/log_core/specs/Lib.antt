@@ -1,3 +1,0 @@
-pub mod Moment
-pub mod Lines
-pub mod Events

@@ -1,3 +1,0 @@
-pub mod Clear
-pub mod Placed
-pub mod Objects

@@ -1,5 +1,0 @@
-use Rattle.named_law.proofs.Objects.{read_are_named}
-use Rattle.named_law.proofs.laws.read_are_named.Goals as goal
-
-pub returns : goal.returns
-returns c = read_are_named

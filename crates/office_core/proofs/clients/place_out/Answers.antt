@@ -1,0 +1,10 @@
+use Rattle.std.proofs.Common.{Some, sym, ap, ◌∙◌}
+use Rattle.std.proofs.lemmas.Option.{slice_get-get_or}
+use Rattle.office_core.proofs.clients.place_out.Goals as goal
+
+pub returns-then-is_out-clause-some : goal.returns-then-is_out-clause-some
+returns-then-is_out-clause-some c = (
+  c.index-clients-place.result,
+  slice_get-get_or c.args.clients.now c.loop-place.place c.index-clients-place.result c.loop-place-test.true ∙ ap Some (sym c.index-clients-place.is),
+  c.is_out.ensures.0 c.if-is_out.true,
+)

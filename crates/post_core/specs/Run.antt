@@ -1,0 +1,29 @@
+-- Whole runs of a journal.
+use Rattle.std.specs.Prelude.{ℕ, List, [], ◌∷◌, ◌++◌, Option}
+use Rattle.post_core.specs.Journal.{AreLines, Begins}
+use Rattle.post_core.specs.Order.{Holds}
+use Rattle.post_core.specs.declared.journal.Journal.{Journal}
+use Rattle.post_core.specs.declared.run.Step.{Step}
+use Rattle.post_core.specs.declared.run.Step.TheVariants.{Lines, Sync}
+
+-- what a step adds
+abbrev pub added_by : Step → List ℕ
+added_by (Lines lines) = lines.items
+added_by Sync = []
+
+-- what these steps add
+abbrev pub added : List Step → List ℕ
+added [] = []
+added (step ∷ steps) = added_by step ++ added steps
+
+-- each step adds lines
+abbrev pub AreSteps : List Step → Type 0
+AreSteps [] = Unit {0}
+AreSteps (step ∷ steps) = AreLines (added_by step) × AreSteps steps
+
+-- the journal holds these lines, and at least these first ones are stored
+pub record HoldsAtLeast {D : Type 0} (seen : D → Option (List ℕ)) (journal : Journal D)
+    (stored lines : List ℕ) : Type 0 where
+  pub now_stored : List ℕ
+  pub front : Begins stored now_stored
+  pub holds : Holds seen journal now_stored lines

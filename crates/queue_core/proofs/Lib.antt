@@ -1,4 +1,0 @@
-pub mod Fronts
-pub mod Queueing
-pub mod Rows
-pub mod Sending

@@ -1,3 +1,0 @@
-pub mod Open
-pub mod Starts
-pub mod Queue

@@ -1,0 +1,275 @@
+//! What was held at the end of a journal.
+
+ghost use Rattle.std.specs.Prelude.{◌≡◌, ◌<◌, ◌^◌, ◌++◌, ◌∷◌, ℕ, List, true, IfOk, IfSome, OnOk, drop};
+ghost use Rattle.decl_core.specs.ObjectMap.{object_of};
+ghost use Rattle.word_core.specs.Events.{Happened, ended as ended_by};
+ghost use Rattle.audit_core.specs.View.{told_view};
+ghost use Rattle.live_core.specs.Front.{opening_of};
+ghost use Rattle.audit_core.specs.Carried.{carried_calls};
+ghost use Rattle.audit_core.specs.EpochStands.{IsNote, Stands};
+ghost use Rattle.audit_core.specs.Steps.{Begun, Heard, nothing_heard};
+ghost use Rattle.audit_core.specs.EpochTells.{Tells};
+ghost use Rattle.recover_core.specs.Carried.{calls_of, told_by};
+ghost use Rattle.recover_core.specs.Playing.{begun_by};
+ghost use Rattle.decl_core.specs.HoldMap.{holds_of};
+ghost use Rattle.guest_core.specs.Held.{AreHeld};
+ghost use Rattle.recover_core.specs.HeldPlay.{HaveNumbers, HeldOn, PlaysLines, told_as};
+
+use crate::text::{HeldFront, from, split_line};
+use apply_core::reply::Reply;
+use apply_core::slim::Slims;
+use audit_core::carried::Carried;
+use audit_core::epoch_replay::{Known, Note, Replay};
+use audit_core::told::ToldReply;
+use decl_core::hold::Hold;
+use decl_core::object::Object;
+use guest_core::held::{EndedCall, Holds};
+use live_core::front::{CarriedCall, Front};
+use live_core::past::events_of;
+use std::alloc::{AllocError, Global};
+use value_core::datum::Datum;
+
+// A waiting call, for a replay.
+fn carried_from(alloc: Global, call: &CarriedCall) -> Result<Carried, AllocError>
+    ensures { IfOk result (λ c. (c.number ≡ call.now.number) × (c.session ≡ call.now.session)
+        × (c.operation ≡ call.now.operation) × (c.arguments ≡ call.now.arguments)) }
+{
+    let arguments = call.arguments.list(alloc)?;
+    let arguments = Slims::new(alloc, &arguments)?;
+    Ok(Carried {
+        number: call.number,
+        session: call.session,
+        operation: call.operation,
+        arguments,
+    })
+}
+
+// Waiting calls, for a replay.
+fn carried_of(alloc: Global, calls: &[CarriedCall]) -> Result<Vec<Carried>, AllocError>
+    ensures { IfOk result (λ v. carried_calls v.items ≡ calls_of calls.now) }
+{
+    let mut all = Vec::new(alloc);
+    let mut rest = calls;
+    'calls: while let Some((call, more)) = rest.split_first() {
+        all.push(carried_from(alloc, call)?)?;
+        rest = more;
+    }
+    Ok(all)
+}
+
+// The number that the client of a call was told. `None`: it has more than 64 bits.
+fn told_of(base: u64, carried: &[CarriedCall], number: u32) -> Option<u64>
+    ensures { IfSome result (λ told. told ≡ told_by base carried.now number) }
+{
+    match carried.get((number as usize).saturating_sub(1)) {
+        Some(call) => Some(call.told),
+        None => base.checked_add(u64::from(number)),
+    }
+}
+
+// The reply that a line told.
+fn reply_of(told: &ToldReply) -> Reply
+    ensures { result ≡ told_view told.now }
+{
+    match told {
+        ToldReply::Nothing => Reply::Done(None),
+        ToldReply::Integer(number) => Reply::Done(Some(Datum::Integer(*number))),
+        ToldReply::Other(reply) => **reply,
+    }
+}
+
+// A call ran, of which this number was told.
+#[tactic(auto, using(crate::proofs::HoldPlaying::held_behind))]
+fn end_call(
+    alloc: Global,
+    holds: &[Hold],
+    all: &mut Holds,
+    told: u64,
+    known: &Known,
+    reply: &ToldReply,
+) -> Result<(), AllocError>
+    ensures held { OnOk result ((past : List Happened) → AreHeld (holds_of holds.now) past all.old →
+        AreHeld (holds_of holds.now) (ended_by (told_as told known.now) (told_view reply.now) ∷ past) all.new) }
+    ensures small { told < 2 ^ 64 }
+{
+    let reply = reply_of(reply);
+    all.end(
+        alloc,
+        holds,
+        EndedCall {
+            number: told,
+            session: known.call.session,
+            operation: known.call.operation,
+            arguments: &known.call.arguments,
+        },
+        &reply,
+    )?;
+    Ok(())
+}
+
+// A call ran. False: the number that its client was told has more than 64 bits.
+fn end_known(
+    alloc: Global,
+    holds: &[Hold],
+    all: &mut Holds,
+    base: u64,
+    carried: &[CarriedCall],
+    known: &Known,
+    reply: &ToldReply,
+) -> Result<bool, AllocError>
+    ensures held { IfOk result (λ fits. fits ≡ true → (past : List Happened) → AreHeld (holds_of holds.now) past all.old →
+        AreHeld (holds_of holds.now) (ended_by (told_as (told_by base carried.now known.now.number) known.now)
+        (told_view reply.now) ∷ past) all.new) }
+    ensures small { IfOk result (λ fits. fits ≡ true → told_by base carried.now known.now.number < 2 ^ 64) }
+{
+    match told_of(base, carried, known.number) {
+        None => Ok(false),
+        Some(told) => {
+            end_call(alloc, holds, all, told, known, reply)?;
+            Ok(true)
+        }
+    }
+}
+
+// What a line told is taken. False: a number has more than 64 bits.
+fn take_note(
+    alloc: Global,
+    holds: &[Hold],
+    all: &mut Holds,
+    base: u64,
+    carried: &[CarriedCall],
+    note: &Note,
+) -> Result<bool, AllocError>
+    ensures held { IfOk result (λ fits. fits ≡ true → (heard after : Heard) → IsNote heard note.now after →
+        HeldOn (holds_of holds.now) base carried.now heard.steps after.steps all.old all.new) }
+    ensures small { IfOk result (λ fits. fits ≡ true → (heard after : Heard) → IsNote heard note.now after →
+        HaveNumbers base carried.now heard.steps → HaveNumbers base carried.now after.steps) }
+{
+    match note {
+        Note::Began => Ok(true),
+        Note::Ran(known, reply) => {
+            let fits = end_known(alloc, holds, all, base, carried, known, reply)?;
+            Ok(fits)
+        }
+        Note::Cancelled(_) => Ok(true),
+        Note::Named(_, _) => Ok(true),
+    }
+}
+
+// Plays a line. False: it has a fault, or a number has more than 64 bits.
+fn play_line(
+    alloc: Global,
+    object: &Object,
+    holds: &[Hold],
+    replay: &mut Replay,
+    all: &mut Holds,
+    base: u64,
+    carried: &[CarriedCall],
+    line: &[u8],
+) -> Result<bool, AllocError>
+    ensures { IfOk result (λ fits. fits ≡ true → (e : Begun) (heard : Heard) →
+        Stands (object_of object.now) e replay.old heard →
+        (after : Heard) × Tells (object_of object.now) e heard line.now after
+        × Stands (object_of object.now) e replay.new after
+        × HeldOn (holds_of holds.now) base carried.now heard.steps after.steps all.old all.new
+        × (HaveNumbers base carried.now heard.steps → HaveNumbers base carried.now after.steps)) }
+{
+    match replay.hear(object, line)? {
+        Err(_) => Ok(false),
+        Ok(note) => {
+            let fits = take_note(alloc, holds, all, base, carried, &note)?;
+            Ok(fits)
+        }
+    }
+}
+
+// Plays all lines. False: one has a fault.
+fn play_lines(
+    alloc: Global,
+    object: &Object,
+    holds: &[Hold],
+    replay: &mut Replay,
+    all: &mut Holds,
+    base: u64,
+    carried: &[CarriedCall],
+    behind: &[u8],
+) -> Result<bool, AllocError>
+    ensures { IfOk result (λ fits. fits ≡ true → (e : Begun) →
+        Stands (object_of object.now) e replay.old nothing_heard →
+        PlaysLines (object_of object.now) (holds_of holds.now) e base carried.now behind.now all.old all.new) }
+{
+    let mut rest = behind;
+    'lines: while let Some((line, more)) = split_line(rest) {
+        if !play_line(alloc, object, holds, replay, all, base, carried, line)? {
+            return Ok(false);
+        }
+        rest = more;
+    }
+    Ok(true)
+}
+
+// Plays the lines behind a front. False: they are not those of an epoch that it begins.
+fn play_behind(
+    alloc: Global,
+    object: &Object,
+    holds: &[Hold],
+    opening: Front,
+    all: &mut Holds,
+    behind: &[u8],
+) -> Result<bool, AllocError>
+    ensures { IfOk result (λ fits. fits ≡ true → PlaysLines (object_of object.now) (holds_of holds.now)
+        (begun_by (opening_of opening)) opening.base opening.carried.items behind.now all.old all.new) }
+{
+    let Front {
+        parts,
+        past,
+        base,
+        carried,
+        ..
+    } = opening;
+    let past = events_of(alloc, &past)?;
+    let calls = carried_of(alloc, &carried)?;
+    match Replay::behind(alloc, object, past, parts, calls)? {
+        None => Ok(false),
+        Some(mut replay) => {
+            let fits = play_lines(
+                alloc,
+                object,
+                holds,
+                &mut replay,
+                all,
+                base,
+                &carried,
+                behind,
+            )?;
+            Ok(fits)
+        }
+    }
+}
+
+/// What is held behind a journal of this front: what was held when its epoch began, and what the calls have left that
+/// ended since, in their order. `None`: the lines behind the front are not those of an epoch that it begins, as
+/// `recover_core` tells. The error is that memory was refused.
+pub fn play_held(
+    alloc: Global,
+    object: &Object,
+    holds: &[Hold],
+    read: HeldFront,
+    text: &[u8],
+) -> Result<Option<Holds>, AllocError>
+    ensures { IfOk result (λ found. IfSome found (λ all. PlaysLines (object_of object.now) (holds_of holds.now)
+        (begun_by (opening_of read.opening)) read.opening.base read.opening.carried.items (drop read.behind text.now)
+        read.held all)) }
+{
+    let HeldFront {
+        opening,
+        held,
+        behind,
+        ..
+    } = read;
+    let mut all = held;
+    if play_behind(alloc, object, holds, opening, &mut all, from(text, behind))? {
+        return Ok(Some(all));
+    }
+    Ok(None)
+}

@@ -1,7 +1,0 @@
-use Rattle.std.proofs.Common.{◌≡◌, sym, subst}
-use Rattle.journal_core.specs.Journal.{whole}
-use Rattle.journal_core.proofs.Lines.{recovered_lines}
-use Rattle.recover_text.proofs.recover.whole.Goals as goal
-
-pub returns-clause-ended : goal.returns-clause-ended
-returns-clause-ended c = subst (λ t. whole t ≡ t) (sym c.recovered_len.ensures.lines) (recovered_lines c.args.file.now).ended

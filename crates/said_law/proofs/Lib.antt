@@ -1,4 +1,0 @@
-pub mod Plain
-pub mod Going
-pub mod Doing
-pub mod Turning

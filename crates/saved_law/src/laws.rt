@@ -1,9 +1,0 @@
-//! A law of the traces that are saved, over the definitions alone.
-
-ghost use Rattle.saved_law.specs.Laws.{SavedTraceIsLegal};
-
-/// The text of the trace of an object that is closed is a legal trace with as many ends as its history has entries, where
-/// each slip that its sessions left is true, and the pins at its opening were sealed with its opening values.
-pub fn saved_trace_is_legal()
-    ensures { SavedTraceIsLegal }
-{}

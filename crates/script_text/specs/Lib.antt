@@ -1,6 +1,0 @@
-pub mod Identifier
-pub mod Said
-pub mod View
-pub mod First
-pub mod Answers
-pub mod Laws

@@ -1,8 +1,0 @@
-//! Laws of the lines of scripts, over the definitions alone.
-
-ghost use Rattle.script_text.specs.Laws.{SaidExact};
-
-/// Words say what they tell, and nothing else.
-pub fn said_exact()
-    ensures { SaidExact }
-{}

@@ -1,2 +1,0 @@
-pub mod Parked
-pub mod Naming

@@ -1,9 +1,0 @@
--- Seats that are parked, and others.
-use Rattle.std.proofs.Common.{◌≡◌, ℕ, ◌+◌, List, [], ◌∷◌, ◌++◌, refl, sym, ◌∙◌, ap, arith}
-use Rattle.seat_core.specs.declared.seat.Seat.{Seat}
-use Rattle.seat_core.specs.Seats.{times}
-
--- seats are counted one list after the other
-pub times_append : (session : ℕ) (xs ys : List Seat) → times session (xs ++ ys) ≡ times session xs + times session ys
-times_append session [] ys = omega arith
-times_append session (x ∷ xs) ys = omega (arith, times_append session xs ys)

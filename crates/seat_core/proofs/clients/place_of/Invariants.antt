@@ -1,7 +1,0 @@
-use Rattle.std.proofs.Common.{◌≢◌, take}
-use Rattle.board_core.specs.Lists.{Every}
-use Rattle.seat_core.specs.declared.clients.Client.{Client}
-use Rattle.seat_core.proofs.clients.place_of.Given as goal
-
-abbrev pub invariant-loop-place : goal.invariant-loop-place
-invariant-loop-place l = Every (λ (c : Client). c.name ≢ l.name) (take l.place l.clients)

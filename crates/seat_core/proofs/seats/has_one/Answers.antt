@@ -1,9 +1,0 @@
-use Rattle.std.proofs.Common.{rules, arith, sym, ap, ◌∙◌}
-use Rattle.seat_core.specs.Clients.{parked_of}
-use Rattle.seat_core.proofs.Parked.{times_append}
-use Rattle.seat_core.proofs.seats.has_one.Goals as goal
-
-pub returns : goal.returns
-returns c =
-    let all = times_append c.args.session (parked_of c.args.clients.now) c.args.seats.now in
-    grind (arith, all)

@@ -1,9 +1,0 @@
-pub mod Lists
-pub mod Rows
-pub mod Order
-pub mod Places
-pub mod Taking
-pub mod Wholes
-pub mod PlansWhole
-pub mod Told
-pub mod Into

@@ -1,0 +1,328 @@
+//! The lines of a session that are held back.
+
+ghost use Rattle.std.specs.Prelude.{◌≡◌, [], ℕ, List, false};
+ghost use Rattle.std.specs.Bool.{OnFalse};
+ghost use Rattle.session_text.specs.Answers.{opened, ended, repeated, told};
+ghost use Rattle.session_core.specs.declared.note.Note.{Note};
+ghost use Rattle.session_core.specs.Repeats.{WasNoted};
+ghost use Rattle.session_core.specs.Written.{IsHeld, IsSilent, Adds, HandsOver};
+
+use crate::note::{Note, add_note};
+use crate::room::make_room_for;
+use crate::stage::{Stage, behind, behind_free, behind_last};
+use apply_core::reply::Reply;
+use path_tree::name::Name;
+use session_text::line::{Line, push_ended, push_line, push_opened, push_repeated};
+use std::alloc::Global;
+use std::marker::Model;
+use std::mem;
+use text_core::limits::MOST_TEXT_BYTES;
+
+/// Room for the longest line that is written of a call, in bytes, twice over.
+const LINE_ROOM: usize = 4096;
+
+/// Lines that are held back, whole and each in its turn, and the notes of the last lines of calls among them.
+#[derive(Drop)]
+pub struct Held {
+    text: Vec<u8>,
+    notes: Vec<Note>,
+    line: Vec<u8>,
+    // memory for the reply of a note
+    spare: Vec<u8>,
+    alloc: Global,
+    // where the lines before them had come to, and where these have
+    first: Stage,
+    at: Stage,
+    // Whether a line was lost, for which there was no memory. No more are begun then.
+    lost: bool,
+    // Whether a line was not taken, since it may not stand where it was said. No more are begun then.
+    mixed: bool,
+}
+
+impl Model for Held {
+    ghost use Rattle.std.specs.Prelude.{ℕ, List, Bool};
+    ghost use Rattle.session_core.specs.declared.note.Note.{Note};
+    ghost use Rattle.session_core.specs.declared.stage.Stage.{Stage};
+    ghost use Rattle.session_core.specs.Written.{IsHeld};
+
+    ghost Value = { List ℕ × List Note × Stage × Stage × Bool × Bool };
+
+    ghost view = { λ h. (h.text.items, h.notes.items, h.first, h.at, h.lost, h.mixed) };
+
+    ghost invariant = { λ h. IsHeld h.text.items h.notes.items h.first h.at };
+}
+
+// Holds a line back.
+fn add_line(held: &mut Vec<u8>, text: &mut Vec<u8>, line: Line) -> bool
+    ensures { (notes : List Note) → Adds held.old.items held.new.items notes notes (told line) result }
+{
+    text.clear();
+    if push_line(text, line).is_err() {
+        return false;
+    }
+    held.extend_from_slice(text.as_slice()).is_ok()
+}
+
+// Holds `opened NAME` back, with the next key where one is told.
+fn add_opened(held: &mut Vec<u8>, text: &mut Vec<u8>, name: &Name, next: Option<u32>) -> bool
+    ensures { (notes : List Note) → Adds held.old.items held.new.items notes notes (opened name.now next) result }
+{
+    text.clear();
+    if push_opened(text, name, next).is_err() {
+        return false;
+    }
+    held.extend_from_slice(text.as_slice()).is_ok()
+}
+
+// Holds the last line of a call back that was made before. It is not noted: its receipt is of another session, or of
+// this one at its time.
+fn add_repeated(held: &mut Vec<u8>, text: &mut Vec<u8>, number: u32, reply: &Reply) -> bool
+    ensures { (notes : List Note) → Adds held.old.items held.new.items notes notes (repeated number reply.now) result }
+{
+    text.clear();
+    if push_repeated(text, number, reply).is_err() {
+        return false;
+    }
+    held.extend_from_slice(text.as_slice()).is_ok()
+}
+
+// How a call ended.
+#[derive(Clone, Copy)]
+struct Ended<'a> {
+    number: u32,
+    reply: &'a Reply,
+}
+
+// Holds the last line of a call that has a receipt back, and notes it.
+fn add_ended(
+    alloc: Global,
+    held: &mut Vec<u8>,
+    text: &mut Vec<u8>,
+    notes: &mut Vec<Note>,
+    spare: &mut Vec<u8>,
+    call: Ended<'_>,
+) -> bool
+    ensures { Adds held.old.items held.new.items notes.old.items notes.new.items
+        (ended call.entry.number call.entry.reply.now) result }
+{
+    let Ended { number, reply } = call;
+    text.clear();
+    if push_ended(text, number, reply).is_err() {
+        return false;
+    }
+    let before = held.len();
+    if held.extend_from_slice(text.as_slice()).is_err() {
+        return false;
+    }
+    if add_note(alloc, notes, spare, number, reply).is_err() {
+        held.truncate(before);
+        return false;
+    }
+    true
+}
+
+// Makes room for the reply of a note, where there is none. Without memory it answers false.
+fn make_spare(spare: &mut Vec<u8>) -> bool {
+    spare.reserve_exact(MOST_TEXT_BYTES).is_ok()
+}
+
+// Hands lines and their notes over.
+fn hand_over(
+    text: &mut Vec<u8>,
+    notes: &mut Vec<Note>,
+    to: &mut Vec<u8>,
+    noted: &mut Vec<Note>,
+) -> bool
+    requires { to.old.items ≡ [] }
+    ensures { HandsOver text.old.items text.new.items notes.old.items notes.new.items to.new.items noted.old.items
+        noted.new.items result }
+{
+    if noted.append(notes).is_err() {
+        return false;
+    }
+    mem::swap(text, to);
+    true
+}
+
+impl Held {
+    /// Nothing is held back yet.
+    pub fn new(alloc: Global) -> Held
+        ensures { result ≡ ([], [], Stage.Free, Stage.Free, false, false) }
+    {
+        Held {
+            text: Vec::new(alloc),
+            notes: Vec::new(alloc),
+            line: Vec::new(alloc),
+            spare: Vec::new(alloc),
+            alloc,
+            first: Stage::Free,
+            at: Stage::Free,
+            lost: false,
+            mixed: false,
+        }
+    }
+
+    /// Makes room for the lines of one call and for its note. Without memory it answers false.
+    pub fn make_room(&mut self) -> bool
+        ensures { self.new ≡ self.old }
+    {
+        if self.text.reserve(LINE_ROOM).is_err() {
+            return false;
+        }
+        if self.line.reserve(LINE_ROOM).is_err() {
+            return false;
+        }
+        if !make_spare(&mut self.spare) {
+            return false;
+        }
+        make_room_for(&mut self.notes, 1)
+    }
+
+    /// How many notes there are.
+    pub fn count(&self) -> usize {
+        self.notes.len()
+    }
+
+    /// Whether a line was lost, for which there was no memory.
+    pub fn is_lost(&self) -> bool
+        ensures { result ≡ self.now.4 }
+    {
+        self.lost
+    }
+
+    /// Whether a line was not taken, since it may not stand where it was said.
+    pub fn is_mixed(&self) -> bool
+        ensures { result ≡ self.now.5 }
+    {
+        self.mixed
+    }
+
+    /// Whether each line that was said was held back.
+    pub fn is_whole(&self) -> bool
+        ensures { OnFalse result (IsSilent self.now.4 self.now.5) }
+    {
+        !self.lost && !self.mixed
+    }
+
+    /// Where the lines before those that are held back had come to.
+    pub fn first(&self) -> Stage
+        ensures { result ≡ self.now.2 }
+    {
+        self.first
+    }
+
+    /// Where the lines that are held back have come to.
+    pub fn at(&self) -> Stage
+        ensures { result ≡ self.now.3 }
+    {
+        self.at
+    }
+
+    /// Holds a line back, unless it may not stand here, or a line before it was not held back. It answers whether it
+    /// did.
+    pub fn say(&mut self, line: Line) -> bool
+        ensures silent { OnFalse result (IsSilent self.new.4 self.new.5) }
+        ensures added { Adds self.old.0 self.new.0 self.old.1 self.new.1 (told line) result }
+    {
+        if !self.is_whole() {
+            return false;
+        }
+        let Some(to) = behind(self.at, line) else {
+            self.mixed = true;
+            return false;
+        };
+        if !add_line(&mut self.text, &mut self.line, line) {
+            self.lost = true;
+            return false;
+        }
+        self.at = to;
+        true
+    }
+
+    /// Holds back the last line of a call that has a receipt, and notes it, unless that call is not open, or a line
+    /// before it was not held back. It answers whether it did.
+    pub fn say_ended(&mut self, number: u32, reply: &Reply) -> bool
+        ensures silent { OnFalse result (IsSilent self.new.4 self.new.5) }
+        ensures added { Adds self.old.0 self.new.0 self.old.1 self.new.1 (ended number reply.now) result }
+    {
+        if !self.is_whole() {
+            return false;
+        }
+        let Some(to) = behind_last(self.at, number) else {
+            self.mixed = true;
+            return false;
+        };
+        if !add_ended(
+            self.alloc,
+            &mut self.text,
+            &mut self.line,
+            &mut self.notes,
+            &mut self.spare,
+            Ended { number, reply },
+        ) {
+            self.lost = true;
+            return false;
+        }
+        self.at = to;
+        true
+    }
+
+    /// Holds back the last line of a call that was made before, unless a call is open, or a line before it was not held
+    /// back. It answers whether it did. It is not noted. Only what stands in a history is told so.
+    pub fn say_repeated(&mut self, number: u32, reply: &Reply) -> bool
+        requires { WasNoted number reply.now }
+        ensures silent { OnFalse result (IsSilent self.new.4 self.new.5) }
+        ensures added { Adds self.old.0 self.new.0 self.old.1 self.new.1 (repeated number reply.now) result }
+    {
+        if !self.is_whole() {
+            return false;
+        }
+        let Some(to) = behind_free(self.at) else {
+            self.mixed = true;
+            return false;
+        };
+        if !add_repeated(&mut self.text, &mut self.line, number, reply) {
+            self.lost = true;
+            return false;
+        }
+        self.at = to;
+        true
+    }
+
+    /// Holds back `opened NAME`, with the next key where one is told, unless a call is open, or a line before it was not
+    /// held back. It answers whether it did.
+    pub fn say_opened(&mut self, name: &Name, next: Option<u32>) -> bool
+        ensures silent { OnFalse result (IsSilent self.new.4 self.new.5) }
+        ensures added { Adds self.old.0 self.new.0 self.old.1 self.new.1 (opened name.now next) result }
+    {
+        if !self.is_whole() {
+            return false;
+        }
+        let Some(to) = behind_free(self.at) else {
+            self.mixed = true;
+            return false;
+        };
+        if !add_opened(&mut self.text, &mut self.line, name, next) {
+            self.lost = true;
+            return false;
+        }
+        self.at = to;
+        true
+    }
+
+    /// Hands all lines over to `to`, in which there is none, and adds their notes to `noted`. Without memory for the
+    /// notes it answers false, and hands nothing over.
+    pub fn hand_over(&mut self, to: &mut Vec<u8>, noted: &mut Vec<Note>) -> bool
+        requires { to.old.items ≡ [] }
+        ensures over { HandsOver self.old.0 self.new.0 self.old.1 self.new.1 to.new.items noted.old.items
+            noted.new.items result }
+        ensures held { IsHeld self.old.0 self.old.1 self.old.2 self.old.3 }
+        ensures empty { to.old.items ≡ [] }
+    {
+        if !hand_over(&mut self.text, &mut self.notes, to, noted) {
+            return false;
+        }
+        self.first = self.at;
+        true
+    }
+}

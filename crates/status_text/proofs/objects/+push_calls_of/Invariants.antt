@@ -1,5 +1,0 @@
-use Rattle.std.proofs.Common.{length}
-use Rattle.status_text.proofs.objects.+push_calls_of.Given as goal
-
-abbrev pub decreases-push_calls_of : goal.decreases-push_calls_of
-decreases-push_calls_of l = length l.objects.now

@@ -1,5 +1,0 @@
-use Rattle.std.proofs.Common.{length}
-use Rattle.status_text.proofs.objects.+push_each.Given as goal
-
-abbrev pub decreases-push_each : goal.decreases-push_each
-decreases-push_each l = length l.objects.now

@@ -1,5 +1,0 @@
-use Rattle.std.proofs.Common.{length}
-use Rattle.status_text.proofs.objects.+push_now_of.Given as goal
-
-abbrev pub decreases-push_now_of : goal.decreases-push_now_of
-decreases-push_now_of l = length l.objects.now

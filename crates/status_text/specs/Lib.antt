@@ -1,3 +1,0 @@
-pub mod Metrics
-pub mod Server
-pub mod Objects

@@ -1,4 +1,0 @@
-pub mod Lengths
-pub mod Opening
-pub mod Paging
-pub mod Saving

@@ -1,4 +1,0 @@
-pub mod Laws
-pub mod Opened
-pub mod Pages
-pub mod Saved

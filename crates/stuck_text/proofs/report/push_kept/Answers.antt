@@ -1,6 +1,0 @@
-use Rattle.stuck_text.proofs.Said.{kept_said}
-use Rattle.stuck_text.proofs.report.push_kept.Goals as goal
-
-pub returns : goal.returns
-returns c =
-    kept_said c.object.result.now c.args.accepted.now c.args.out.now.items c.push_accepted.new.out.items c.push_told.new.out.items c.in_ok-lost.lost c.object.ensures.same c.in_ok-push_accepted.ensures c.in_ok-lost.ensures

@@ -1,7 +1,0 @@
-use Rattle.stuck_text.specs.StuckReport.{refused}
-use Rattle.stuck_text.proofs.report.push_refused.Goals as goal
-
-pub returns-in_ok-push_unseparated-in-Unseparated :
-    goal.returns-in_ok-push_unseparated-in-Unseparated
-returns-in_ok-push_unseparated-in-Unseparated c =
-    (_, c.in_ok-push_unseparated-in-Unseparated.ensures, refused (rw c.in-Unseparated.is at c.requires))

@@ -1,6 +1,0 @@
-use Rattle.std.specs.Map.{values_of}
-use Rattle.stuck_text.proofs.Said.{Told}
-use Rattle.stuck_text.proofs.report.report_objects.Given as goal
-
-abbrev pub invariant-loop-object : goal.invariant-loop-object
-invariant-loop-object l = Told (values_of l.fn.all.entries) l.object-iterator l.refused l.lost l.text.items

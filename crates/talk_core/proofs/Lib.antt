@@ -1,4 +1,0 @@
-pub mod Dialogues
-pub mod Saying
-pub mod Truths
-pub mod Turns

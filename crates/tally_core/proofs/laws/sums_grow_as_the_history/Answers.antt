@@ -1,5 +1,0 @@
-use Rattle.tally_core.proofs.Counting.{sums_grow}
-use Rattle.tally_core.proofs.laws.sums_grow_as_the_history.Goals as goal
-
-pub returns : goal.returns
-returns c = sums_grow

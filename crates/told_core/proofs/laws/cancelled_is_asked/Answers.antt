@@ -1,5 +1,0 @@
-use Rattle.told_core.proofs.Cancelling.{cancelled_is_asked}
-use Rattle.told_core.proofs.laws.cancelled_is_asked.Goals as goal
-
-pub returns : goal.returns
-returns c = cancelled_is_asked

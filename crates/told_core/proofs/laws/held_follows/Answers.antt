@@ -1,5 +1,0 @@
-use Rattle.told_core.proofs.Holding.{held_follows}
-use Rattle.told_core.proofs.laws.held_follows.Goals as goal
-
-pub returns : goal.returns
-returns c = held_follows

@@ -1,5 +1,0 @@
-use Rattle.told_core.proofs.Turning.{turns_move}
-use Rattle.told_core.proofs.laws.turns_move.Goals as goal
-
-pub returns : goal.returns
-returns c = turns_move

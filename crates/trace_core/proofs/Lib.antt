@@ -1,5 +1,0 @@
-pub mod Places
-pub mod Plain
-pub mod Safe
-pub mod Reading
-pub mod Growing

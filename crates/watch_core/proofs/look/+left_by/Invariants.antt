@@ -1,5 +1,0 @@
-use Rattle.std.proofs.Common.{length}
-use Rattle.watch_core.proofs.look.+left_by.Given as goal
-
-abbrev pub decreases-left_by : goal.decreases-left_by
-decreases-left_by l = length l.ends.now

@@ -1,6 +1,0 @@
-use Rattle.watch_core.specs.Looks.{crowd_at}
-use Rattle.watch_core.proofs.Looking.{LongestBefore}
-use Rattle.watch_core.proofs.look.longest_wait.Given as goal
-
-abbrev pub invariant-loop-place : goal.invariant-loop-place
-invariant-loop-place l = LongestBefore (crowd_at l.clients l.at l.second) l.place l.longest

@@ -1,7 +1,0 @@
-use Rattle.std.proofs.Common.{◌≡◌, ◌≤◌, length, take}
-use Rattle.told_core.specs.Inside.{sitting_from}
-use Rattle.told_core.specs.State.{peers_of}
-use Rattle.watch_core.proofs.look.sessions_of.Given as goal
-
-abbrev pub invariant-loop-place : goal.invariant-loop-place
-invariant-loop-place l = (l.sessions ≡ length (sitting_from 0 l.at 0 (take l.place (peers_of l.clients)))) × (l.sessions ≤ l.place)

@@ -1,6 +1,0 @@
-use Rattle.std.proofs.Common.{◌≡◌, length}
-use Rattle.watch_core.specs.Looks.{AreTallies}
-use Rattle.watch_core.proofs.look.tallies_of.Given as goal
-
-abbrev pub invariant-loop-place : goal.invariant-loop-place
-invariant-loop-place l = AreTallies l.live l.ends 0 l.tallies.items × (length l.tallies.items ≡ l.place)

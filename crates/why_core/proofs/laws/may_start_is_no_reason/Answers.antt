@@ -1,5 +1,0 @@
-use Rattle.why_core.proofs.Allowing.{no_reason}
-use Rattle.why_core.proofs.laws.may_start_is_no_reason.Goals as goal
-
-pub returns : goal.returns
-returns c = no_reason

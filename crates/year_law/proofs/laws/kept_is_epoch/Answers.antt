@@ -1,5 +1,0 @@
-use Rattle.year_law.proofs.Sound.{kept_is_epoch}
-use Rattle.year_law.proofs.laws.kept_is_epoch.Goals as goal
-
-pub returns : goal.returns
-returns c = kept_is_epoch

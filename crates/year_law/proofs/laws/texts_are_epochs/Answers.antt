@@ -1,5 +1,0 @@
-use Rattle.year_law.proofs.Reading.{texts_are_epochs}
-use Rattle.year_law.proofs.laws.texts_are_epochs.Goals as goal
-
-pub returns : goal.returns
-returns c = texts_are_epochs

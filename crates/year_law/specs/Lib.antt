@@ -1,4 +1,0 @@
-pub mod Year
-pub mod Read
-pub mod Lives
-pub mod Keys
