@@ -8,7 +8,7 @@ ghost use Rattle.word_core.specs.Answers as answers;
 ghost use Rattle.session_text.specs.Lines as lines;
 
 use apply_core::reply::Reply;
-use board_core::answer::Cancelled;
+use guest_core::answer::Cancelled;
 use path_tree::name::Name;
 use std::alloc::AllocError;
 use word_core::ending::push_finish;

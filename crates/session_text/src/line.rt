@@ -7,7 +7,7 @@ ghost use Rattle.std.specs.Prelude.{◌≡◌, ◌++◌, Some, None, OnOk};
 ghost use Rattle.session_text.specs.Lines as lines;
 
 use apply_core::reply::Reply;
-use board_core::answer::{Cancelled, KeyedFault, SubmitFault};
+use guest_core::answer::{Cancelled, KeyedFault, SubmitFault};
 use path_tree::name::Name;
 use std::alloc::AllocError;
 use word_core::answers::{

@@ -9,7 +9,7 @@ use Rattle.post_core.specs.declared.post.Post.{Post}
 use Rattle.post_core.specs.Turns.Asked.{Heard, Noted}
 use Rattle.post_core.specs.declared.served.LineEnd.{LineEnd}
 use Rattle.post_core.specs.declared.served.Note.{Note}
-use Rattle.board_core.specs.declared.answer.SubmitFault.TheVariants as faults
+use Rattle.guest_core.specs.declared.answer.SubmitFault.TheVariants as faults
 use Rattle.session_text.specs.declared.line.Line.TheVariants as lines
 use Rattle.session_text.specs.Lines.{line_text}
 use Rattle.client_core.specs.declared.ask.Ask.{Ask}

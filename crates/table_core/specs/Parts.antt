@@ -7,8 +7,8 @@ use Rattle.value_core.specs.declared.datum.Datum.{Datum}
 use Rattle.decl_core.specs.ObjectMap.{object_of}
 use Rattle.word_core.specs.Answers.{cancelled_line}
 use Rattle.session_text.specs.Lines.{accepted_text, cancel_name, withdrawn_text}
-use Rattle.board_core.specs.declared.answer.Cancelled.TheVariants as answers
-use Rattle.board_core.specs.declared.answer.SubmitFault.{SubmitFault}
+use Rattle.guest_core.specs.declared.answer.Cancelled.TheVariants as answers
+use Rattle.guest_core.specs.declared.answer.SubmitFault.{SubmitFault}
 use Rattle.live_core.specs.declared.call.Ran.{Ran}
 use Rattle.live_core.specs.declared.live.Taken.{Taken}
 use Rattle.live_core.specs.Lines.{all_lines}

@@ -3,7 +3,7 @@
 ghost use Rattle.std.specs.Prelude.{◌≡◌, ◌<◌, [], Some, true, false, OnOk, OnErr, IfOk, length, slice_get};
 ghost use Rattle.word_core.specs.Answers.{cancelled_line};
 ghost use Rattle.session_text.specs.Lines.{cancel_name, ended_text, withdrawn_text};
-ghost use Rattle.board_core.specs.declared.answer.Cancelled.TheVariants as answers;
+ghost use Rattle.guest_core.specs.declared.answer.Cancelled.TheVariants as answers;
 ghost use Rattle.client_core.specs.declared.client.Opened.{Opened as AnOpened};
 ghost use Rattle.hosted_core.specs.declared.hosted.Keyed.TheVariants as keys;
 ghost use Rattle.hosted_core.specs.Scene.{Scene, told_of};
@@ -26,8 +26,8 @@ use crate::table::{MOST_LINE, SHORT_LINE, Table};
 use crate::tell::{
     tell_accepted, tell_cancel, tell_ended, tell_kept, tell_line, tell_repeated, tell_withdrawn,
 };
-use board_core::answer::{Cancelled, SubmitFault};
 use client_core::client::Opened;
+use guest_core::answer::{Cancelled, SubmitFault};
 use hosted_core::hosted::Keyed;
 use keep_loop::Post;
 use live_core::call::Ran;

@@ -8,11 +8,11 @@ ghost use Rattle.post_core.specs.Posts.{Tells};
 ghost use Rattle.client_core.specs.State.{peers_of, told_to};
 
 use apply_core::reply::Reply;
-use board_core::answer::Cancelled;
 use client_core::answer::{
     push_accepted, push_cancel, push_ended, push_kept, push_opened, push_repeated, push_withdrawn,
 };
 use client_core::clients::Clients;
+use guest_core::answer::Cancelled;
 use keep_loop::Post;
 use path_tree::name::Name;
 use session_text::line::{Line, push_line};

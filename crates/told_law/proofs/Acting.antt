@@ -9,7 +9,7 @@ use Rattle.value_core.specs.declared.datum.Datum.{Datum}
 use Rattle.decl_core.specs.declared.object.Object.{Object}
 use Rattle.decl_core.specs.ObjectMap.{object_of}
 use Rattle.word_core.specs.Text.{operation_name}
-use Rattle.board_core.specs.declared.answer.SubmitFault.TheVariants as faults
+use Rattle.guest_core.specs.declared.answer.SubmitFault.TheVariants as faults
 use Rattle.session_text.specs.declared.line.Line.TheVariants as lines
 use Rattle.session_text.specs.Lines.{bye_text, line_text, opened_text}
 use Rattle.guest_core.specs.declared.seats.Seat.TheVariants.{Nameless}

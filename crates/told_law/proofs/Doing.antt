@@ -11,8 +11,8 @@ use Rattle.live_core.specs.Hall.{Every}
 use Rattle.live_core.specs.Lines.{all_lines}
 use Rattle.guest_core.specs.Keys.{asks as asks_for}
 use Rattle.audit_core.specs.Steps.{Step, ran}
-use Rattle.board_core.specs.declared.answer.Cancelled.TheVariants as cancels_by
-use Rattle.board_core.specs.declared.answer.SubmitFault.TheVariants as faults
+use Rattle.guest_core.specs.declared.answer.Cancelled.TheVariants as cancels_by
+use Rattle.guest_core.specs.declared.answer.SubmitFault.TheVariants as faults
 use Rattle.session_text.specs.declared.line.Line.TheVariants as lines
 use Rattle.session_text.specs.Lines.{accepted_text, bye_text, cancel_name, ended_text, line_text, opened_text, withdrawn_text}
 use Rattle.word_core.specs.Answers.{cancelled_line}

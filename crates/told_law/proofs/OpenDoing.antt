@@ -11,8 +11,8 @@ use Rattle.decl_core.specs.ObjectMap.{object_of}
 use Rattle.apply_core.specs.History.{End}
 use Rattle.apply_core.specs.declared.reply.Reply.{Reply}
 use Rattle.word_core.specs.Answers.{cancelled_line}
-use Rattle.board_core.specs.declared.answer.Cancelled.TheVariants as cancels_by
-use Rattle.board_core.specs.declared.answer.SubmitFault.TheVariants as faults
+use Rattle.guest_core.specs.declared.answer.Cancelled.TheVariants as cancels_by
+use Rattle.guest_core.specs.declared.answer.SubmitFault.TheVariants as faults
 use Rattle.session_text.specs.declared.line.Line.TheVariants as lines
 use Rattle.session_text.specs.declared.session.Action.{Action}
 use Rattle.session_text.specs.declared.session.Action.TheVariants as actions

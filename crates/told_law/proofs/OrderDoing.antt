@@ -14,7 +14,7 @@ use Rattle.decl_core.specs.ObjectMap.{object_of}
 use Rattle.decl_core.specs.declared.object.Object.{Object}
 use Rattle.word_core.specs.Events.{Called}
 use Rattle.word_core.specs.Text.{operation_name}
-use Rattle.board_core.specs.declared.answer.SubmitFault.TheVariants as faults
+use Rattle.guest_core.specs.declared.answer.SubmitFault.TheVariants as faults
 use Rattle.session_text.specs.declared.line.Line.TheVariants as lines
 use Rattle.session_text.specs.declared.line.Line.{Line as Answer}
 use Rattle.session_text.specs.Lines.{accepted_text, bye_text, line_text, opened_text, repeated_text}
