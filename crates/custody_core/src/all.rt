@@ -16,12 +16,12 @@ use crate::one::{HoldNote, all_ended, leaves_one, look_one, note_one, unwelcome}
 use crate::ticking::Ticking;
 use decl_core::hold::Hold;
 use decl_core::object::Object;
+use front_read::hold_lines::push_held;
 use guest_core::held::HeldCall;
 use hosted_core::hosted::Hosted;
 use live_core::call::Ran;
 use path_tree::name::Name;
 use path_tree::node::OpId;
-use recover_core::hold_lines::push_held;
 use session_text::line::Refusal;
 use std::alloc::{AllocError, Global};
 use std::marker::Model;

@@ -22,7 +22,7 @@ use Rattle.history_law.proofs.Holding.{written_has_held}
 use Rattle.history_law.proofs.FrontReading.{front_is_written, written_is_read}
 use Rattle.decl_core.specs.HoldForm.{RulesForm}
 use Rattle.guest_core.specs.Held.{HeldCall}
-use Rattle.recover_core.specs.HeldLines.{held_text, IsHeldLine}
+use Rattle.front_read.specs.HeldLines.{held_text, IsHeldLine}
 use Rattle.recover_core.specs.HeldText.{HasHeld}
 use Rattle.recover_core.specs.Laws.{AreEndings, HeldAreLines}
 use Rattle.told_law.specs.Ended.{HoldsBy}
