@@ -41,7 +41,7 @@ use run_core::outcome::Outcome;
 use run_core::ticket::Ticket;
 use session_text::ear::Heard;
 use session_text::fault::HearFault;
-use session_text::line::{Line, Refusal, Unended};
+use session_text::line::{AnyLine, Line, Refusal, Unended};
 use session_text::reading::Reading;
 use session_text::session::Action;
 use std::alloc::Global;
@@ -251,7 +251,7 @@ fn put_off<H: Hand>(hand: &mut H, free: Vec<Stamp>, left: &mut Vec<Stamp>)
 
 // Holds a line back.
 fn say<R: Wait, P, W: Write + Drop, J: Start>(service: Service<'_, R, P, W, J>, line: Line) {
-    let _said = service.mouth.say(service.rt, line);
+    let _said = service.mouth.say(service.rt, AnyLine::Told(line));
 }
 
 // A call from its submission to its start, with the lines up to there. It answers no ticket where the
@@ -274,14 +274,14 @@ fn begun<R: Wait + Clock, I: Read + Drop, W: Write + Drop, J: Start>(
             return None;
         }
     };
-    say(service, Line::Accepted(number));
+    say(service, Line::Accepted(u64::from(number)));
     let tried = match tried {
         Tried::Ticket(ticket) => return Some(ticket),
         other => other,
     };
     let ticket = started(service, late, seat, reading, tried);
     if ticket.is_none() {
-        say(service, Line::Withdrawn(number));
+        say(service, Line::Withdrawn(u64::from(number)));
     }
     ticket
 }
@@ -339,9 +339,8 @@ fn serve_at<R: Wait + Clock, I: Read + Drop, W: Write + Drop, H: Hand + Drop, J:
     };
     let mut outcome = performed(service.alloc, ticket, &mut worked.hand);
     let finished = completed(service.rt, service.by, seat, &mut outcome);
-    let _said = service
-        .mouth
-        .say_ended(service.rt, outcome.number(), outcome.reply());
+    let last = AnyLine::Ended(u64::from(outcome.number()), outcome.reply());
+    let _said = service.mouth.say(service.rt, last);
     let Finished {
         place,
         session: _,
@@ -356,11 +355,21 @@ fn say_kept<R: Wait, W: Write + Drop, J: Start>(service: Service<'_, R, Office, 
     requires { (b : Board) × IsSound b × IsStateOf b kept.now.number kept.now.state }
 {
     match &kept.state {
-        CallState::Waiting => say(service, Line::Kept(kept.number, Unended::Waiting)),
-        CallState::Running => say(service, Line::Kept(kept.number, Unended::Running)),
-        CallState::Cancelled => say(service, Line::Kept(kept.number, Unended::Cancelled)),
+        CallState::Waiting => say(
+            service,
+            Line::Kept(u64::from(kept.number), Unended::Waiting),
+        ),
+        CallState::Running => say(
+            service,
+            Line::Kept(u64::from(kept.number), Unended::Running),
+        ),
+        CallState::Cancelled => say(
+            service,
+            Line::Kept(u64::from(kept.number), Unended::Cancelled),
+        ),
         CallState::Ended(reply) => {
-            let _said = service.mouth.say_repeated(service.rt, kept.number, reply);
+            let last = AnyLine::Repeated(u64::from(kept.number), reply);
+            let _said = service.mouth.say(service.rt, last);
         }
     }
 }
@@ -448,7 +457,11 @@ fn take_found<R: Wait, I: Read + Drop, W: Write + Drop, J: Start, O: Offices>(
     match found {
         Ok((entered, next)) => {
             reading.set_opened(entered.at, entered.seat.session());
-            let _said = service.mouth.say_opened(service.rt, name, next);
+            let next = match next {
+                Some(key) => Some(u64::from(key)),
+                None => None,
+            };
+            let _said = service.mouth.say(service.rt, AnyLine::Opened(name, next));
             *seat = Some(entered);
             Goes::On
         }
@@ -484,7 +497,7 @@ fn cancel<R: Wait, W: Write + Drop, J: Start, O: Offices>(
     if let Some(entered) = seat {
         if let Some(office) = service.by.office(entered.at) {
             let answer = office.cancel(service.rt, number);
-            say(service, Line::Cancel(number, answer));
+            say(service, Line::Cancel(u64::from(number), answer));
         }
     }
 }
