@@ -339,8 +339,8 @@ fn serve_at<R: Wait + Clock, I: Read + Drop, W: Write + Drop, H: Hand + Drop, J:
     };
     let mut outcome = performed(service.alloc, ticket, &mut worked.hand);
     let finished = completed(service.rt, service.by, seat, &mut outcome);
-    let last = AnyLine::Ended(u64::from(outcome.number()), outcome.reply());
-    let _said = service.mouth.say(service.rt, last);
+    let ended = AnyLine::Ended(u64::from(outcome.number()), outcome.reply());
+    let _said = service.mouth.say(service.rt, ended);
     let Finished {
         place,
         session: _,
