@@ -57,7 +57,7 @@ fn add_note_of(
     spare: &mut Vec<u8>,
     line: AnyLine<'_>,
 ) -> Result<(), AllocError>
-    ensures ok { OnOk result (notes.new.items ≡ notes.old.items ++ note_of (said_of line)) }
+    ensures ok { OnOk result (notes.new.items ≡ notes.old.items ++ note_of (said_of line.entry)) }
     ensures err { OnErr result (notes.new.items ≡ notes.old.items) }
 {
     match line {
@@ -78,7 +78,7 @@ fn add_line(
     spare: &mut Vec<u8>,
     line: AnyLine<'_>,
 ) -> bool
-    ensures { Adds held.old.items held.new.items notes.old.items notes.new.items (said_of line) result }
+    ensures { Adds held.old.items held.new.items notes.old.items notes.new.items (said_of line.entry) result }
 {
     text.clear();
     if push_line(text, line).is_err() {
@@ -198,7 +198,7 @@ impl Held {
     pub fn say(&mut self, line: AnyLine<'_>) -> bool
         requires { MaySay line }
         ensures silent { OnFalse result (IsSilent self.new.4 self.new.5) }
-        ensures added { Adds self.old.0 self.new.0 self.old.1 self.new.1 (said_of line) result }
+        ensures added { Adds self.old.0 self.new.0 self.old.1 self.new.1 (said_of line.entry) result }
     {
         if !self.is_whole() {
             return false;

@@ -125,7 +125,7 @@ fn behind_told(stage: Stage, line: Line) -> Option<Stage>
 
 /// Where a line leads, if it may stand here.
 pub(crate) fn behind(stage: Stage, line: AnyLine<'_>) -> Option<Stage>
-    ensures { Leads stage (said_of line) result }
+    ensures { Leads stage (said_of line.entry) result }
 {
     match line {
         AnyLine::Opened(_, _) => behind_free(stage),

@@ -251,7 +251,7 @@ fn push_repeated(out: &mut Vec<u8>, number: u64, reply: &Reply) -> Result<(), Al
 
 /// Adds a line to `out`. The error is that memory was refused; how much of the line then stands in `out` is not said.
 pub fn push_line(out: &mut Vec<u8>, line: AnyLine<'_>) -> Result<(), AllocError>
-    ensures { OnOk result (out.new.items ≡ out.old.items ++ said_text (said_of line)) }
+    ensures { OnOk result (out.new.items ≡ out.old.items ++ said_text (said_of line.entry)) }
 {
     match line {
         AnyLine::Opened(name, next) => push_opened(out, name, next),

@@ -36,7 +36,7 @@ pub(crate) fn tell_line(
     line: AnyLine<'_>,
     post: &mut Post,
 ) -> Result<(), AllocError>
-    ensures { OnOk result (Tells post.old post.new (told_to (peers_of clients.now) place (said_text (said_of line))) []) }
+    ensures { OnOk result (Tells post.old post.new (told_to (peers_of clients.now) place (said_text (said_of line.entry))) []) }
 {
     out.clear();
     push_line(out, line)?;
