@@ -11,8 +11,8 @@ use Rattle.front_read.specs.HeldLines.{held_text}
 use Rattle.guest_core.specs.Held.{HeldCall}
 use Rattle.custody_core.specs.declared.holding.OwedCall.{OwedCall}
 use Rattle.custody_core.specs.Holding.{Holding, IsDueOf, NothingIsDueOf}
-use Rattle.client_core.specs.Custody.{Custody, Custodies, FollowsIn, HeldBehindAll, HasSome, HasNone, IsFreeOf, IsOwed, held_lines}
-use Rattle.client_core.specs.Custody.IsOwed.{gives_back}
+use Rattle.custody_core.specs.Custody.{Custody, Custodies, FollowsIn, HeldBehindAll, HasSome, HasNone, IsFreeOf, IsOwed, held_lines}
+use Rattle.custody_core.specs.Custody.IsOwed.{gives_back}
 use Rattle.custody_core.specs.Views.{custody_of}
 
 -- the one at a place

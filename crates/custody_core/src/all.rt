@@ -5,7 +5,7 @@ ghost use Rattle.decl_core.specs.ObjectMap.{object_of};
 ghost use Rattle.hosted_core.specs.Scene.{Scene};
 ghost use Rattle.decl_core.specs.HoldForm.{EveryForm};
 ghost use Rattle.decl_core.specs.HoldMap.{holds_of};
-ghost use Rattle.client_core.specs.Custody.{Custody, IsOwed, MayMake, FollowsIn, IsFreeOf, HasNone, HasSome, holds_by, held_by, held_lines_in};
+ghost use Rattle.custody_core.specs.Custody.{Custody, IsOwed, MayMake, FollowsIn, IsFreeOf, HasNone, HasSome, holds_by, held_by, held_lines_in};
 ghost use Rattle.custody_core.specs.Holding.{Holding as AHolding, Goes, HoldsSome};
 ghost use Rattle.custody_core.specs.Due.{Becomes, EndsAll, IsDueThere, IsFirst, IsUndone, IsUnwelcome, Looks, LooksAll, NothingIsDue, Notes, object_due, tick_of};
 ghost use Rattle.custody_core.specs.Views.{custodies_of};

@@ -28,7 +28,7 @@ use Rattle.history_law.specs.Stands.{Stands}
 use Rattle.history_law.specs.Told.{heard_of}
 use Rattle.history_law.proofs.Beginning.{followed_stands}
 use Rattle.post_core.specs.Turns.{added_by}
-use Rattle.client_core.specs.Custody.{Custody, Custodies, held_lines, held_lines_in}
+use Rattle.custody_core.specs.Custody.{Custody, Custodies, held_lines, held_lines_in}
 use Rattle.table_core.specs.Seen.{seen}
 use Rattle.told_law.proofs.KeptGoing.{set_at, runs_are_steps}
 use Rattle.told_law.specs.Ended.{ends_of}
