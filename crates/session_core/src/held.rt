@@ -1,8 +1,9 @@
 //! The lines of a session that are held back.
 
-ghost use Rattle.std.specs.Prelude.{◌≡◌, [], ℕ, List, false};
+ghost use Rattle.std.specs.Prelude.{◌≡◌, ◌++◌, [], ℕ, List, OnOk, false};
 ghost use Rattle.std.specs.Bool.{OnFalse};
 ghost use Rattle.session_text.specs.Answers.{opened, ended, repeated, told};
+ghost use Rattle.session_text.specs.Lines.{ended_text};
 ghost use Rattle.session_core.specs.declared.note.Note.{Note};
 ghost use Rattle.session_core.specs.Repeats.{WasNoted};
 ghost use Rattle.session_core.specs.Written.{IsHeld, IsSilent, Adds, HandsOver};
@@ -13,10 +14,12 @@ use crate::stage::{Stage, behind, behind_free, behind_last};
 use apply_core::reply::Reply;
 use path_tree::name::Name;
 use session_text::line::{Line, push_ended, push_line, push_opened, push_repeated};
-use std::alloc::Global;
+use std::alloc::{AllocError, Global};
 use std::marker::Model;
 use std::mem;
 use text_core::limits::MOST_TEXT_BYTES;
+use word_core::line::push_line as push_words_line;
+use word_core::word::Written;
 
 /// Room for the longest line that is written of a call, in bytes, twice over.
 const LINE_ROOM: usize = 4096;
@@ -93,6 +96,28 @@ struct Ended<'a> {
     reply: &'a Reply,
 }
 
+// Adds the last line of a call that has a receipt. What it replied is written from where it lies: as an ending it would
+// be copied, and it has room for a kilobyte.
+fn push_last(out: &mut Vec<u8>, number: u32, reply: &Reply) -> Result<(), AllocError>
+    ensures { OnOk result (out.new.items ≡ out.old.items ++ ended_text number reply.now) }
+{
+    match reply {
+        Reply::Done(None) => push_words_line(
+            out,
+            &[Written::Bare(b"done"), Written::Integer(u64::from(number))],
+        ),
+        Reply::Done(Some(datum)) => push_words_line(
+            out,
+            &[
+                Written::Bare(b"done"),
+                Written::Integer(u64::from(number)),
+                Written::Datum(datum),
+            ],
+        ),
+        _ => push_ended(out, number, reply),
+    }
+}
+
 // Holds the last line of a call that has a receipt back, and notes it.
 fn add_ended(
     alloc: Global,
@@ -107,7 +132,7 @@ fn add_ended(
 {
     let Ended { number, reply } = call;
     text.clear();
-    if push_ended(text, number, reply).is_err() {
+    if push_last(text, number, reply).is_err() {
         return false;
     }
     let before = held.len();
