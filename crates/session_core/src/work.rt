@@ -1,8 +1,7 @@
 //! The first thread of a session: it does the calls, and reads too, as long as no call waits.
 
-ghost use Rattle.std.specs.Prelude.{◌≡◌, ◌<◌, ◌++◌, ◌∷◌, [], IsTrue, IfOk, IfSome, Ok};
+ghost use Rattle.std.specs.Prelude.{◌≡◌, ◌<◌, ◌++◌, ◌∷◌, [], IsTrue, IfOk, IfSome, Ok, Some};
 ghost use Rattle.std.specs.Vec.{vec_len, vec_capacity};
-ghost use Rattle.device_core.specs.Device.{Assignment};
 ghost use Rattle.board_core.specs.Board.{Board};
 ghost use Rattle.board_core.specs.Sound.{IsSound};
 ghost use Rattle.run_core.specs.Tickets.{ticket_call};
@@ -14,11 +13,11 @@ ghost use Rattle.office_core.specs.Slips.{told_by};
 ghost use Rattle.office_core.specs.declared.seat.Submitted.{Submitted as Ask};
 ghost use Rattle.office_core.specs.Submissions.{Asks, Tells, IsTicketOf};
 ghost use Rattle.office_core.specs.Seats.{CompletedIn};
-ghost use Rattle.session_core.specs.Truth.{Keeps, AreTrue, OutcomeIsTrue};
+ghost use Rattle.session_core.specs.Truth.{Keeps, AreTrue};
 ghost use Rattle.session_core.specs.Leaving.{RetiresLeft, PutsOff};
 ghost use Rattle.session_core.specs.Making.{IsNew, MakesCall, MakesFor, MakesOnce, asked_by};
 ghost use Rattle.session_core.specs.Opening.{Takes, Enters};
-ghost use Rattle.session_core.specs.Working.{Runs, Works, WorksOn};
+ghost use Rattle.session_core.specs.Working.{Works, WorksOn};
 
 use crate::entered::{Entered, NotEntered, seat_at};
 use crate::listen::leave;
@@ -202,16 +201,6 @@ fn submitted<R: Wait + Clock, W: Write + Drop, J: Start>(
     service.by.submit_and_try(service.rt, seat, op, args)
 }
 
-// Runs a started call.
-fn performed<H: Hand>(alloc: Global, ticket: Ticket, hand: &mut H) -> Outcome
-    ensures call { outcome_call result ≡ ticket_call ticket }
-    ensures kept { Keeps H.agrees hand.old hand.new }
-    ensures told { (a : Assignment) → H.agrees hand.new a → OutcomeIsTrue a result }
-    ensures runs { Runs H.makes result hand.old hand.new }
-{
-    run_at_once(alloc, ticket, hand)
-}
-
 // Hands an outcome in, until it is taken.
 fn completed<R: Wait>(rt: &R, office: &Office, seat: &mut Seat, outcome: &mut Outcome) -> Finished
     ensures same { TellsSame outcome.old outcome.new }
@@ -337,7 +326,7 @@ fn serve_at<R: Wait + Clock, I: Read + Drop, W: Write + Drop, H: Hand + Drop, J:
     let Some(ticket) = begun else {
         return;
     };
-    let mut outcome = performed(service.alloc, ticket, &mut worked.hand);
+    let mut outcome = run_at_once(service.alloc, ticket, &mut worked.hand);
     let finished = completed(service.rt, service.by, seat, &mut outcome);
     let ended = AnyLine::Ended(u64::from(outcome.number()), outcome.reply());
     let _said = service.mouth.say(service.rt, ended);
@@ -374,6 +363,29 @@ fn say_kept<R: Wait, W: Write + Drop, J: Start>(service: Service<'_, R, Office, 
     }
 }
 
+// Whether a call under a key is to be made: that of its session's next call.
+fn is_next<R: Wait, W: Write + Drop, J: Start>(
+    service: Service<'_, R, Office, W, J>,
+    seat: &Seat,
+    key: u32,
+    op: &str,
+    args: &[Datum],
+) -> bool
+    ensures { IsTrue result → IsNew (asked_by seat.now.session op.now args.now) (Some key) }
+{
+    match service.by.kept(service.rt, seat, key, op, args) {
+        Ok(None) => true,
+        Ok(Some(kept)) => {
+            say_kept(service, &kept);
+            false
+        }
+        Err(fault) => {
+            say(service, Line::Unkeyed(fault));
+            false
+        }
+    }
+}
+
 // Whether a call is to be made: it has no key, or that of its session's next call. Any other is answered here, before
 // there is room for a call and whosever turn it is.
 fn is_new<R: Wait, W: Write + Drop, J: Start>(
@@ -385,19 +397,10 @@ fn is_new<R: Wait, W: Write + Drop, J: Start>(
 ) -> bool
     ensures { IsTrue result → IsNew (asked_by seat.now.session op.now args.now) key }
 {
-    let Some(key) = key else {
-        return true;
-    };
-    match service.by.kept(service.rt, seat, key, op, args) {
-        Ok(None) => true,
-        Ok(Some(kept)) => {
-            say_kept(service, &kept);
-            false
-        }
-        Err(fault) => {
-            say(service, Line::Unkeyed(fault));
-            false
-        }
+    match key {
+        None => true,
+        // A call of its own, so that a call without a key clears no room for a reply that is kept.
+        Some(key) => is_next(service, seat, key, op, args),
     }
 }
 
