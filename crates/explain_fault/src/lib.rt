@@ -7,12 +7,12 @@
 //! That they are safe to make, and end, is proved; what they say is tested by the cases of `cases/check`.
 #![tactic(auto)]
 
-mod condition;
 pub mod fault;
-mod in_path;
-mod kinds;
-mod operations;
+mod misplaced;
+mod names;
 pub mod pairs;
+mod paths;
+mod rows;
 pub mod rules;
-mod syntax;
-mod wrong;
+mod seen;
+mod signs;
