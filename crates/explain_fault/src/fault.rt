@@ -1,9 +1,9 @@
 //! Faults of a source.
 
-use crate::misplaced::{ENTRY_HELP, MISPLACED, NO_ENTRY};
-use crate::names::{PAST_LIMIT, TWICE, UNKNOWN, WRONG_KIND};
+use crate::misplaced::{ENTRY_HELP, NO_ENTRY, misplaced};
+use crate::names::{past_limit, twice, unknown, wrong_kind};
 use crate::paths::of_path;
-use crate::rows::{Entries, said_by};
+use crate::rows::said_by;
 use crate::seen::{Near, bare_declaration};
 use crate::signs::of_tokens;
 use decl_read::fault::DeclFault;
@@ -28,14 +28,14 @@ use std::alloc::{AllocError, Global};
 const MOST_BYTES: usize = 65_536;
 
 // What is said of a fault of objects.
-fn of_objects(fault: DeclFault) -> Entries {
+fn of_objects(fault: DeclFault, seen: Near<'_>) -> Option<Said> {
     match fault {
-        DeclFault::DuplicateName(_) => TWICE,
-        DeclFault::WrongType(_) => WRONG_KIND,
-        DeclFault::UnknownName(_) => UNKNOWN,
-        DeclFault::TooMany(_) => PAST_LIMIT,
-        DeclFault::Path(fault) => of_path(fault),
-        DeclFault::Syntax(_) | DeclFault::Lex(_) | DeclFault::Memory => MISPLACED,
+        DeclFault::DuplicateName(_) => said_by(twice(), seen),
+        DeclFault::WrongType(_) => said_by(wrong_kind(), seen),
+        DeclFault::UnknownName(_) => said_by(unknown(), seen),
+        DeclFault::TooMany(_) => said_by(past_limit(), seen),
+        DeclFault::Path(fault) => said_by(of_path(fault), seen),
+        DeclFault::Syntax(_) | DeclFault::Lex(_) | DeclFault::Memory => misplaced(seen),
     }
 }
 
@@ -186,7 +186,7 @@ fn push_at_token(
     at: usize,
 ) -> Result<(), AllocError> {
     let seen = seen_at(page, at);
-    let Some(said) = said_by(of_objects(fault), seen) else {
+    let Some(said) = of_objects(fault, seen) else {
         return Ok(());
     };
     let bare = bare_operation(fault, page.tokens, seen);

@@ -1,12 +1,14 @@
 //! What is said of a token that objects have not in its place.
 
-use crate::rows::Entries;
 use crate::rows::Item::{Help, Note, Or, When};
 use crate::rows::Test::{In, Is, Not, Out};
+use crate::rows::{Entries, said_by};
 use crate::seen::Fact::{
     Body, Condition, Constants, Head, LastOperation, LastOwn, Open, Outside, Params,
 };
+use crate::seen::Near;
 use crate::seen::Where::{Here, Kind, Last, Last2, Last3, Next, Plain};
+use note_core::said::Said;
 
 /// What helps where a sum stands in the place of a constant.
 pub(crate) const SUM: &str = "sums stand in bodies alone: write the number itself, in digits";
@@ -26,8 +28,8 @@ pub(crate) const ENTRY_HELP: &str =
 // What a statement, a section or an object can begin with, or end by.
 const OPENING: &str = "const path var entry begin if append take store erase refuse end object";
 
-/// What is said of a token that is out of place in an object.
-pub(crate) const MISPLACED: Entries = &[
+// What is said of a token in a size, in a constant or in a condition.
+const VALUES: Entries = &[
     When(&[Is(Here, "NONE")]),
     Note("the source ends, and an object is not closed"),
     Help("each `begin` and each path is closed by `end`, and the object by `end;`"),
@@ -103,6 +105,10 @@ pub(crate) const MISPLACED: Entries = &[
     Help(
         "a condition is `x = y`, `x <> y`, `x < y`, `x <= y`, `x > y`, `x >= y`, `has(t, k)` or `not` before one of these",
     ),
+];
+
+// What is said of a token in an operation.
+const OPERATIONS: Entries = &[
     When(&[Is(Last, "entry")]),
     Note("after `entry` comes `procedure` or `function`, not `%`"),
     Help(ENTRY_HELP),
@@ -142,6 +148,10 @@ pub(crate) const MISPLACED: Entries = &[
     When(&[In(Body), Is(Here, "entry procedure function")]),
     Note("`%` cannot stand in a body"),
     Help("operations do not stand in one another; the body before is closed by `end;`"),
+];
+
+// What is said of other words and signs.
+const WORDS: Entries = &[
     When(&[Is(Here, "else")]),
     Note("this `else` belongs to no `if`"),
     Help("no `;` stands before `else`, since it would end the `if`"),
@@ -194,6 +204,10 @@ pub(crate) const MISPLACED: Entries = &[
     Help(
         "a `;` closes a declaration and stands between two statements, and after the condition of an `if` comes `then`",
     ),
+];
+
+// What is said of a token where a kind may be due, or where nothing better is known.
+const KINDS: Entries = &[
     When(&[Is(Here, "integer text"), Is(Last, "queue table ]")]),
     Note("between `$` and `%` the word `of` is missing"),
     Help("kinds are `array [5] of integer`, `queue of text`, `table of integer` and so on"),
@@ -235,3 +249,34 @@ pub(crate) const MISPLACED: Entries = &[
     When(&[]),
     Help("docs/LANGUAGE.md has the grammar of objects"),
 ];
+
+fn values() -> Entries {
+    VALUES
+}
+
+fn operations() -> Entries {
+    OPERATIONS
+}
+
+fn words() -> Entries {
+    WORDS
+}
+
+fn kinds() -> Entries {
+    KINDS
+}
+
+/// What is said of a token that is out of place in an object: each table is a function's own, since their proofs go up with
+/// the square of their rows.
+pub(crate) fn misplaced(seen: Near<'_>) -> Option<Said> {
+    if let Some(said) = said_by(values(), seen) {
+        return Some(said);
+    }
+    if let Some(said) = said_by(operations(), seen) {
+        return Some(said);
+    }
+    match said_by(words(), seen) {
+        Some(said) => Some(said),
+        None => said_by(kinds(), seen),
+    }
+}

@@ -13,8 +13,8 @@ const NO_CALL: &str = "an operation cannot call `%`";
 
 const NO_CALL_HELP: &str = "operations do not call each other: write here what that one does";
 
-/// What is said of a name, or of the first token of an expression, that is of the wrong kind.
-pub(crate) const WRONG_KIND: Entries = &[
+// What is said of a name, or of the first token of an expression, that is of the wrong kind.
+const WRONG_KIND: Entries = &[
     When(&[
         Is(Here, "NAME"),
         Is(Last, "("),
@@ -77,8 +77,8 @@ pub(crate) const WRONG_KIND: Entries = &[
     Help("it is an integer where a text is due, or a text where an integer is due"),
 ];
 
-/// What is said of a name that is not known.
-pub(crate) const UNKNOWN: Entries = &[
+// What is said of a name that is not known.
+const UNKNOWN: Entries = &[
     When(&[Is(Last, "["), Is(Last2, "array")]),
     Note("there is no constant `%` above this place"),
     Help(SIZE_HELP),
@@ -111,8 +111,8 @@ pub(crate) const UNKNOWN: Entries = &[
     ),
 ];
 
-/// What is said of the first token past a limit.
-pub(crate) const PAST_LIMIT: Entries = &[
+// What is said of the first token past a limit.
+const PAST_LIMIT: Entries = &[
     When(&[Is(Last, "object")]),
     Note("`%` is the 17th object of this source"),
     Help("a source has at most 16 objects; put some into a file of their own"),
@@ -145,8 +145,8 @@ pub(crate) const PAST_LIMIT: Entries = &[
     Help("an object has at most 16 constants; a number can stand in its place as well"),
 ];
 
-/// What is said of a name that is declared twice.
-pub(crate) const TWICE: Entries = &[
+// What is said of a name that is declared twice.
+const TWICE: Entries = &[
     When(&[Is(Last, "object")]),
     Note("this source has an object `%` already"),
     Help("objects of one source have different names; case is ignored"),
@@ -156,3 +156,23 @@ pub(crate) const TWICE: Entries = &[
         "constants, parts and operations of an object have different names, and a parameter has another name than these; case is ignored",
     ),
 ];
+
+/// What is said of a name, or of the first token of an expression, that is of the wrong kind.
+pub(crate) fn wrong_kind() -> Entries {
+    WRONG_KIND
+}
+
+/// What is said of a name that is not known.
+pub(crate) fn unknown() -> Entries {
+    UNKNOWN
+}
+
+/// What is said of the first token past a limit.
+pub(crate) fn past_limit() -> Entries {
+    PAST_LIMIT
+}
+
+/// What is said of a name that is declared twice.
+pub(crate) fn twice() -> Entries {
+    TWICE
+}
