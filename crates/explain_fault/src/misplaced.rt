@@ -266,8 +266,7 @@ fn kinds() -> Entries {
     KINDS
 }
 
-/// What is said of a token that is out of place in an object: each table is a function's own, since their proofs go up with
-/// the square of their rows.
+/// What is said of a token that is out of place in an object. One table of all rows would be past the prover's limit.
 pub(crate) fn misplaced(seen: Near<'_>) -> Option<Said> {
     if let Some(said) = said_by(values(), seen) {
         return Some(said);
