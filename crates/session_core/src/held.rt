@@ -1,6 +1,6 @@
 //! The lines of a session that are held back.
 
-ghost use Rattle.std.specs.Prelude.{◌≡◌, ◌++◌, [], OnOk, OnErr};
+ghost use Rattle.std.specs.Prelude.{◌≡◌, ◌++◌, [], false, OnOk, OnErr};
 ghost use Rattle.std.specs.Bool.{OnFalse};
 ghost use Rattle.session_core.specs.declared.note.Note.{Note};
 ghost use Rattle.session_text.specs.Answers.{said_of, said_text};
