@@ -8,6 +8,7 @@
 pub mod backed;
 pub mod gate;
 pub mod gather;
+mod host;
 pub mod listen;
 pub mod open;
 pub mod serve;
