@@ -6,6 +6,7 @@ use Rattle.std.specs.List.{concat}
 use Rattle.std.specs.Io.KnownBytes.{Appends, Keeps}
 use Rattle.std.proofs.lemmas.Bool.{true≢false}
 use Rattle.std.proofs.lemmas.List.{length-map}
+use Rattle.keep_core.specs.declared.close.Closing.{Closing}
 use Rattle.keep_core.specs.declared.open.NotOpened.{NotOpened}
 use Rattle.keep_core.specs.declared.open.NotOpened.TheVariants.{Damaged, Fault}
 use Rattle.keep_core.specs.declared.opening.Opening.{Opening}
@@ -93,6 +94,16 @@ from_opening agrees a (o ∷ objects) (e ∷ ends) is (one, each) (here, pinned)
     (λ closed hold. (opening_is_legal a e o.parts.items one closed hold (here a is)).1, from_opening agrees a objects ends is each pinned)
 from_opening agrees a [] (e ∷ ends) is each pinned = absurd pinned
 from_opening agrees a (o ∷ objects) [] is each pinned = absurd pinned
+
+-- what closes objects is still as it was
+pub still_pinned : {S T K : Type 0} {old new : Closing S T K} (agrees : K → Assignment → Type 0) (objects : List Object) (openings : List Opening) → new ≡ old → ArePinnedAll (agrees old.hand) objects openings → ArePinnedAll (agrees new.hand) objects openings
+still_pinned {S = S} {T = T} {K = K} agrees objects openings same pinned = subst (λ (c : Closing S T K). ArePinnedAll (agrees c.hand) objects openings) (sym same) pinned
+
+pub still_parts : {S T K : Type 0} {old new : Closing S T K} (holds : S → Papers → Type 0) (papers : Papers) → new ≡ old → holds new.parts papers → holds old.parts papers
+still_parts {S = S} {T = T} {K = K} holds papers same at = subst (λ (c : Closing S T K). holds c.parts papers) same at
+
+pub still_traces : {S T K : Type 0} {old new : Closing S T K} (holds : T → Papers → Type 0) (papers : Papers) → new ≡ old → holds new.traces papers → holds old.traces papers
+still_traces {S = S} {T = T} {K = K} holds papers same at = subst (λ (c : Closing S T K). holds c.traces papers) same at
 
 -- objects that were served and closed
 pub run_served : {H : Type 0} {backs : H → Assignment → Type 0} {before mid after : Moment} {openings : List Opening} {were are : List H} (objects : List Object) (names : List (List ℕ)) (end : Result ServeEnd LinesFault) → (place : List ℕ) → AreSaid (listening_line place ∷ []) None before.written mid.written →

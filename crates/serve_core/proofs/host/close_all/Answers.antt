@@ -14,7 +14,7 @@ loop-named-init g c =
     let left = c.into_iter-left.ensures in
     let count = c.args.served.offices.ok.0 in
     record {
-      so = closed_none _ _ _ _ (ap named_in gives.0) (omega (arith, gives.1, ap length gives.0, count, length-map c.args.served.offices.items (λ (n : Named). n.name), ap length (ap named_in gives.0)))
+      so = closed_none g.H.Hand.agrees _ _ _ _ (ap named_in gives.0) (omega (arith, gives.1, ap length gives.0, count, length-map c.args.served.offices.items (λ (n : Named). n.name), ap length (ap named_in gives.0)))
           values.rest (ap slips_in left.rest);
       values = omega (arith, gives.1, values.len, count, c.args.served.openings.ok.0, c.requires.openings);
       values_items = omega (arith, gives.1, ap length values.rest, count, c.requires.openings);
