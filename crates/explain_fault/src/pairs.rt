@@ -1,7 +1,8 @@
 //! What is said of each `a; b` of a path that could be held: what happens where a client dies between.
 
+use note_core::finding::two;
 use note_core::page::{Page, push_said};
-use note_core::said::{Said, Words, say};
+use note_core::said::{Said, say};
 use note_core::span::{Span, span_of, text_at};
 use note_core::tokens::{
     begins, count_to, first_tokens, from_symbol, is_any_name, is_name, is_same_word, is_symbol,
@@ -102,12 +103,7 @@ fn push_pair(
     second: Span,
     is_other: bool,
 ) -> Result<(), AllocError> {
-    let words = Words {
-        first: text_at(page.source, first),
-        second: text_at(page.source, second),
-        third: b"",
-        fourth: b"",
-    };
+    let words = two(text_at(page.source, first), text_at(page.source, second));
     let span = Span {
         start: first.start,
         end: second.end,
