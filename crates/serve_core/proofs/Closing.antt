@@ -13,7 +13,6 @@ use Rattle.device_core.specs.declared.hand.Stamp.{Stamp}
 use Rattle.board_core.specs.Lists.{Every}
 use Rattle.office_core.specs.Slips.{Told}
 use Rattle.office_core.specs.declared.client_seat.Seat.{Seat}
-use Rattle.keep_core.specs.declared.trouble.Trouble.{Trouble}
 use Rattle.keep_core.specs.Troubles.{first_of}
 use Rattle.keep_core.specs.Lines.{AreSaid}
 use Rattle.keep_core.specs.Kept.{AreStored, refused_by, stored_times, once}
@@ -23,6 +22,7 @@ use Rattle.keep_core.proofs.Keeping.{first_nothing}
 use Rattle.keep_core.proofs.KeepEnding.{not_refused}
 use Rattle.serve_core.specs.Backed.{AreBacked}
 use Rattle.serve_core.specs.Closes.{names_of, openings_of, slips_of, AreBackedAll, lines_all, refused_all, AreStoredAll, AreTracedAll, IsWhole, AreEndings, Closes}
+use Rattle.serve_core.specs.Moments.{Moment}
 
 every_one : {X : Type 0} (P : X → Type 0) (xs : List X) (y : X) → Every P xs → P y → Every P (xs ++ y ∷ [])
 every_one P [] y all one = (one, tt)
@@ -62,15 +62,19 @@ traced_one : (ends : List Ended) (e : Ended) (before mid papers : Papers) (times
 traced_one [] e before mid papers times all least is = (papers, (times, least, subst (λ (p : Papers). papers ≡ stored_times times p e.board.object.name (trace_of e.board (values_of e.opening))) all is), refl)
 traced_one (first ∷ ends) e before mid papers times (next, here, all) least is = (next, here, traced_one ends e next mid papers times all least is)
 
+-- what closing an object comes to, from one moment to another
+abbrev pub Ends : Moment → Moment → Ended → Type 0
+Ends before after e = IsEnding after.files before.parts after.parts before.traces after.traces e before.trouble after.trouble before.keeps_all after.keeps_all before.written after.written
+
 -- no object is closed yet
-pub endings_none : (agrees : Assignment → Type 0) (parts traces : Papers → Type 0) (t : Trouble) (kept_all : Bool) (known : Option (List ℕ)) → AreEndings agrees parts parts traces traces [] t t kept_all kept_all known known
-endings_none agrees parts traces t kept_all known = record {
+pub endings_none : (m : Moment) → AreEndings m m []
+endings_none m = record {
   each = tt;
   met = None;
   closing = tt;
-  fault = first_nothing t.fault;
+  fault = first_nothing m.trouble.fault;
   refused = refl;
-  said = nothing_said None known;
+  said = nothing_said None m.written;
   whole = λ none quiet. tt;
   stored = λ papers is. (papers, is, refl);
   traced = λ papers is. (papers, is, refl);
@@ -78,18 +82,16 @@ endings_none agrees parts traces t kept_all known = record {
 }
 
 -- one object more is closed
-pub endings_more : {then agrees : Assignment → Type 0} {pw pm pa tw tm ta : Papers → Type 0} {before middle after : Trouble} {first mid last : Bool} {old known new : Option (List ℕ)} (ends : List Ended) (e : Ended) →
-    AreEndings then pw pm tw tm ends before middle first mid old known → IsEnding agrees pm pa tm ta e middle after mid last known new → ((a : Assignment) → agrees a → then a) →
-    AreEndings agrees pw pa tw ta (ends ++ e ∷ []) before after first last old new
-endings_more {before = before} {old = old} {new = new} ends e so one files =
+pub endings_more : {before mid after : Moment} (ends : List Ended) (e : Ended) → AreEndings before mid ends → Ends mid after e → ((a : Assignment) → after.files a → mid.files a) → AreEndings before after (ends ++ e ∷ [])
+endings_more {before = before} {after = after} ends e so one files =
     let met : Option LinesFault = first_of so.met one.met in
     record {
       each = every_one IsAtEnd ends e so.each one.ended;
       met = met;
       closing = closing_first so.met one.met so.closing one.closing;
-      fault = one.fault ∙ ap (λ (f : Option LinesFault). first_of f one.met) so.fault ∙ first_first before.fault so.met one.met;
-      refused = one.refused ∙ ap (λ (r : Bool). refused_after r e) so.refused ∙ refused_one before.refused ends e;
-      said = subst (λ (ls : List (List ℕ)). AreSaid ls met old new) (lines_one ends e) (said_then so.said one.said (first_none so.met one.met) (second_none so.met one.met));
+      fault = one.fault ∙ ap (λ (f : Option LinesFault). first_of f one.met) so.fault ∙ first_first before.trouble.fault so.met one.met;
+      refused = one.refused ∙ ap (λ (r : Bool). refused_after r e) so.refused ∙ refused_one before.trouble.refused ends e;
+      said = subst (λ (ls : List (List ℕ)). AreSaid ls met before.written after.written) (lines_one ends e) (said_then so.said one.said (first_none so.met one.met) (second_none so.met one.met));
       whole = λ none quiet.
           let split = apart (refused_all false ends) e.became.closed e.damaged (refused_one false ends e ∙ quiet) in
           every_one IsWhole ends e (so.whole (first_none so.met one.met none) split.0)
@@ -108,27 +110,35 @@ endings_more {before = before} {old = old} {new = new} ends e so one files =
           (early.0, every_one (λ (x : Ended). IsTrue x.became.saved × IsTrue x.became.traced) ends e early.1 (last_one.1, last_one.2));
     }
 
--- Of objects of all these names, with these opening values and receipts, those before the rest are closed.
-pub record ClosedSoFar {H : Type 0} (backs : H → Assignment → Type 0) (agrees earlier : Assignment → Type 0) (pw pa tw ta : Papers → Type 0) (all rest : List (List ℕ)) (left : ℕ) (openings values : List Opening) (slips others : List (List Told)) (before after : Trouble) (kept_all keeps_all : Bool) (old new : Option (List ℕ)) : Type 0 where
-  pub ends : List Ended
-  pub named : names_of ends ++ rest ≡ all
-  pub counted : left ≡ length rest
-  pub opened : openings_of ends ++ values ≡ openings
-  pub slipped : slips_of ends ++ others ≡ slips
-  pub backed : AreBackedAll backs ends
-  pub endings : AreEndings agrees pw pa tw ta ends before after kept_all keeps_all old new
-  pub files : (a : Assignment) → agrees a → earlier a
+-- objects that are to be closed: their names, what they opened with, and the receipts of their sessions
+pub record Due : Type 0 where
+  pub names : List (List ℕ)
+  pub openings : List Opening
+  pub slips : List (List Told)
 
-pub closed_none : {H : Type 0} (backs : H → Assignment → Type 0) (agrees : Assignment → Type 0) (parts traces : Papers → Type 0) (all rest : List (List ℕ)) (left : ℕ) (openings values : List Opening) (slips others : List (List Told)) (t : Trouble) (kept_all : Bool) (known : Option (List ℕ)) →
-    rest ≡ all → left ≡ length rest → values ≡ openings → others ≡ slips → ClosedSoFar backs agrees agrees parts parts traces traces all rest left openings values slips others t t kept_all kept_all known known
-closed_none backs agrees parts traces all rest left openings values slips others t kept_all known same counted opened slipped = record {
+abbrev pub due_of : List (List ℕ) → List Opening → List (List Told) → Due
+due_of names openings slips = record { names = names; openings = openings; slips = slips }
+
+-- Of all these objects those before the rest are closed.
+pub record ClosedSoFar {H : Type 0} (backs : H → Assignment → Type 0) (before after : Moment) (all rest : Due) (left : ℕ) : Type 0 where
+  pub ends : List Ended
+  pub named : names_of ends ++ rest.names ≡ all.names
+  pub counted : left ≡ length rest.names
+  pub opened : openings_of ends ++ rest.openings ≡ all.openings
+  pub slipped : slips_of ends ++ rest.slips ≡ all.slips
+  pub backed : AreBackedAll backs ends
+  pub endings : AreEndings before after ends
+  pub files : (a : Assignment) → after.files a → before.files a
+
+pub closed_none : {H : Type 0} (backs : H → Assignment → Type 0) (m : Moment) (all rest : Due) (left : ℕ) → rest.names ≡ all.names → left ≡ length rest.names → rest.openings ≡ all.openings → rest.slips ≡ all.slips → ClosedSoFar backs m m all rest left
+closed_none backs m all rest left same counted opened slipped = record {
   ends = [];
   named = same;
   counted = counted;
   opened = opened;
   slipped = slipped;
   backed = tt;
-  endings = endings_none agrees parts traces t kept_all known;
+  endings = endings_none m;
   files = λ a is. is;
 }
 
@@ -138,18 +148,15 @@ one_more {X = X} of ends e later all rest x so is same =
     ap (λ (xs : List X). xs ++ later) (map-append of ends (e ∷ [])) ∙ append_assoc (map of ends) (of e ∷ []) later
     ∙ ap (λ (y : X). map of ends ++ (y ∷ later)) same ∙ ap (λ (xs : List X). map of ends ++ xs) (sym is) ∙ so
 
-pub closed_more : {H : Type 0} {backs : H → Assignment → Type 0} {then agrees earlier : Assignment → Type 0} {pw pm pa tw tm ta : Papers → Type 0} {all rest : List (List ℕ)} {left : ℕ} {openings values : List Opening} {slips others : List (List Told)} {before middle after : Trouble} {first mid last : Bool} {old known new : Option (List ℕ)} {seats : List Seat}
-    (name : List ℕ) (later : List (List ℕ)) (fewer : ℕ) (opening : Opening) (fewer_values : List Opening) (told : List Told) (fewer_slips : List (List Told)) (n : List ℕ) (o : Opening) (t : List Told) →
-    ClosedSoFar backs then earlier pw pm tw tm all rest left openings values slips others before middle first mid old known →
-    rest ≡ name ∷ later → fewer + 1 ≡ left → values ≡ opening ∷ fewer_values → others ≡ told ∷ fewer_slips → n ≡ name → o ≡ opening → t ≡ told → AreBacked backs t →
-    (e : Ended) × IsOf n o seats t e × IsEnding agrees pm pa tm ta e middle after mid last known new → ((a : Assignment) → agrees a → then a) →
-    ClosedSoFar backs agrees earlier pw pa tw ta all later fewer openings fewer_values slips fewer_slips before after first last old new
-closed_more {backs = backs} name later fewer opening fewer_values told fewer_slips n o t so is fewer_is values_are slips_are named opened slipped back (e, of, one) files = record {
+pub closed_more : {H : Type 0} {backs : H → Assignment → Type 0} {before mid after : Moment} {all rest : Due} {left : ℕ} {seats : List Seat} (name : List ℕ) (opening : Opening) (told : List Told) (later : Due) (fewer : ℕ) (n : List ℕ) (o : Opening) (t : List Told) → ClosedSoFar backs before mid all rest left →
+    rest.names ≡ name ∷ later.names → fewer + 1 ≡ left → rest.openings ≡ opening ∷ later.openings → rest.slips ≡ told ∷ later.slips → n ≡ name → o ≡ opening → t ≡ told → AreBacked backs t →
+    (e : Ended) × IsOf n o seats t e × Ends mid after e → ((a : Assignment) → after.files a → mid.files a) → ClosedSoFar backs before after all later fewer
+closed_more {backs = backs} name opening told later fewer n o t so is fewer_is values_are slips_are named opened slipped back (e, of, one) files = record {
   ends = so.ends ++ e ∷ [];
-  named = one_more (λ (x : Ended). x.name) so.ends e later _ _ name so.named is (of.named ∙ named);
+  named = one_more (λ (x : Ended). x.name) so.ends e later.names _ _ name so.named is (of.named ∙ named);
   counted = omega (arith, fewer_is, so.counted, ap length is);
-  opened = one_more (λ (x : Ended). x.opening) so.ends e fewer_values _ _ opening so.opened values_are (of.opened ∙ opened);
-  slipped = one_more (λ (x : Ended). x.slips) so.ends e fewer_slips _ _ told so.slipped slips_are (of.slipped ∙ slipped);
+  opened = one_more (λ (x : Ended). x.opening) so.ends e later.openings _ _ opening so.opened values_are (of.opened ∙ opened);
+  slipped = one_more (λ (x : Ended). x.slips) so.ends e later.slips _ _ told so.slipped slips_are (of.slipped ∙ slipped);
   backed = every_one (λ (x : Ended). AreBacked backs x.slips) so.ends e so.backed (subst (AreBacked backs) (sym of.slipped) back);
   endings = endings_more so.ends e so.endings one files;
   files = λ a at. so.files a (files a at);
@@ -163,13 +170,12 @@ no_rest (x ∷ xs) none = absurd (omega (arith, none))
 none_left : {X : Type 0} (xs rest all : List X) → xs ++ rest ≡ all → rest ≡ [] → xs ≡ all
 none_left {X = X} xs rest all so empty = sym (append-nil xs) ∙ ap (λ (r : List X). xs ++ r) (sym empty) ∙ so
 
-pub closed_all : {H : Type 0} {backs : H → Assignment → Type 0} {agrees earlier : Assignment → Type 0} {pw pa tw ta : Papers → Type 0} {all : List (List ℕ)} {openings : List Opening} {slips : List (List Told)} {before after : Trouble} {kept_all keeps_all : Bool} {old new : Option (List ℕ)} (rest : List (List ℕ)) (left : ℕ) (values : List Opening) (others : List (List Told)) →
-    ClosedSoFar backs agrees earlier pw pa tw ta all rest left openings values slips others before after kept_all keeps_all old new → left ≡ 0 → values ≡ [] → others ≡ [] → Closes backs agrees earlier pw pa tw ta all openings slips before after kept_all keeps_all old new
-closed_all rest left values others so none no_values no_others = record {
+pub closed_all : {H : Type 0} {backs : H → Assignment → Type 0} {before after : Moment} {all : Due} (rest : Due) (left : ℕ) → ClosedSoFar backs before after all rest left → left ≡ 0 → rest.openings ≡ [] → rest.slips ≡ [] → Closes backs before after all.names all.openings all.slips
+closed_all rest left so none no_values no_others = record {
   ends = so.ends;
-  named = none_left (names_of so.ends) rest _ so.named (no_rest rest (omega (arith, so.counted, none)));
-  opened = none_left (openings_of so.ends) values _ so.opened no_values;
-  slipped = none_left (slips_of so.ends) others _ so.slipped no_others;
+  named = none_left (names_of so.ends) rest.names _ so.named (no_rest rest.names (omega (arith, so.counted, none)));
+  opened = none_left (openings_of so.ends) rest.openings _ so.opened no_values;
+  slipped = none_left (slips_of so.ends) rest.slips _ so.slipped no_others;
   backed = so.backed;
   endings = so.endings;
   files = so.files;

@@ -6,6 +6,7 @@ use Rattle.std.specs.List.{concat}
 use Rattle.std.specs.Io.KnownBytes.{Appends, Keeps}
 use Rattle.std.proofs.lemmas.Bool.{true≢false}
 use Rattle.std.proofs.lemmas.List.{length-map}
+use Rattle.keep_core.specs.declared.close.Closing.{Closing}
 use Rattle.keep_core.specs.declared.open.NotOpened.{NotOpened}
 use Rattle.keep_core.specs.declared.open.NotOpened.TheVariants.{Damaged, Fault}
 use Rattle.keep_core.specs.declared.opening.Opening.{Opening}
@@ -17,7 +18,6 @@ use Rattle.decl_core.specs.declared.object.Object.{Object}
 use Rattle.decl_core.specs.ObjectMap.{object_names}
 use Rattle.board_core.specs.Lists.{Every}
 use Rattle.text_core.proofs.Known.{Appends-none}
-use Rattle.keep_core.specs.declared.trouble.Trouble.{Trouble}
 use Rattle.keep_core.specs.Lines.{AreSaid, damaged_lines, entries_line, entries_lines, refused_line}
 use Rattle.keep_core.specs.Kept.{refused_by}
 use Rattle.keep_core.specs.Ends.{Ended, IsAtEnd, kept_in, lines_of}
@@ -28,6 +28,7 @@ use Rattle.serve_core.specs.declared.serve.ServeEnd.TheVariants.{Whole, Refused,
 use Rattle.serve_core.specs.Ends.{IsEndOf}
 use Rattle.serve_core.specs.Backed.{AreBacked}
 use Rattle.serve_core.specs.Gathers.{none_of, IsGathered}
+use Rattle.serve_core.specs.Moments.{Moment}
 use Rattle.serve_core.specs.Opened.{AreLoadedAll, ArePinnedAll}
 use Rattle.serve_core.specs.Closes.{openings_of, slips_of, AreBackedAll, IsFromOpening, IsLegalBy, lines_all, entries_all, refused_all, IsWhole}
 use Rattle.serve_core.specs.Runs.{listening_line, fault_of_end, GathersAndCloses, AreServed, AreNotServed, IsDamagedLine, IsFirstDamagedLine, IsNotOpenedOf, IsLineOf, IsUnservedBy, IsRunOf, IsRunIn, IsRefusedBy, IsEndBehind}
@@ -94,25 +95,35 @@ from_opening agrees a (o ∷ objects) (e ∷ ends) is (one, each) (here, pinned)
 from_opening agrees a [] (e ∷ ends) is each pinned = absurd pinned
 from_opening agrees a (o ∷ objects) [] is each pinned = absurd pinned
 
+-- what closes objects is still as it was
+pub still_pinned : {S T K : Type 0} {old new : Closing S T K} (agrees : K → Assignment → Type 0) (objects : List Object) (openings : List Opening) → new ≡ old → ArePinnedAll (agrees old.hand) objects openings → ArePinnedAll (agrees new.hand) objects openings
+still_pinned {S = S} {T = T} {K = K} agrees objects openings same pinned = subst (λ (c : Closing S T K). ArePinnedAll (agrees c.hand) objects openings) (sym same) pinned
+
+pub still_parts : {S T K : Type 0} {old new : Closing S T K} (holds : S → Papers → Type 0) (papers : Papers) → new ≡ old → holds new.parts papers → holds old.parts papers
+still_parts {S = S} {T = T} {K = K} holds papers same at = subst (λ (c : Closing S T K). holds c.parts papers) same at
+
+pub still_traces : {S T K : Type 0} {old new : Closing S T K} (holds : T → Papers → Type 0) (papers : Papers) → new ≡ old → holds new.traces papers → holds old.traces papers
+still_traces {S = S} {T = T} {K = K} holds papers same at = subst (λ (c : Closing S T K). holds c.traces papers) same at
+
 -- objects that were served and closed
-pub run_served : {H : Type 0} {backs : H → Assignment → Type 0} {agrees mid : Assignment → Type 0} {pw pm pa tw tm ta : Papers → Type 0} {begun : Trouble} {kept_all keeps_all : Bool} {openings : List Opening} {were are : List H} {old known new : Option (List ℕ)} (objects : List Object) (names : List (List ℕ)) (after : Trouble) (end : Result ServeEnd LinesFault) →
-    (place : List ℕ) → AreSaid (listening_line place ∷ []) None old known → GathersAndCloses backs agrees mid pm pa tm ta names openings begun after kept_all keeps_all known new → names ≡ object_names objects → ArePinnedAll mid objects openings → ((papers : Papers) → pm papers → AreLoadedAll papers objects openings) → ((papers : Papers) → pm papers → pw papers) →
-    ((papers : Papers) → tm papers → tw papers) → IsEndOf after.fault after.refused end → IsRunIn backs agrees pw pa tw ta were are objects end old new
-run_served {H = H} {backs = backs} {agrees = agrees} {mid = mid} {begun = begun} {openings = openings} {old = old} {new = new} objects names after end place listens s same pinned loaded papers traces is =
+pub run_served : {H : Type 0} {backs : H → Assignment → Type 0} {before mid after : Moment} {openings : List Opening} {were are : List H} (objects : List Object) (names : List (List ℕ)) (end : Result ServeEnd LinesFault) → (place : List ℕ) → AreSaid (listening_line place ∷ []) None before.written mid.written →
+    GathersAndCloses backs mid after names openings → names ≡ object_names objects → ArePinnedAll mid.files objects openings → ((papers : Papers) → mid.parts papers → AreLoadedAll papers objects openings) → ((papers : Papers) → mid.parts papers → before.parts papers) →
+    ((papers : Papers) → mid.traces papers → before.traces papers) → IsEndOf after.trouble.fault after.trouble.refused end → IsRunIn backs before after were are objects end
+run_served {H = H} {backs = backs} {before = before} {mid = mid} {after = after} {openings = openings} objects names end place listens s same pinned loaded papers traces is =
     let ends : List Ended = s.closes.ends in
     let all = s.closes.endings in
-    let met_none : fault_of_end end ≡ None → all.met ≡ None = λ none. second_none s.gathered.fault all.met (sym all.fault ∙ end_quiet after.fault after.refused end is none) in
-    let said : AreSaid (listening_line place ∷ lines_all ends) (fault_of_end end) old new = said_then listens all.said (λ none. refl) met_none in
-    let whole : end ≡ Ok Whole → Every IsWhole ends × Appends old new (concat (listening_line place ∷ entries_all ends)) = λ done.
-    let quiet = data_whole after.fault after.refused end is done in
+    let met_none : fault_of_end end ≡ None → all.met ≡ None = λ none. second_none s.gathered.fault all.met (sym all.fault ∙ end_quiet after.trouble.fault after.trouble.refused end is none) in
+    let said : AreSaid (listening_line place ∷ lines_all ends) (fault_of_end end) before.written after.written = said_then listens all.said (λ none. refl) met_none in
+    let whole : end ≡ Ok Whole → Every IsWhole ends × Appends before.written after.written (concat (listening_line place ∷ entries_all ends)) = λ done.
+    let quiet = data_whole after.trouble.fault after.trouble.refused end is done in
     let each : Every IsWhole ends = all.whole (second_none s.gathered.fault all.met (sym all.fault ∙ quiet.0)) (apart_all s.gathered.refused ends (sym all.refused ∙ quiet.1)) in
     let text : said.text ≡ concat (listening_line place ∷ entries_all ends) = said.whole (ap fault_of_end done) ∙ ap (λ (ls : List (List ℕ)). concat (listening_line place ∷ ls)) (whole_all ends each) in
-    (each, subst (Appends old new) text said.written) in
+    (each, subst (Appends before.written after.written) text said.written) in
     let many : length names ≡ length objects = omega (arith, ap length same, length-map objects (λ (o : Object). o.name)) in
-    let gathers : IsGathered H (none_of (length objects)) begun s.gathered (slips_of ends) =
-    subst (λ (n : ℕ). IsGathered H (none_of n) begun s.gathered (slips_of ends)) many (subst (IsGathered H (none_of (length names)) begun s.gathered) (sym s.closes.slipped) s.gathers) in
+    let gathers : IsGathered H (none_of (length objects)) mid.trouble s.gathered (slips_of ends) =
+    subst (λ (n : ℕ). IsGathered H (none_of n) mid.trouble s.gathered (slips_of ends)) many (subst (IsGathered H (none_of (length names)) mid.trouble s.gathered) (sym s.closes.slipped) s.gathers) in
     let opened : openings ≡ openings_of ends = sym s.closes.opened in
-    let sealed : ArePinnedAll agrees objects (openings_of ends) = subst (ArePinnedAll agrees objects) opened (pinned_as mid agrees objects openings s.closes.files pinned) in
+    let sealed : ArePinnedAll after.files objects (openings_of ends) = subst (ArePinnedAll after.files objects) opened (pinned_as mid.files after.files objects openings s.closes.files pinned) in
     inl (
       record {
         place = place;
@@ -120,17 +131,17 @@ run_served {H = H} {backs = backs} {agrees = agrees} {mid = mid} {begun = begun}
         named = s.closes.named ∙ same;
         each = all.each;
         said = said;
-        begun = begun;
+        begun = mid.trouble;
         gathered = s.gathered;
         gathers = gathers;
         legal = legal_all backs ends all.each s.closes.backed;
         met = all.met;
-        by = inl (subst (λ (f : Option LinesFault). IsEndOf f (refused_all s.gathered.refused ends) end) all.fault (subst (λ (r : Bool). IsEndOf after.fault r end) all.refused is));
+        by = inl (subst (λ (f : Option LinesFault). IsEndOf f (refused_all s.gathered.refused ends) end) all.fault (subst (λ (r : Bool). IsEndOf after.trouble.fault r end) all.refused is));
         whole = whole;
       },
       record {
         pinned = sealed;
-        legal = λ a is. from_opening agrees a objects ends is all.each sealed;
+        legal = λ a is. from_opening after.files a objects ends is all.each sealed;
         stored = λ ps at.
             let so = all.stored ps at in
             (so.0, papers so.0 so.1, subst (AreLoadedAll so.0 objects) opened (loaded so.0 so.1), so.2);
@@ -191,9 +202,9 @@ pub not_opened : {old new : Option (List ℕ)} (holds : Papers → Type 0) (obje
 not_opened holds objects why end not run = not_served_as (IsLineOf why) (IsFirstDamagedLine holds objects) end (line_is holds objects why not) run
 
 -- what a server comes to, without what is stored
-pub run_of : {H : Type 0} {backs : H → Assignment → Type 0} {agrees : Assignment → Type 0} {pw pa tw ta : Papers → Type 0} {were are : List H} {objects : List Object} {end : Result ServeEnd LinesFault} {old new : Option (List ℕ)} → IsRunIn backs agrees pw pa tw ta were are objects end old new → IsRunOf backs objects end old new
+pub run_of : {H : Type 0} {backs : H → Assignment → Type 0} {before after : Moment} {were are : List H} {objects : List Object} {end : Result ServeEnd LinesFault} → IsRunIn backs before after were are objects end → IsRunOf backs objects end before.written after.written
 run_of (inl run) = inl run.0
-run_of {pa = pa} {objects = objects} {end = end} (inr run) = inr (not_served_as (IsFirstDamagedLine pa objects) (IsDamagedLine objects) end (λ line is. (is.0, is.1, is.2, is.3)) run.0)
+run_of {after = after} {objects = objects} {end = end} (inr run) = inr (not_served_as (IsFirstDamagedLine after.parts objects) (IsDamagedLine objects) end (λ line is. (is.0, is.1, is.2, is.3)) run.0)
 
 -- memory was refused behind the end
 unserved_failed : (damaged : List ℕ → Type 0) (lines : List (List ℕ)) (end : Result ServeEnd LinesFault) → IsUnservedBy damaged lines end → IsUnservedBy damaged lines (Err Memory)
@@ -218,14 +229,14 @@ served_memory objects end run = record {
   whole = λ done. met_not (ap fault_of_end done);
 }
 
-run_memory : {H : Type 0} {backs : H → Assignment → Type 0} {agrees : Assignment → Type 0} {pw pa tw ta : Papers → Type 0} {were are : List H} {old new : Option (List ℕ)} (objects : List Object) (end : Result ServeEnd LinesFault) → IsRunIn backs agrees pw pa tw ta were are objects end old new → IsRunIn backs agrees pw pa tw ta were are objects (Err Memory) old new
+run_memory : {H : Type 0} {backs : H → Assignment → Type 0} {before after : Moment} {were are : List H} (objects : List Object) (end : Result ServeEnd LinesFault) → IsRunIn backs before after were are objects end → IsRunIn backs before after were are objects (Err Memory)
 unfolding served_memory
 run_memory objects end (inl (run, kept)) = inl (served_memory objects end run, kept)
-run_memory {pa = pa} objects end (inr (run, same)) = inr (record { lines = run.lines; by = unserved_failed (IsFirstDamagedLine pa objects) run.lines end run.by; said = said_as run.said (λ none. met_not none) }, same)
+run_memory {after = after} objects end (inr (run, same)) = inr (record { lines = run.lines; by = unserved_failed (IsFirstDamagedLine after.parts objects) run.lines end run.by; said = said_as run.said (λ none. met_not none) }, same)
 
-pub run_behind : {H : Type 0} {backs : H → Assignment → Type 0} {agrees : Assignment → Type 0} {pw pa tw ta : Papers → Type 0} {were are : List H} {old new : Option (List ℕ)} (objects : List Object) (before end : Result ServeEnd LinesFault) → IsRunIn backs agrees pw pa tw ta were are objects before old new → IsEndBehind before end → IsRunIn backs agrees pw pa tw ta were are objects end old new
-run_behind {backs = backs} {agrees = agrees} {pw = pw} {pa = pa} {tw = tw} {ta = ta} {were = were} {are = are} {old = old} {new = new} objects before end run (inl same) = subst (λ (e : Result ServeEnd LinesFault). IsRunIn backs agrees pw pa tw ta were are objects e old new) (sym same) run
-run_behind {backs = backs} {agrees = agrees} {pw = pw} {pa = pa} {tw = tw} {ta = ta} {were = were} {are = are} {old = old} {new = new} objects before end run (inr none) = subst (λ (e : Result ServeEnd LinesFault). IsRunIn backs agrees pw pa tw ta were are objects e old new) (sym none) (run_memory objects before run)
+pub run_behind : {H : Type 0} {backs : H → Assignment → Type 0} {before after : Moment} {were are : List H} (objects : List Object) (first end : Result ServeEnd LinesFault) → IsRunIn backs before after were are objects first → IsEndBehind first end → IsRunIn backs before after were are objects end
+run_behind {backs = backs} {before = before} {after = after} {were = were} {are = are} objects first end run (inl same) = subst (IsRunIn backs before after were are objects) (sym same) run
+run_behind {backs = backs} {before = before} {after = after} {were = were} {are = are} objects first end run (inr none) = subst (IsRunIn backs before after were are objects) (sym none) (run_memory {backs = backs} {before = before} {after = after} {were = were} {are = are} objects first run)
 
 -- what a good result says, and what follows from that
 pub if_ok : {X E : Type 0} {P Q : X → Type 0} (result : Result X E) → ((x : X) → P x → Q x) → IfOk result P → IfOk result Q

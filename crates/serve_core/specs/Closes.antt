@@ -10,13 +10,13 @@ use Rattle.board_core.specs.Chain.{ShowContents, history_of}
 use Rattle.board_core.specs.Sound.{kinds_of}
 use Rattle.office_core.specs.Slips.{Told, IsTrueTold}
 use Rattle.keep_core.specs.declared.opening.Opening.{Opening}
-use Rattle.keep_core.specs.declared.trouble.Trouble.{Trouble}
 use Rattle.keep_core.specs.Opening.{values_of}
 use Rattle.keep_core.specs.Troubles.{first_of}
 use Rattle.keep_core.specs.Lines.{AreSaid, IsOfClosing, entries_line}
 use Rattle.keep_core.specs.Kept.{AreStored, stored_times, once}
 use Rattle.keep_core.specs.Ends.{Ended, IsAtEnd, IsKept, lines_of, refused_after, trace_of}
 use Rattle.serve_core.specs.Backed.{AreBacked, AreBackedBy}
+use Rattle.serve_core.specs.Moments.{Moment}
 
 -- the names of objects that have ended
 abbrev pub names_of : List Ended → List (List ℕ)
@@ -85,33 +85,29 @@ IsWhole e = IsKept e.became × (e.damaged ≡ [])
 
 -- What closing objects, one after the other, comes to: the first fault that was met, what was told and
 -- noted, and what is stored.
-pub record AreEndings (agrees : Assignment → Type 0) (parts_were parts_are traces_were traces_are : Papers → Type 0)
-    (ends : List Ended) (before after : Trouble) (kept_all keeps_all : Bool) (old new : Option (List ℕ)) : Type 0 where
+pub record AreEndings (before after : Moment) (ends : List Ended) : Type 0 where
   pub each : Every IsAtEnd ends
   pub met : Option LinesFault
   pub closing : IsOfClosing met
-  pub fault : after.fault ≡ first_of before.fault met
-  pub refused : after.refused ≡ refused_all before.refused ends
-  pub said : AreSaid (lines_all ends) met old new
+  pub fault : after.trouble.fault ≡ first_of before.trouble.fault met
+  pub refused : after.trouble.refused ≡ refused_all before.trouble.refused ends
+  pub said : AreSaid (lines_all ends) met before.written after.written
   pub whole : met ≡ None → refused_all false ends ≡ false → Every IsWhole ends
-  pub stored : (papers : Papers) → parts_are papers →
-      (base : Papers) × parts_were base × AreStoredAll agrees base ends papers
-  pub traced : (papers : Papers) → traces_are papers →
-      (base : Papers) × traces_were base × AreTracedAll base ends papers
-  pub keeps : IsTrue keeps_all → IsTrue kept_all
+  pub stored : (papers : Papers) → after.parts papers →
+      (base : Papers) × before.parts base × AreStoredAll after.files base ends papers
+  pub traced : (papers : Papers) → after.traces papers →
+      (base : Papers) × before.traces base × AreTracedAll base ends papers
+  pub keeps : IsTrue after.keeps_all → IsTrue before.keeps_all
       × Every (λ (e : Ended). IsTrue e.became.saved × IsTrue e.became.traced) ends
 
 -- Objects of these names were closed, each with what its parts opened with and the receipts that its sessions left, and
 -- hands show that these are true.
-pub record Closes {H : Type 0} (backs : H → Assignment → Type 0) (agrees earlier : Assignment → Type 0)
-    (parts_were parts_are traces_were traces_are : Papers → Type 0) (names : List (List ℕ))
-    (openings : List Opening) (slips : List (List Told)) (before after : Trouble) (kept_all keeps_all : Bool)
-    (old new : Option (List ℕ)) : Type 0 where
+pub record Closes {H : Type 0} (backs : H → Assignment → Type 0) (before after : Moment) (names : List (List ℕ))
+    (openings : List Opening) (slips : List (List Told)) : Type 0 where
   pub ends : List Ended
   pub named : names_of ends ≡ names
   pub opened : openings_of ends ≡ openings
   pub slipped : slips_of ends ≡ slips
   pub backed : AreBackedAll backs ends
-  pub endings : AreEndings agrees parts_were parts_are traces_were traces_are ends before after kept_all keeps_all old
-      new
-  pub files : (a : Assignment) → agrees a → earlier a
+  pub endings : AreEndings before after ends
+  pub files : (a : Assignment) → after.files a → before.files a

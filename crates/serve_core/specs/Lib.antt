@@ -1,4 +1,5 @@
 pub mod Backed
+pub mod Moments
 pub mod Handled
 pub mod Ends
 pub mod Opened

@@ -26,6 +26,7 @@ use Rattle.serve_core.specs.declared.serve.ServeEnd.{ServeEnd}
 use Rattle.serve_core.specs.declared.serve.ServeEnd.TheVariants.{Whole, Refused, Unopened}
 use Rattle.serve_core.specs.Ends.{IsEndOf}
 use Rattle.serve_core.specs.Gathers.{none_of, IsGathered}
+use Rattle.serve_core.specs.Moments.{Moment, with_trouble}
 use Rattle.serve_core.specs.Opened.{AreLoadedAll, ArePinnedAll}
 use Rattle.serve_core.specs.Closes.{names_of, openings_of, slips_of, lines_all, entries_all, refused_all, IsWhole}
 use Rattle.serve_core.specs.Closes.{AreStoredAll, AreTracedAll, IsFromOpening, IsLegalBy, Closes}
@@ -64,15 +65,12 @@ fault_of_end (Ok end) = None
 fault_of_end (Err fault) = Some fault
 
 -- What the sessions left of objects under these names was gathered, and then they were closed.
-pub record GathersAndCloses {H : Type 0} (backs : H → Assignment → Type 0) (agrees earlier : Assignment → Type 0)
-    (parts_were parts_are traces_were traces_are : Papers → Type 0) (names : List (List ℕ))
-    (openings : List Opening) (before after : Trouble) (kept_all keeps_all : Bool)
-    (old new : Option (List ℕ)) : Type 0 where
+pub record GathersAndCloses {H : Type 0} (backs : H → Assignment → Type 0) (before after : Moment)
+    (names : List (List ℕ)) (openings : List Opening) : Type 0 where
   pub gathered : Trouble
   pub slips : List (List Told)
-  pub gathers : IsGathered H (none_of (length names)) before gathered slips
-  pub closes : Closes backs agrees earlier parts_were parts_are traces_were traces_are names openings slips gathered
-      after kept_all keeps_all old new
+  pub gathers : IsGathered H (none_of (length names)) before.trouble gathered slips
+  pub closes : Closes backs (with_trouble before gathered) after names openings slips
 
 -- These objects were served: `listening PLACE` is written, and then, for each object in order, the lines for how it
 -- ended. The end is the first fault, those of sessions before those of the objects' ends; else refused, where a line
@@ -99,15 +97,14 @@ pub record AreServed {H : Type 0} (backs : H → Assignment → Type 0) (objects
 -- What is stored of objects that have ended. The parts of each opened with what the shelf had before, pages were sealed
 -- with that, and it stands at the head of the trace. Where an object was closed, its history is legal from that. What is
 -- stored then are the bytes under the pins at the end.
-pub record AreKept (agrees : Assignment → Type 0) (parts_were parts_are traces_were traces_are : Papers → Type 0)
-    (objects : List Object) (ends : List Ended) : Type 0 where
-  pub pinned : ArePinnedAll agrees objects (openings_of ends)
-  pub legal : (a : Assignment) → agrees a → Every (IsFromOpening a) ends
-  pub stored : (papers : Papers) → parts_are papers →
-      (base : Papers) × parts_were base × AreLoadedAll base objects (openings_of ends)
-      × AreStoredAll agrees base ends papers
-  pub traced : (papers : Papers) → traces_are papers →
-      (base : Papers) × traces_were base × AreTracedAll base ends papers
+pub record AreKept (before after : Moment) (objects : List Object) (ends : List Ended) : Type 0 where
+  pub pinned : ArePinnedAll after.files objects (openings_of ends)
+  pub legal : (a : Assignment) → after.files a → Every (IsFromOpening a) ends
+  pub stored : (papers : Papers) → after.parts papers →
+      (base : Papers) × before.parts base × AreLoadedAll base objects (openings_of ends)
+      × AreStoredAll after.files base ends papers
+  pub traced : (papers : Papers) → after.traces papers →
+      (base : Papers) × before.traces base × AreTracedAll base ends papers
 
 -- What is written where no object is served: such a line of a part that is damaged, or nothing; where a fault comes a
 -- front of one line at most.
@@ -133,12 +130,11 @@ IsRunOf backs objects end old new =
 
 -- The same, with what is stored, and a damaged part is the first one by what is stored. Where they are not served, no
 -- session was: the hands for these are as they were.
-abbrev pub IsRunIn : {H : Type 0} → (H → Assignment → Type 0) → (Assignment → Type 0) → (Papers → Type 0) →
-    (Papers → Type 0) → (Papers → Type 0) → (Papers → Type 0) → List H → List H → List Object →
-    Result ServeEnd LinesFault → Option (List ℕ) → Option (List ℕ) → Type 0
-IsRunIn backs agrees pw pa tw ta were are objects end old new =
-    ((run : AreServed backs objects end old new) × AreKept agrees pw pa tw ta objects run.ends)
-    ⊎ (AreNotServed (IsFirstDamagedLine pa objects) end old new × (are ≡ were))
+abbrev pub IsRunIn : {H : Type 0} → (H → Assignment → Type 0) → Moment → Moment → List H → List H → List Object →
+    Result ServeEnd LinesFault → Type 0
+IsRunIn backs before after were are objects end =
+    ((run : AreServed backs objects end before.written after.written) × AreKept before after objects run.ends)
+    ⊎ (AreNotServed (IsFirstDamagedLine after.parts objects) end before.written after.written × (are ≡ were))
 
 -- an end that says that something is refused, or that writing so failed
 abbrev pub IsRefusal : Result ServeEnd LinesFault → Type 0

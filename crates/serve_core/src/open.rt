@@ -7,14 +7,13 @@ ghost use Rattle.decl_core.specs.ObjectMap.{object_names};
 ghost use Rattle.serve_core.specs.Opened.{AreLoadedAll, ArePinnedAll};
 ghost use Rattle.serve_core.specs.Runs.{named_in, IsNotOpenedOf};
 
+use crate::host::Host;
 use decl_core::analyse::Accepted;
 use device_core::hand::Hand;
 use device_core::shelf::Shelf;
-use keep_core::close::Closing;
 use keep_core::open::{NotOpened, Opened};
 use keep_core::opening::Opening;
 use session_core::order::Named;
-use std::alloc::Global;
 use text_core::LinesFault;
 
 /// What is served: the offices of the objects, and what the parts of each of them opened with.
@@ -47,40 +46,40 @@ fn add(served: &mut Served, opened: Opened) -> Result<(), NotOpened>
     Ok(())
 }
 
-/// Opens each object, in order: its parts begin with what the shelf has under their names, and pages of these values
-/// are sealed by the hand.
-///
-/// The first fault ends it: files that were sealed before it are left.
-pub fn open_all<S: Shelf + Drop, T: Shelf + Drop, K: Hand + Drop>(
-    alloc: Global,
-    ready: Vec<Accepted>,
-    closing: &mut Closing<S, T, K>,
-) -> Result<Served, NotOpened>
-    ensures named { IfOk result (λ s. named_in s.offices.items ≡ object_names ready.items) }
-    // As many openings as offices, each with what its object's parts began with.
-    ensures many { IfOk result (λ s. length s.openings.items ≡ length s.offices.items) }
-    ensures loaded { IfOk result (λ s. (papers : Papers) → S.holds closing.new.parts papers →
-        AreLoadedAll papers ready.items s.openings.items) }
-    ensures pinned { IfOk result (λ s. ArePinnedAll (K.agrees closing.new.hand) ready.items s.openings.items) }
-    ensures papers { (papers : Papers) → S.holds closing.new.parts papers → S.holds closing.old.parts papers }
-    ensures files { (a : Assignment) → K.agrees closing.new.hand a → K.agrees closing.old.hand a }
-    ensures traces { closing.new.traces ≡ closing.old.traces }
-    ensures trouble { closing.new.trouble ≡ closing.old.trouble }
-    ensures not { IfErr result (IsNotOpenedOf (S.holds closing.new.parts) ready.items) }
-{
-    let mut served = Served {
-        offices: Vec::new(alloc),
-        openings: Vec::new(alloc),
-    };
-    for accepted in ready {
-        let opened = match closing.open(accepted) {
-            Ok(opened) => opened,
-            Err(why) => return Err(why),
+impl<S: Shelf + Drop, T: Shelf + Drop, K: Hand + Drop, H: Hand + Drop> Host<S, T, K, H> {
+    /// Opens each object, in order: its parts begin with what the shelf has under their names, and pages of these values
+    /// are sealed by the hand.
+    ///
+    /// The first fault ends it: files that were sealed before it are left.
+    pub(crate) fn open(&mut self, ready: Vec<Accepted>) -> Result<Served, NotOpened>
+        ensures named { IfOk result (λ s. named_in s.offices.items ≡ object_names ready.items) }
+        // As many openings as offices, each with what its object's parts began with.
+        ensures many { IfOk result (λ s. length s.openings.items ≡ length s.offices.items) }
+        ensures loaded { IfOk result (λ s. (papers : Papers) → S.holds self.new.closing.parts papers →
+            AreLoadedAll papers ready.items s.openings.items) }
+        ensures pinned { IfOk result (λ s. ArePinnedAll (K.agrees self.new.closing.hand) ready.items s.openings.items) }
+        ensures papers { (papers : Papers) → S.holds self.new.closing.parts papers →
+            S.holds self.old.closing.parts papers }
+        ensures files { (a : Assignment) → K.agrees self.new.closing.hand a → K.agrees self.old.closing.hand a }
+        ensures traces { self.new.closing.traces ≡ self.old.closing.traces }
+        ensures trouble { self.new.closing.trouble ≡ self.old.closing.trouble }
+        ensures hands { self.new.hands.items ≡ self.old.hands.items }
+        ensures not { IfErr result (IsNotOpenedOf (S.holds self.new.closing.parts) ready.items) }
+    {
+        let mut served = Served {
+            offices: Vec::new(self.alloc),
+            openings: Vec::new(self.alloc),
         };
-        match add(&mut served, opened) {
-            Ok(()) => {}
-            Err(why) => return Err(why),
+        for accepted in ready {
+            let opened = match self.closing.open(accepted) {
+                Ok(opened) => opened,
+                Err(why) => return Err(why),
+            };
+            match add(&mut served, opened) {
+                Ok(()) => {}
+                Err(why) => return Err(why),
+            }
         }
+        Ok(served)
     }
-    Ok(served)
 }

@@ -7,7 +7,7 @@ pub returns-in-Err : goal.returns-in-Err
 returns-in-Err g c = inr (run_none _ Memory)
 
 pub returns : goal.returns
-returns g c = run_of c.serve_keeping.ensures.run
+returns g c = run_of c.serve_over.ensures.run
 
 pub returns-in-Err-values_in : goal.returns-in-Err-values_in
 returns-in-Err-values_in g c = inr (run_none _ Memory)

@@ -3,7 +3,7 @@ use Rattle.text_core.specs.declared.machine.LinesFault.TheVariants.{Memory}
 use Rattle.keep_core.proofs.Telling.{line_told, write_told}
 use Rattle.serve_core.proofs.Running.{none_said}
 use Rattle.serve_core.specs.Runs.{listening_line}
-use Rattle.serve_core.proofs.serve.tell_port.Goals as goal
+use Rattle.serve_core.proofs.host.Host.listen.Goals as goal
 
 pub returns-in-Err : goal.returns-in-Err
 returns-in-Err g c = ([], none_said (listening_line []) Memory (g.W.Write.contents c.args.writer.now))

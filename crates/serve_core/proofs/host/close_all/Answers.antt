@@ -5,7 +5,7 @@ use Rattle.serve_core.specs.Gathers.{slips_in}
 use Rattle.serve_core.specs.Runs.{named_in}
 use Rattle.serve_core.proofs.Steps.{step_some, step_none}
 use Rattle.serve_core.proofs.Closing.{closed_none, closed_more, closed_all, no_rest}
-use Rattle.serve_core.proofs.serve.close_all.Goals as goal
+use Rattle.serve_core.proofs.host.close_all.Goals as goal
 
 pub loop-named-init : goal.loop-named-init
 loop-named-init g c =
@@ -14,7 +14,7 @@ loop-named-init g c =
     let left = c.into_iter-left.ensures in
     let count = c.args.served.offices.ok.0 in
     record {
-      so = closed_none g.H.Hand.agrees _ _ _ _ _ _ _ _ _ _ _ _ _ (ap named_in gives.0) (omega (arith, gives.1, ap length gives.0, count, length-map c.args.served.offices.items (λ (n : Named). n.name), ap length (ap named_in gives.0)))
+      so = closed_none g.H.Hand.agrees _ _ _ _ (ap named_in gives.0) (omega (arith, gives.1, ap length gives.0, count, length-map c.args.served.offices.items (λ (n : Named). n.name), ap length (ap named_in gives.0)))
           values.rest (ap slips_in left.rest);
       values = omega (arith, gives.1, values.len, count, c.args.served.openings.ok.0, c.requires.openings);
       values_items = omega (arith, gives.1, ap length values.rest, count, c.requires.openings);
@@ -30,7 +30,7 @@ loop-named-preserved g c =
     let was = c.loop-named.invariant in
     let made = c.ending_of-ending.ensures in
     record {
-      so = closed_more c.in-Some.named.name _ _ _ _ _ _ c.ending_of-ending.result.name c.ending_of-ending.result.opening c.ending_of-ending.result.receipts.items was.so
+      so = closed_more c.in-Some.named.name _ _ _ _ c.ending_of-ending.result.name c.ending_of-ending.result.opening c.ending_of-ending.result.receipts.items was.so
           (ap named_in step.0) step.1 values.0 (ap slips_in left.0) made.name made.opening made.slips made.backed c.close_one.ensures.ended c.close_one.ensures.files;
       values = omega (arith, step.1, values.1, was.values);
       values_items = omega (arith, step.1, ap length values.0, was.values_items);
@@ -52,4 +52,4 @@ pub returns : goal.returns
 returns g c =
     let none = step_none c.loop-named.named-iterator c.next.new.self _ c.in-None.is c.next.ensures.steps in
     let was = c.loop-named.invariant in
-    closed_all _ _ _ _ was.so none (no_rest _ (omega (arith, none, was.values_items))) (ap slips_in (no_rest _ (omega (arith, none, was.left_items))))
+    closed_all _ _ was.so none (no_rest _ (omega (arith, none, was.values_items))) (ap slips_in (no_rest _ (omega (arith, none, was.left_items))))

@@ -2,16 +2,17 @@ use Rattle.std.proofs.Common.{◌∙◌, ap, sym, subst, refl, length, arith}
 use Rattle.serve_core.specs.Runs.{named_in, IsNotOpenedOf}
 use Rattle.serve_core.proofs.Steps.{step_some, step_none}
 use Rattle.serve_core.proofs.Opening.{opened_none, opened_more, opened_all, loaded_all, pinned_all, opened_not}
-use Rattle.serve_core.proofs.open.open_all.Goals as goal
+use Rattle.serve_core.proofs.host.Host.open.Goals as goal
 
 pub loop-accepted-init : goal.loop-accepted-init
 loop-accepted-init g c =
     let gives = c.into_iter-accepted-iterator.ensures.into_iter_gives in
     record {
-      so = opened_none (g.S.Shelf.holds c.args.closing.now.parts) (g.K.Hand.agrees c.args.closing.now.hand) _ _ _ _ _ gives.0 (omega (arith, gives.1, ap length gives.0, c.args.ready.ok.0)) (ap named_in c.new.ensures.items) c.new-2.ensures.items;
+      so = opened_none (g.S.Shelf.holds c.args.self.now.closing.parts) (g.K.Hand.agrees c.args.self.now.closing.hand) _ _ _ _ _ gives.0 (omega (arith, gives.1, ap length gives.0, c.args.ready.ok.0)) (ap named_in c.new.ensures.items) c.new-2.ensures.items;
       many = ap length c.new-2.ensures.items ∙ sym (ap length c.new.ensures.items);
       traces = refl;
       trouble = refl;
+      hands = refl;
     }
 
 pub loop-accepted-preserved : goal.loop-accepted-preserved
@@ -24,6 +25,7 @@ loop-accepted-preserved g c =
       many = c.in-Ok-add.ensures.many c.loop-accepted.invariant.many;
       traces = c.in-Ok.ensures.traces ∙ c.loop-accepted.invariant.traces;
       trouble = c.in-Ok.ensures.trouble ∙ c.loop-accepted.invariant.trouble;
+      hands = c.loop-accepted.invariant.hands;
     }
 
 pub returns-in-Err-clause-not : goal.returns-in-Err-clause-not
