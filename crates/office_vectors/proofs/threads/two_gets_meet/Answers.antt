@@ -1,7 +1,7 @@
 use denote.Param.Send.{sendable}
 use Rattle.std.proofs.Crossing.{crosses}
 use Rattle.office_core.proofs.Sending.{office_sync}
-use Rattle.office_vectors.proofs.meeting.two_gets_meet.Goals as goal
+use Rattle.office_vectors.proofs.threads.two_gets_meet.Goals as goal
 
 -- a closure over the office may run in another thread
 pub join-first-requires-send-F : goal.join-first-requires-send-F

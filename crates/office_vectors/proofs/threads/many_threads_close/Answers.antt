@@ -2,7 +2,7 @@ use denote.Param.Send.{sendable}
 use Rattle.std.proofs.Crossing.{crosses}
 use Rattle.board_core.proofs.Sending.{receipt_send}
 use Rattle.office_core.proofs.Sending.{office_sync}
-use Rattle.office_vectors.proofs.many.many_threads_close.Goals as goal
+use Rattle.office_vectors.proofs.threads.many_threads_close.Goals as goal
 
 -- what a thread has at its end comes back
 pub map_indices-all-requires-send-X : goal.map_indices-all-requires-send-X
