@@ -1,12 +1,10 @@
 //! Clients to whom nothing can be written, while a call of theirs waits.
 
-use crate::make::{STEPS, TURNS, ZERO, offices, serve};
-use crate::streams::{Short, await_lines};
+use crate::make::{STEPS, TURNS, ZERO, begun, offices, serve};
+use crate::streams::{Short, await_within, counter, shared};
 use device_core::memory::MemHand;
-use office_core::office::Office;
-use office_core::seat::{Seat, Started, Submitted, Tried};
+use office_core::seat::Seat;
 use run_core::at_once::run_at_once;
-use run_core::ticket::Ticket;
 use session_core::end::SessionEnd;
 use session_core::order::Named;
 use session_core::serve::Connection;
@@ -18,8 +16,10 @@ use std::sync::{Arc, Wait};
 use std::thread::Threads;
 use std::time::Clock;
 
-// So often a reader pauses before its input ends: a session that does not end by then does not end by itself.
-const PAUSES: u32 = 10;
+// So often a reader pauses before its input ends, so long: a session that does not end by then does not end by itself.
+const PAUSES: u32 = 100;
+
+const PAUSE_TURNS: u64 = 1_000_000_000;
 
 // A reader of one piece, which then pauses, each time for a while, and says when its input ends.
 #[derive(Drop)]
@@ -42,7 +42,7 @@ impl Read for Silent {
             return Ok(0);
         }
         self.pauses -= 1;
-        await_lines(&self.ended, 1);
+        await_within(&self.ended, 1, PAUSE_TURNS);
         Err(io::Error::from(io::ErrorKind::WouldBlock))
     }
 }
@@ -56,11 +56,11 @@ fn visits<R: Abort + Threads + Wait + Clock + Sync>(
     hand: MemHand,
     text: &'static [u8],
 ) -> (Option<Seat>, MemHand) {
-    let ended = Arc::new(alloc, AtomicU64::new(0)).expect(rt, "memory");
+    let ended = counter(rt, alloc);
     let reader = Silent {
         text,
         pauses: PAUSES,
-        ended: Arc::try_clone(&ended).expect(rt, "memory"),
+        ended: shared(rt, &ended),
     };
     let writer = Short {
         bytes: Vec::new(alloc),
@@ -92,33 +92,6 @@ fn a_client_that_hears_nothing_is_let_go_alone(rt: HostRuntime) {
     assert!(rt; first.session() == 1 && seat.session() == 2);
     assert!(rt; named.office.kept(&rt, &first, 1, "b", &[]).is_ok());
     assert!(rt; named.office.kept(&rt, &seat, 1, "b", &[]).is_err());
-}
-
-// Waits for a call that waits.
-fn awaited<R: Wait>(rt: &R, office: &Office, submitted: Submitted) -> Option<Ticket> {
-    let mut submitted = submitted;
-    for _ in rt.forever() {
-        match office.await_start(rt, submitted) {
-            Started::Ticket(ticket) => return Some(ticket),
-            Started::Cancelled => return None,
-            Started::Stranger(back) => submitted = back,
-        }
-    }
-    unreachable!()
-}
-
-// The ticket of a call of `a`, which starts at once.
-fn begun<R: Abort + Wait + Clock>(rt: &R, office: &Office, seat: &mut Seat) -> Ticket {
-    let (_, tried) = office
-        .submit_and_try(rt, seat, "a", &[])
-        .expect(rt, "a call");
-    let ticket = match tried {
-        Tried::Ticket(ticket) => Some(ticket),
-        Tried::Cancelled => None,
-        Tried::Waiting(back) => awaited(rt, office, back),
-        Tried::Stranger(back) => awaited(rt, office, back),
-    };
-    ticket.expect(rt, "a ticket")
 }
 
 // Before a call is submitted that has waited for its turn, what stands ready is sent. Where that fails, the call is not

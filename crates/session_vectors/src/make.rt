@@ -8,9 +8,11 @@ use device_core::memory::MemHand;
 use device_core::whole::put;
 use office_core::inside::Inside;
 use office_core::office::Office;
+use office_core::seat::{Seat, Tried};
 use page_core::page_list::PageList;
 use page_core::pins::Pins;
 use path_tree::name::Name;
+use run_core::ticket::Ticket;
 use session_core::end::SessionEnd;
 use session_core::order::Named;
 use session_core::serve::{Connection, serve_session};
@@ -138,4 +140,12 @@ pub fn tells<
         return None;
     }
     Some(end.hand)
+}
+
+/// The ticket of a call of `a`, which starts at once.
+pub fn begun<R: Abort + Wait + Clock>(rt: &R, office: &Office, seat: &mut Seat) -> Ticket {
+    match office.submit_and_try(rt, seat, "a", &[]) {
+        Ok((_, Tried::Ticket(ticket))) => ticket,
+        _ => panic!(rt; "no ticket"),
+    }
 }

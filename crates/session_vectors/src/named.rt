@@ -1,12 +1,10 @@
 //! Sessions that meet a call of somebody else, and names that are in use.
 
-use crate::make::{BUFFER, EMPTY, STEPS, ZERO, offices, serve, tells};
-use crate::streams::{Counted, Gate, Streams, await_lines, connected};
+use crate::make::{BUFFER, EMPTY, STEPS, ZERO, begun, offices, serve, tells};
+use crate::streams::{Counted, Gate, Streams, await_lines, connected, counter, shared};
 use office_core::office::Office;
-use office_core::seat::{Seat, Started, Submitted, Tried};
 use path_tree::name::Name;
 use run_core::at_once::run_at_once;
-use run_core::ticket::Ticket;
 use session_core::fault::SessionFault;
 use session_core::order::Named;
 use session_core::serve::Connection;
@@ -16,7 +14,6 @@ use std::process::Abort;
 use std::sync::atomic::{AtomicU64, Ordering};
 use std::sync::{Arc, Wait};
 use std::thread;
-use std::time::Clock;
 
 // A reader of lines that come one after the other, whose input ends only once it may. It tells when it
 // is asked for its end.
@@ -79,14 +76,6 @@ const LINGERS: &[(u64, &[u8])] = &[
 
 const LINGERS_TOLD: &[u8] = b"opened buffer next 1\naccepted 1\ncancelled 1\nbye\n";
 
-fn counter(rt: &impl Abort, alloc: Global) -> Arc<AtomicU64> {
-    Arc::new(alloc, AtomicU64::new(0)).expect(rt, "memory")
-}
-
-fn shared(rt: &impl Abort, count: &Arc<AtomicU64>) -> Arc<AtomicU64> {
-    Arc::try_clone(count).expect(rt, "memory")
-}
-
 // Catches `park_before_join`: the second thread of a session that ends by `quit` behind a waiting call leaves the object
 // at the end of its input. So nobody gets the name before.
 #[test]
@@ -126,33 +115,6 @@ fn a_name_is_in_use_until_the_input_ends(rt: HostRuntime) {
     if let Some(named) = all.first() {
         assert!(rt; named.office.seat_named(&rt, &name).is_ok());
     }
-}
-
-// The ticket of a call of `a`, which starts at once.
-fn begun<R: Abort + Wait + Clock>(rt: &R, office: &Office, seat: &mut Seat) -> Ticket {
-    let (_, tried) = office
-        .submit_and_try(rt, seat, "a", &[])
-        .expect(rt, "a call");
-    let ticket = match tried {
-        Tried::Ticket(ticket) => Some(ticket),
-        Tried::Cancelled => None,
-        Tried::Waiting(back) => awaited(rt, office, back),
-        Tried::Stranger(back) => awaited(rt, office, back),
-    };
-    ticket.expect(rt, "a ticket")
-}
-
-// Waits for a call that waits.
-fn awaited<R: Wait>(rt: &R, office: &Office, submitted: Submitted) -> Option<Ticket> {
-    let mut submitted = submitted;
-    for _ in rt.forever() {
-        match office.await_start(rt, submitted) {
-            Started::Ticket(ticket) => return Some(ticket),
-            Started::Cancelled => return None,
-            Started::Stranger(back) => submitted = back,
-        }
-    }
-    unreachable!()
 }
 
 // Catches `nothing_is_sent_before_a_call`: where a call of another session runs, what stands ready is sent before the

@@ -10,15 +10,20 @@ use std::time::Duration;
 // How long an `accept` waits for a connection that does not come, in milliseconds.
 const WAITS: u64 = 500;
 
-// A gate for so many connections, at a port that is free. Where none comes its `accept` fails after a while.
+// The port of a listener, whose `accept` fails after a while where no connection comes.
+fn port_of(listener: &TcpListener) -> io::Result<u16> {
+    let socket = TcpStream::from(OwnedFd::from(listener.try_clone()?));
+    socket.set_read_timeout(Some(Duration::from_millis(WAITS)))?;
+    Ok(listener.local_addr()?.port())
+}
+
+// A gate for so many connections, at a port that is free.
 fn gate_for<R: Net<Listener = TcpListener, Stream = TcpStream> + AllocGlobal>(
     rt: &R,
     most: usize,
 ) -> io::Result<Gate> {
     let listener = TcpListener::bind(rt, (Ipv4Addr::LOCALHOST, 0))?;
-    let socket = TcpStream::from(OwnedFd::from(listener.try_clone()?));
-    socket.set_read_timeout(Some(Duration::from_millis(WAITS)))?;
-    let port = listener.local_addr()?.port();
+    let port = port_of(&listener)?;
     let alloc = rt.alloc();
     let place = format!(in alloc; "{port}")?;
     Gate::open(Listener::Port(listener), place, most)
