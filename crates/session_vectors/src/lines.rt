@@ -2,6 +2,7 @@
 
 use crate::make::{CELL, ZERO, offices, serve};
 use crate::streams::{Streams, connected};
+use apply_core::reply::Reply;
 use office_core::office::Office;
 use office_core::seat::Seat;
 use office_core::slip::Slip;
@@ -38,6 +39,16 @@ fn is_closed(all: Vec<Named>, seats: Vec<Seat>, slips: &[Slip]) -> bool {
     false
 }
 
+// Whether all of these tell of a call that was done.
+fn are_done(slips: &[Slip]) -> bool {
+    for slip in slips {
+        if !matches!(slip.reply(), Reply::Done(_)) {
+            return false;
+        }
+    }
+    true
+}
+
 // Plays a session over these lines. It answers whether what was written is a front of what is expected, as long as the
 // writer takes it, whether the fault is this one, and whether the office is closed with the seat and the receipts.
 fn plays<R: Abort + Threads + Wait + Clock + Sync>(
@@ -57,6 +68,7 @@ fn plays<R: Abort + Threads + Wait + Clock + Sync>(
     let len = told.len().min(streams.takes);
     end.writer.bytes.as_slice() == &told[..len]
         && end.fault == fault
+        && are_done(&end.receipts)
         && is_closed(all, seats, &end.receipts)
 }
 
