@@ -1,10 +1,9 @@
 //! Clients to whom nothing can be written, while a call of theirs waits.
 
-use crate::make::{STEPS, TURNS, ZERO, begun, offices, serve};
+use crate::make::{STEPS, TURNS, ZERO, begun, ends, first_of, offices, seat_of, serve};
 use crate::streams::{Short, await_within, counter, shared};
 use device_core::memory::MemHand;
 use office_core::seat::Seat;
-use run_core::at_once::run_at_once;
 use session_core::end::SessionEnd;
 use session_core::order::Named;
 use session_core::serve::Connection;
@@ -55,7 +54,7 @@ fn visits<R: Abort + Threads + Wait + Clock + Sync>(
     all: &Vec<Named>,
     hand: MemHand,
     text: &'static [u8],
-) -> (Option<Seat>, MemHand) {
+) -> (Seat, MemHand) {
     let ended = counter(rt, alloc);
     let reader = Silent {
         text,
@@ -76,7 +75,10 @@ fn visits<R: Abort + Threads + Wait + Clock + Sync>(
         fault,
     } = serve(rt, alloc, all, Connection { reader, writer }, hand);
     assert!(rt; fault.is_some() && receipts.is_empty() && ended.load(Ordering::SeqCst) == 0);
-    (seat, hand)
+    match seat {
+        Some(seat) => (seat, hand),
+        None => panic!(rt; "no seat"),
+    }
 }
 
 // Its waiting call is cancelled, since nobody is told of it, and no other session leaves for that. Catches
@@ -85,13 +87,12 @@ fn visits<R: Abort + Threads + Wait + Clock + Sync>(
 fn a_client_that_hears_nothing_is_let_go_alone(rt: HostRuntime) {
     let alloc = rt.alloc();
     let (all, hand) = offices(&rt, alloc, TURNS, ZERO);
-    let named = all.first().expect(&rt, "an office");
-    let first = named.office.seat(&rt).expect(&rt, "a seat");
-    let (seat, _) = visits(&rt, alloc, &all, hand, b"open turns\ncall b\n");
-    let seat = seat.expect(&rt, "a seat");
+    let office = first_of(&rt, &all);
+    let first = seat_of(&rt, office);
+    let (seat, _hand) = visits(&rt, alloc, &all, hand, b"open turns\ncall b\n");
     assert!(rt; first.session() == 1 && seat.session() == 2);
-    assert!(rt; named.office.kept(&rt, &first, 1, "b", &[]).is_ok());
-    assert!(rt; named.office.kept(&rt, &seat, 1, "b", &[]).is_err());
+    assert!(rt; office.kept(&rt, &first, 1, "b", &[]).is_ok());
+    assert!(rt; office.kept(&rt, &seat, 1, "b", &[]).is_err());
 }
 
 // Before a call is submitted that has waited for its turn, what stands ready is sent. Where that fails, the call is not
@@ -100,16 +101,10 @@ fn a_client_that_hears_nothing_is_let_go_alone(rt: HostRuntime) {
 fn a_call_of_a_client_that_hears_nothing_is_not_taken(rt: HostRuntime) {
     let alloc = rt.alloc();
     let (all, hand) = offices(&rt, alloc, STEPS, ZERO);
-    let named = all.first().expect(&rt, "an office");
-    let mut first = named.office.seat(&rt).expect(&rt, "a seat");
-    let ticket = begun(&rt, &named.office, &mut first);
-    let (seat, hand) = visits(&rt, alloc, &all, hand, b"open steps\ncall a\n");
-    let seat = seat.expect(&rt, "a seat");
-    assert!(rt; named.office.next_key(&rt, &seat) == 1);
-    let mut hand = hand;
-    let mut outcome = run_at_once(alloc, ticket, &mut hand);
-    let taken = named
-        .office
-        .complete_in_place(&rt, &mut first, &mut outcome);
-    assert!(rt; taken.is_ok());
+    let office = first_of(&rt, &all);
+    let mut first = seat_of(&rt, office);
+    let ticket = begun(&rt, office, &mut first);
+    let (seat, mut hand) = visits(&rt, alloc, &all, hand, b"open steps\ncall a\n");
+    assert!(rt; office.next_key(&rt, &seat) == 1);
+    assert!(rt; ends(&rt, alloc, office, &mut first, ticket, &mut hand) == 1);
 }

@@ -1,12 +1,12 @@
 //! Sessions that meet a call of somebody else, and names that are in use.
 
-use crate::make::{BUFFER, EMPTY, STEPS, ZERO, begun, offices, serve, tells};
+use crate::make::{
+    BUFFER, EMPTY, STEPS, ZERO, begun, ends, first_of, name, offices, seat_of, serve, tells,
+};
 use crate::streams::{Counted, Gate, Streams, await_lines, connected, counter, shared};
 use office_core::office::Office;
 use path_tree::name::Name;
-use run_core::at_once::run_at_once;
 use session_core::fault::SessionFault;
-use session_core::order::Named;
 use session_core::serve::Connection;
 use std::alloc::Global;
 use std::io::{self, Read};
@@ -51,19 +51,16 @@ fn is_in_use<R: Wait>(rt: &R, office: &Office, name: &Name) -> bool {
 // use for a while after the session wrote its last line.
 fn lingers<R: Wait>(
     rt: &R,
-    all: &Vec<Named>,
+    office: &Office,
     name: &Name,
     written: &AtomicU64,
     asked: &AtomicU64,
     may_end: &AtomicU64,
 ) -> bool {
-    let Some(named) = all.first() else {
-        return false;
-    };
     await_lines(asked, 1);
-    named.office.cancel(rt, 1);
+    office.cancel(rt, 1);
     await_lines(written, 4);
-    let is_out = is_in_use(rt, &named.office, name);
+    let is_out = is_in_use(rt, office, name);
     may_end.store(1, Ordering::SeqCst);
     is_out
 }
@@ -82,8 +79,8 @@ const LINGERS_TOLD: &[u8] = b"opened buffer next 1\naccepted 1\ncancelled 1\nbye
 fn a_name_is_in_use_until_the_input_ends(rt: HostRuntime) {
     let alloc = rt.alloc();
     let (all, hand) = offices(&rt, alloc, BUFFER, EMPTY);
-    let name = Name::read(alloc, b"ann").expect(&rt, "memory");
-    let name = name.expect(&rt, "a name");
+    let office = first_of(&rt, &all);
+    let name = name(&rt, alloc, b"ann");
     let (written, asked) = (counter(&rt, alloc), counter(&rt, alloc));
     let may_end = counter(&rt, alloc);
     let reader = Lingering {
@@ -109,12 +106,10 @@ fn a_name_is_in_use_until_the_input_ends(rt: HostRuntime) {
             hand,
             LINGERS_TOLD,
         ),
-        || lingers(by, &all, &name, &written, &asked, &may_end),
+        || lingers(by, office, &name, &written, &asked, &may_end),
     );
     assert!(rt; is_out && hand.is_some());
-    if let Some(named) = all.first() {
-        assert!(rt; named.office.seat_named(&rt, &name).is_ok());
-    }
+    assert!(rt; office.seat_named(&rt, &name).is_ok());
 }
 
 // Catches `nothing_is_sent_before_a_call`: where a call of another session runs, what stands ready is sent before the
@@ -123,9 +118,9 @@ fn a_name_is_in_use_until_the_input_ends(rt: HostRuntime) {
 fn lines_are_sent_before_a_call_that_is_held_back(rt: HostRuntime) {
     let alloc = rt.alloc();
     let (all, hand) = offices(&rt, alloc, STEPS, ZERO);
-    let named = all.first().expect(&rt, "an office");
-    let mut seat = named.office.seat(&rt).expect(&rt, "a seat");
-    let ticket = begun(&rt, &named.office, &mut seat);
+    let office = first_of(&rt, &all);
+    let mut seat = seat_of(&rt, office);
+    let ticket = begun(&rt, office, &mut seat);
     let deaf = Streams {
         step: 4096,
         takes: 0,
@@ -140,10 +135,7 @@ fn lines_are_sent_before_a_call_that_is_held_back(rt: HostRuntime) {
     );
     assert!(rt; end.fault == Some(SessionFault::WriteFault) && end.receipts.is_empty());
     let mut hand = end.hand;
-    let mut outcome = run_at_once(alloc, ticket, &mut hand);
-    let taken = named.office.complete_in_place(&rt, &mut seat, &mut outcome);
-    assert!(rt; taken.is_ok());
-    let ticket = begun(&rt, &named.office, &mut seat);
-    let outcome = run_at_once(alloc, ticket, &mut hand);
-    assert!(rt; outcome.number() == 2);
+    assert!(rt; ends(&rt, alloc, office, &mut seat, ticket, &mut hand) == 1);
+    let ticket = begun(&rt, office, &mut seat);
+    assert!(rt; ends(&rt, alloc, office, &mut seat, ticket, &mut hand) == 2);
 }
