@@ -3,7 +3,6 @@
 
 use crate::make::{accepted, pins_of};
 use board_core::answer::Collected;
-use board_core::receipt::Receipt;
 use decl_core::object::Object;
 use desk_core::desk::Desk;
 use device_core::hand::{Hand, Stamp};
@@ -150,22 +149,6 @@ fn a_call_at_once_calls_the_device_no_more(rt: HostRuntime) {
     }
 }
 
-// The files that `both 3` by steps leaves to nobody.
-fn free_by<H: Hand>(rt: &impl Abort, alloc: Global, desk: &mut Desk, hand: &mut H) -> Vec<Stamp> {
-    let ticket = start(rt, alloc, desk, "both", &[3]);
-    match desk.finish(perform(Run::new(alloc, ticket), hand)) {
-        Ok(receipt) => {
-            let Receipt {
-                place: _,
-                noted: _,
-                free,
-            } = receipt;
-            free
-        }
-        Err(_) => panic!(rt; "a stranger"),
-    }
-}
-
 // Whether the files of these numbers stand here, in this order.
 fn are_files(stamps: &[Stamp], want: &[u64]) -> bool {
     for (stamp, number) in stamps.iter().zip(want) {
@@ -176,13 +159,23 @@ fn are_files(stamps: &[Stamp], want: &[u64]) -> bool {
     stamps.len() == want.len()
 }
 
-// Whether a call on a hand that fails so leaves these files to nobody, and of these are not retired those.
+// Those of some files that are not retired.
+fn kept<H: Hand>(rt: &impl Abort, alloc: Global, hand: &mut H, stamps: &[Stamp]) -> Vec<Stamp> {
+    match stamps.to_vec(alloc) {
+        Ok(stamps) => retire_all(hand, stamps),
+        Err(_) => panic!(rt; "no memory"),
+    }
+}
+
+// Whether `both 3` by steps on a hand that fails so leaves these files to nobody, and of these are not retired those.
 fn leaves(rt: &impl Abort, alloc: Global, fails: u64, free: &[u64], left: &[u64]) -> bool {
-    let mut files = MemHand::new(alloc);
-    let mut desk = desk_over(rt, alloc, &mut files);
-    let mut hand = OnceHand::new(files, fails);
-    let stamps = free_by(rt, alloc, &mut desk, &mut hand);
-    are_files(&stamps, free) && are_files(&retire_all(&mut hand, stamps), left)
+    let mut hand = MemHand::new(alloc);
+    let mut desk = desk_over(rt, alloc, &mut hand);
+    let mut hand = OnceHand::new(hand, fails);
+    let ticket = start(rt, alloc, &mut desk, "both", &[3]);
+    let outcome = perform(Run::new(alloc, ticket), &mut hand);
+    let kept = kept(rt, alloc, &mut hand, outcome.free());
+    are_files(outcome.free(), free) && are_files(&kept, left)
 }
 
 // Which call of the hand fails (0: none), the files that the call leaves to nobody, and those of them that are not

@@ -16,19 +16,23 @@ use std::process::Abort;
 use std::sync::Wait;
 use value_core::datum::Datum;
 
+// The last object of a text.
+fn object_of(rt: &impl Abort, alloc: Global, text: &[u8]) -> Object {
+    let mut objects = match read_objects(alloc, text) {
+        Ok(objects) => objects,
+        Err(_) => panic!(rt; "no objects"),
+    };
+    match objects.pop() {
+        Some((_name, object)) => object,
+        None => panic!(rt; "no object"),
+    }
+}
+
 /// The one object of a text, accepted.
 pub fn accepted(rt: &impl Abort, alloc: Global, text: &[u8]) -> Accepted {
-    match read_objects(alloc, text) {
-        Ok(objects) => {
-            for (_, object) in objects {
-                return match analyse(alloc, object) {
-                    Ok(accepted) => accepted,
-                    Err(_) => panic!(rt; "refused"),
-                };
-            }
-            panic!(rt; "no object")
-        }
-        Err(_) => panic!(rt; "no objects"),
+    match analyse(alloc, object_of(rt, alloc, text)) {
+        Ok(accepted) => accepted,
+        Err(_) => panic!(rt; "refused"),
     }
 }
 

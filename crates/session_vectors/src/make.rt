@@ -2,6 +2,7 @@
 
 use crate::streams::Told;
 use decl_core::analyse::{Accepted, analyse};
+use decl_core::object::Object;
 use decl_read::read::read_objects;
 use device_core::hand::Hand;
 use device_core::memory::MemHand;
@@ -68,19 +69,23 @@ pub const ZERO: &[u8] = b"\x02\x01\x00\x01\x00\x00\x00\x00";
 /// The queue `<>`.
 pub const EMPTY: &[u8] = b"\x02\x03\x00\x00";
 
-// The object of a text, accepted.
-fn accepted(rt: &impl Abort, alloc: Global, text: &[u8]) -> Accepted {
-    match read_objects(alloc, text) {
-        Ok(objects) => {
-            for (_, object) in objects {
-                return match analyse(alloc, object) {
-                    Ok(accepted) => accepted,
-                    Err(_) => panic!(rt; "refused"),
-                };
-            }
-            panic!(rt; "no object")
-        }
+// The last object of a text.
+fn object_of(rt: &impl Abort, alloc: Global, text: &[u8]) -> Object {
+    let mut objects = match read_objects(alloc, text) {
+        Ok(objects) => objects,
         Err(_) => panic!(rt; "no objects"),
+    };
+    match objects.pop() {
+        Some((_name, object)) => object,
+        None => panic!(rt; "no object"),
+    }
+}
+
+// The one object of a text, accepted.
+fn accepted(rt: &impl Abort, alloc: Global, text: &[u8]) -> Accepted {
+    match analyse(alloc, object_of(rt, alloc, text)) {
+        Ok(accepted) => accepted,
+        Err(_) => panic!(rt; "refused"),
     }
 }
 

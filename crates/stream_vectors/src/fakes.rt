@@ -103,13 +103,12 @@ end;
 
 /// The object of a source that has one.
 pub fn only_object(rt: &impl Abort, alloc: Global, text: &[u8]) -> Object {
-    match read_objects(alloc, text) {
-        Ok(objects) => {
-            for (_, object) in objects {
-                return object;
-            }
-            panic!(rt; "no object")
-        }
+    let mut objects = match read_objects(alloc, text) {
+        Ok(objects) => objects,
         Err(_) => panic!(rt; "no objects"),
+    };
+    match objects.pop() {
+        Some((_name, object)) => object,
+        None => panic!(rt; "no object"),
     }
 }
