@@ -30,7 +30,7 @@ use Rattle.client_core.specs.declared.ask.Ask.{Ask}
 use Rattle.client_core.specs.declared.ask.Ask.TheVariants as asks
 use Rattle.client_core.specs.declared.ask.Sight.{Sight}
 use Rattle.client_core.specs.declared.client.Opened.{Opened}
-use Rattle.client_core.specs.Custody.{Custody, Custodies, MayMake, FollowsIn, IsFreeOf, HasSome, not_held_text}
+use Rattle.custody_core.specs.Custody.{Custody, Custodies, MayMake, FollowsIn, IsFreeOf, HasSome, not_held_text}
 use Rattle.client_core.specs.State.{State, nobody, opening, waiting, opened_at, changed, with_object, with_custody, told_to, counted, session_by}
 use Rattle.client_core.specs.Deeds.{Texts, Deed, Nothing, OnlyTold}
 use Rattle.client_core.specs.ToldInside.{Sees}

@@ -13,7 +13,7 @@ use Rattle.board_core.specs.Answers.{Asked, HasName}
 use Rattle.board_core.specs.Keyed.{Finds}
 use Rattle.office_core.specs.Slips.{Told, told_by}
 use Rattle.session_core.specs.declared.entered.Entered.{Entered}
-use Rattle.session_core.specs.Making.{IsNew, IsCallOf, AddsOne, MakesOnce, MakesCall, asked_by}
+use Rattle.session_core.specs.Making.{IsNew, AddsOne, MakesOnce, MakesCall, asked_by}
 
 -- what the desk has as the key of the next call is new
 pub new_by : (a : Asked) (given : Option ℕ) (key : ℕ) (b : Board) → given ≡ Some key → IsSound b → Finds b a key (Ok None) → IsNew a given

@@ -1,5 +1,5 @@
 -- A session's work with its hand goes on.
-use Rattle.std.proofs.Common.{◌≡◌, sym, subst, refl, inl, inr, List, [], ◌++◌}
+use Rattle.std.proofs.Common.{◌≡◌, sym, subst, refl, inl, inr, List, []}
 use Rattle.std.specs.Prelude.{Ok}
 use Rattle.device_core.specs.declared.hand.Stamp.{Stamp}
 use Rattle.device_core.specs.Made.{Made}

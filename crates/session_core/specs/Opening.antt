@@ -1,5 +1,5 @@
 -- How a session goes on once it has asked for an object.
-use Rattle.std.specs.Prelude.{◌≡◌, ℕ, List, Option, Some, None, Result, Ok, Err}
+use Rattle.std.specs.Prelude.{◌≡◌, ℕ, List, Option, Some, Result, Ok, Err}
 use Rattle.session_text.specs.declared.fault.HearFault.TheVariants as hears
 use Rattle.session_core.specs.declared.entered.Entered.{Entered}
 use Rattle.session_core.specs.declared.entered.NotEntered.{NotEntered}

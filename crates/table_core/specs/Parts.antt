@@ -27,7 +27,7 @@ use Rattle.post_core.specs.Posts.{Tells}
 use Rattle.post_core.specs.declared.post.Post.{Post}
 use Rattle.client_core.specs.State.{State, opening, changed, with_object, told_to, counted, session_by}
 use Rattle.client_core.specs.Deeds.{Texts, Deed, OnlyTold}
-use Rattle.client_core.specs.Custody.{Custody, IsOwed, not_held_text}
+use Rattle.custody_core.specs.Custody.{Custody, IsOwed, not_held_text}
 use Rattle.client_core.specs.Asked.{IsRefused, Sits, Submits, AllEnd, Ends, Follows, LetsGo, IsNotCancelled, LeavesObject, MayCall, NoneLeaves, keyed_text}
 use Rattle.client_core.specs.Gone.{Frees, SeatsOne}
 use Rattle.client_core.specs.Turns.{NoneWaits}

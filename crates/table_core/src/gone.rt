@@ -9,7 +9,7 @@ ghost use Rattle.client_core.specs.declared.client.Opened.{Opened as AnOpened};
 ghost use Rattle.post_core.specs.Posts.{Tells};
 ghost use Rattle.inside_core.specs.Tallies.{CountsTaken};
 ghost use Rattle.client_core.specs.Asked.{Opens, Follows};
-ghost use Rattle.client_core.specs.Custody.{Custody, HasNone, not_held_text};
+ghost use Rattle.custody_core.specs.Custody.{Custody, HasNone, not_held_text};
 ghost use Rattle.custody_core.specs.Views.{custodies_of};
 ghost use Rattle.client_core.specs.Deeds.{OnlyTold};
 ghost use Rattle.client_core.specs.Gone.{Settles, NoneHas};

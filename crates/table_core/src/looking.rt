@@ -6,7 +6,7 @@ ghost use Rattle.client_core.specs.declared.ask.Sight.TheVariants as insides;
 ghost use Rattle.client_core.specs.People.{people_of};
 ghost use Rattle.inside_core.specs.Adds.{crowd_of};
 ghost use Rattle.client_core.specs.Asked.{AnswersInside};
-ghost use Rattle.client_core.specs.Custody.{holds_by, held_by};
+ghost use Rattle.custody_core.specs.Custody.{holds_by, held_by};
 ghost use Rattle.custody_core.specs.Views.{custodies_of};
 ghost use Rattle.client_core.specs.ToldInside.{IsWhy, IsWho, object_in};
 ghost use Rattle.client_core.specs.State.{opened_in, peers_of};

@@ -43,7 +43,7 @@ use Rattle.history_law.specs.Happens.{with_ran, all_happen}
 use Rattle.client_core.specs.State.{Peer, State, change, changed, counted, nobody, opened_at, opened_in, opening, told_to, waits_at, who_at, who_in, with_object, session_by}
 use Rattle.client_core.specs.Deeds.{Texts, Deed, Nothing, OnlyTold, Then}
 use Rattle.client_core.specs.Asked.{IsNew, IsRefused, OpensBare, OpensAs, Opens, Ends, AllEnd, Submits, GetsNumber, Sits, Calls, Repeats, RepeatsUnder, IsTurnedAway, AnswersCall, LetsGo, AnswersCancel, AnswersInside, Goes, Quits, Acts, Heeds, keyed_text}
-use Rattle.client_core.specs.Custody.{not_held_text}
+use Rattle.custody_core.specs.Custody.{not_held_text}
 use Rattle.client_core.specs.Gone.{CallsFor, SeatsOne, Frees}
 use Rattle.client_core.specs.ToldInside.{Sees, IsWhy, state_by, form_at, object_in}
 use Rattle.client_core.proofs.Doing.{ends_keeps, all_end_keeps}
