@@ -161,10 +161,9 @@ fn are_files(stamps: &[Stamp], want: &[u64]) -> bool {
 
 // Those of some files that are not retired.
 fn kept<H: Hand>(rt: &impl Abort, alloc: Global, hand: &mut H, stamps: &[Stamp]) -> Vec<Stamp> {
-    match stamps.to_vec(alloc) {
-        Ok(stamps) => retire_all(hand, stamps),
-        Err(_) => panic!(rt; "no memory"),
-    }
+    let mut all = Vec::new(alloc);
+    assert!(rt; all.extend_from_slice(stamps).is_ok());
+    retire_all(hand, all)
 }
 
 // Whether `both 3` by steps on a hand that fails so leaves these files to nobody, and of these are not retired those.

@@ -18,7 +18,7 @@ use std::process::Abort;
 use std::sync::Wait;
 use value_core::datum::Datum;
 
-// What `put 7` of this seat comes to.
+// What a `get` of this seat comes to.
 fn outcome_of<R: Abort + Wait>(
     rt: &R,
     alloc: Global,
@@ -26,33 +26,30 @@ fn outcome_of<R: Abort + Wait>(
     seat: &mut Seat,
     hand: &mut MemHand,
 ) -> Outcome {
-    let ticket = ticket_of(rt, office, seat, "put", &[Datum::Integer(7)]);
+    let ticket = ticket_of(rt, office, seat, "get", &[]);
     perform(Run::new(alloc, ticket), hand)
 }
 
-// The receipt of an outcome that is taken.
+// The receipt of an outcome that is taken, told for this place.
 fn receipt_of<R: Abort + Wait>(
     rt: &R,
     office: &Office,
     seat: &mut Seat,
     outcome: Outcome,
+    place: usize,
 ) -> Receipt {
     match office.complete(rt, seat, outcome) {
-        Ok(receipt) => receipt,
+        Ok(mut receipt) => {
+            receipt.place = place;
+            receipt
+        }
         Err(_) => panic!(rt; "no receipt"),
     }
 }
 
-// Why an office is not closed with these seats and this receipt, told for this place.
-fn fault_of(
-    office: Office,
-    seats: Vec<Seat>,
-    receipt: Receipt,
-    place: usize,
-) -> Option<CloseFault> {
-    let mut receipt = receipt;
-    receipt.place = place;
-    match office.close(seats, &[receipt]) {
+// Why an office is not closed with these seats and receipts.
+fn fault_of(office: Office, seats: Vec<Seat>, receipts: &[Receipt]) -> Option<CloseFault> {
+    match office.close(seats, receipts) {
         Ok(_) => None,
         Err(refused) => Some(refused.why),
     }
@@ -69,12 +66,14 @@ fn not_closed<R: Abort + Wait>(
     let office = office_of(rt, alloc, &mut hand);
     let mut seat = seat_of(rt, &office);
     let outcome = outcome_of(rt, alloc, &office, &mut seat, &mut hand);
-    let receipt = receipt_of(rt, &office, &mut seat, outcome);
+    let receipt = receipt_of(rt, &office, &mut seat, outcome, place);
+    let mut receipts = Vec::new(alloc);
+    assert!(rt; receipts.push(receipt).is_ok());
     let mut seats = Vec::new(alloc);
     if has_seat {
         assert!(rt; seats.push(seat).is_ok());
     }
-    fault_of(office, seats, receipt, place)
+    fault_of(office, seats, &receipts)
 }
 
 const MISMATCH: CloseFault = CloseFault::Mismatch {
@@ -90,29 +89,20 @@ fn an_office_closes_with_its_seat_and_its_receipt(rt: HostRuntime) {
     assert!(rt; not_closed(&rt, rt.alloc(), true, 2) == Some(MISMATCH));
 }
 
-// Whether an outcome of another office is not taken there, where this seat has seen as much, and not taken here.
-fn is_refused<R: Wait>(
-    rt: &R,
-    office: &Office,
-    other: &Office,
-    seat: &mut Seat,
-    outcome: Outcome,
-) -> bool {
-    match other.complete(rt, seat, outcome) {
-        Err(
-            CompleteFault::Front {
-                seen,
-                found,
-                outcome,
-            },
-        ) => {
-            match office.complete(rt, seat, outcome) {
-                Err(CompleteFault::Stranger(_)) => seen == 1 && found == 1,
-                _ => false,
-            }
-        }
-        _ => false,
-    }
+// Whether an outcome is not taken of a seat that has seen as much.
+fn is_seen<R: Wait>(rt: &R, office: &Office, seat: &mut Seat, outcome: Outcome) -> bool {
+    matches!(
+        office.complete(rt, seat, outcome),
+        Err(CompleteFault::Front { .. })
+    )
+}
+
+// Whether an outcome is not taken where no such call runs.
+fn is_strange<R: Wait>(rt: &R, office: &Office, seat: &mut Seat, outcome: Outcome) -> bool {
+    matches!(
+        office.complete(rt, seat, outcome),
+        Err(CompleteFault::Stranger(_))
+    )
 }
 
 // No case can show it: no program takes an outcome to another office or seat, or closes an office while a call runs.
@@ -124,13 +114,12 @@ fn an_outcome_is_taken_by_its_office_and_its_seat(rt: HostRuntime) {
     let other = office_of(&rt, alloc, &mut hand);
     let mut seat = seat_of(&rt, &office);
     let outcome = outcome_of(&rt, alloc, &office, &mut seat, &mut hand);
-    let _first = receipt_of(&rt, &office, &mut seat, outcome);
+    let _first = receipt_of(&rt, &office, &mut seat, outcome, 1);
     let outcome = outcome_of(&rt, alloc, &other, &mut seat_of(&rt, &other), &mut hand);
-    assert!(rt; is_refused(&rt, &office, &other, &mut seat, outcome));
-    match other.close(Vec::new(alloc), &[]) {
-        Ok(_) => panic!(rt; "closed"),
-        Err(refused) => assert!(rt; refused.why == CloseFault::Outstanding),
-    }
+    assert!(rt; is_seen(&rt, &other, &mut seat, outcome));
+    let outcome = outcome_of(&rt, alloc, &other, &mut seat_of(&rt, &other), &mut hand);
+    assert!(rt; is_strange(&rt, &office, &mut seat, outcome));
+    assert!(rt; fault_of(other, Vec::new(alloc), &[]) == Some(CloseFault::Outstanding));
 }
 
 // Why a seat is not parked.
