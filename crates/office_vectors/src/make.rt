@@ -1,23 +1,51 @@
-//! Offices and whole calls, as the tests make them.
+//! Objects, and what is made of them.
 
-use board_core::receipt::Receipt;
 use decl_core::analyse::{Accepted, analyse};
+use decl_core::object::Object;
 use decl_read::read::read_objects;
 use device_core::hand::Hand;
-use device_core::whole::put;
+use device_core::mem_shelf::MemShelf;
 use office_core::inside::Inside;
 use office_core::office::Office;
 use office_core::seat::{Seat, Started, Submitted};
-use page_core::page_list::PageList;
+use page_core::open::open_parts;
 use page_core::pins::Pins;
-use run_core::perform::perform;
-use run_core::run::Run;
+use run_core::ticket::Ticket;
 use std::alloc::Global;
 use std::process::Abort;
 use std::sync::Wait;
 use value_core::datum::Datum;
 
-/// An object with one part.
+// The last object of a text.
+fn object_of(rt: &impl Abort, alloc: Global, text: &[u8]) -> Object {
+    let mut objects = match read_objects(alloc, text) {
+        Ok(objects) => objects,
+        Err(_) => panic!(rt; "no objects"),
+    };
+    match objects.pop() {
+        Some((_name, object)) => object,
+        None => panic!(rt; "no object"),
+    }
+}
+
+/// The one object of a text, accepted.
+pub fn accepted(rt: &impl Abort, alloc: Global, text: &[u8]) -> Accepted {
+    match analyse(alloc, object_of(rt, alloc, text)) {
+        Ok(accepted) => accepted,
+        Err(_) => panic!(rt; "refused"),
+    }
+}
+
+/// The pins of an object whose parts have their opening values, each page a file of this hand.
+pub fn pins_of<H: Hand>(rt: &impl Abort, alloc: Global, object: &Object, hand: &mut H) -> Pins {
+    let mut shelf = MemShelf::new(alloc);
+    match open_parts(alloc, object, &mut shelf, hand) {
+        Ok((pins, _values)) => pins,
+        Err(_) => panic!(rt; "no parts"),
+    }
+}
+
+// One value, read by many or changed by one.
 const CELL: &[u8] = b"object cell;
   path 1:([get], put) end;
   var v : array [1] of integer;
@@ -26,82 +54,47 @@ const CELL: &[u8] = b"object cell;
 end;
 ";
 
-// The cell, accepted.
-fn cell(alloc: Global) -> Option<Accepted> {
-    let objects = read_objects(alloc, CELL).ok()?;
-    for (_, object) in objects {
-        return analyse(alloc, object).ok();
+/// The office of a cell that is `[0]`, in file 1 of this hand.
+pub fn office_of<H: Hand>(rt: &impl Abort, alloc: Global, hand: &mut H) -> Office {
+    let cell = accepted(rt, alloc, CELL);
+    let pins = pins_of(rt, alloc, cell.object(), hand);
+    assert!(rt; pins.len() == cell.object().parts.len());
+    let inside = match Inside::open(alloc, cell, pins) {
+        Ok(inside) => inside,
+        Err(_) => panic!(rt; "no memory"),
+    };
+    match Office::open(alloc, inside) {
+        Ok(office) => office,
+        Err(_) => panic!(rt; "no memory"),
     }
-    None
 }
 
-/// The pins of a cell that is `[0]`.
-pub fn pins<H: Hand>(rt: &impl Abort, hand: &mut H) -> Pins {
-    let stamp = put(hand, b"\x02\x01\x00\x01\x00\x00\x00\x00").expect(rt, "a file");
-    Pins::new(&[PageList::of(&[stamp])])
-}
-
-// An inside with a cell under these pins.
-fn inside_of(alloc: Global, pins: Pins) -> Option<Inside> {
-    let cell = cell(alloc)?;
-    if pins.len() != cell.object().parts.len() {
-        return None;
-    }
-    Inside::open(alloc, cell, pins).ok()
-}
-
-/// The office of a cell under these pins.
-pub fn office_of(rt: &impl Abort, alloc: Global, pins: Pins) -> Office {
-    let inside = inside_of(alloc, pins).expect(rt, "an inside");
-    Office::open(alloc, inside).expect(rt, "memory")
-}
-
-/// A submission that nobody answers as a test wants it has to be spent, and cannot be: the test never ends.
-pub fn stuck<R: Wait>(rt: &R, submitted: Submitted) -> bool {
-    let mut submitted = submitted;
-    for _ in rt.forever() {
-        submitted = same(submitted);
-    }
-    unreachable!()
-}
-
-fn same(submitted: Submitted) -> Submitted {
-    submitted
-}
-
-/// Waits for a call, performs and completes it.
-pub fn finish<R: Wait, H: Hand>(
+/// The ticket of a call that starts now or later.
+pub fn ticket_of<R: Abort + Wait>(
     rt: &R,
-    alloc: Global,
     office: &Office,
     seat: &mut Seat,
-    hand: &mut H,
-    submitted: Submitted,
-) -> Option<Receipt> {
+    op: &str,
+    args: &[Datum],
+) -> Ticket {
+    match office.submit(rt, seat, op, args) {
+        Ok(submitted) => started(rt, office, submitted),
+        Err(_) => panic!(rt; "no call"),
+    }
+}
+
+// The ticket of a submission, once it has started.
+fn started<R: Abort + Wait>(rt: &R, office: &Office, submitted: Submitted) -> Ticket {
     match office.await_start(rt, submitted) {
-        Started::Ticket(ticket) => {
-            let outcome = perform(Run::new(alloc, ticket), hand);
-            office.complete(rt, seat, outcome).ok()
-        }
-        Started::Cancelled => None,
-        Started::Stranger(back) => {
-            stuck(rt, back);
-            None
-        }
+        Started::Ticket(ticket) => ticket,
+        _ => panic!(rt; "no ticket"),
     }
 }
 
-/// Makes a call of `put` from beginning to end.
-pub fn put_whole<R: Wait, H: Hand>(
-    rt: &R,
-    alloc: Global,
-    office: &Office,
-    seat: &mut Seat,
-    hand: &mut H,
-    value: u32,
-) -> Option<Receipt> {
-    let submitted = office
-        .submit(rt, seat, "put", &[Datum::Integer(value)])
-        .ok()?;
-    finish(rt, alloc, office, seat, hand, submitted)
+/// A seat without a name.
+pub fn seat_of<R: Abort + Wait>(rt: &R, office: &Office) -> Seat {
+    match office.seat(rt) {
+        Ok(seat) => seat,
+        Err(_) => panic!(rt; "no seat"),
+    }
 }

@@ -1,12 +1,11 @@
 //! Clients that read nothing, and sessions that are stopped.
 
 use crate::make::{BUFFER, EMPTY, TURNS, ZERO, offices, tells};
-use crate::streams::{Counted, Gate, Told, await_lines};
+use crate::streams::{Counted, Gate, Told, await_lines, counter, shared};
 use device_core::memory::MemHand;
 use session_core::serve::{Connection, serve_session};
 use session_text::bell::Bell;
 use std::io::{self, Read, Write};
-use std::process::Abort;
 use std::sync::Arc;
 use std::sync::atomic::{AtomicU64, Ordering};
 use std::thread;
@@ -81,17 +80,12 @@ const OTHER: &[(u64, &[u8])] = &[
 
 const OTHER_TOLD: &[u8] = b"opened turns\naccepted 2\ndone 2\naccepted 3\ndone 3\nbye\n";
 
-fn shared(rt: &impl Abort, count: &Arc<AtomicU64>) -> Arc<AtomicU64> {
-    Arc::try_clone(count).expect(rt, "memory")
-}
-
 // Catches `deaf_client_holds_its_object`: a client does not read `accepted 1`.
 #[test]
 fn a_client_that_does_not_read_holds_up_nobody(rt: HostRuntime) {
     let alloc = rt.alloc();
     let (all, hand) = offices(&rt, alloc, TURNS, ZERO);
-    let came = Arc::new(alloc, AtomicU64::new(0)).expect(&rt, "memory");
-    let others = Arc::new(alloc, AtomicU64::new(0)).expect(&rt, "memory");
+    let (came, others) = (counter(&rt, alloc), counter(&rt, alloc));
     let waits = Gate {
         lines: DEAF,
         written: shared(&rt, &others),
@@ -168,7 +162,7 @@ fn what_was_read_before_the_bell_is_sent_ahead(rt: HostRuntime) {
     };
     let writer = Counted {
         bytes: Vec::new(alloc),
-        written: Arc::new(alloc, AtomicU64::new(0)).expect(&rt, "memory"),
+        written: counter(&rt, alloc),
     };
     let end = serve_session(&rt, alloc, Connection { reader, writer }, &bell, &all, hand);
     let told = b"opened buffer\nno Gone\ncancel 1 Unknown\nno Gone\nbye\n";

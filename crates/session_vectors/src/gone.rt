@@ -1,12 +1,9 @@
 //! Clients to whom nothing can be written, while a call of theirs waits.
 
-use crate::make::{STEPS, TURNS, ZERO, offices, serve};
-use crate::streams::{Short, await_lines};
+use crate::make::{STEPS, TURNS, ZERO, begun, ends, first_of, offices, seat_of, serve};
+use crate::streams::{Short, await_within, counter, shared};
 use device_core::memory::MemHand;
-use office_core::office::Office;
-use office_core::seat::{Seat, Started, Submitted, Tried};
-use run_core::at_once::run_at_once;
-use run_core::ticket::Ticket;
+use office_core::seat::Seat;
 use session_core::end::SessionEnd;
 use session_core::order::Named;
 use session_core::serve::Connection;
@@ -18,8 +15,10 @@ use std::sync::{Arc, Wait};
 use std::thread::Threads;
 use std::time::Clock;
 
-// So often a reader pauses before its input ends: a session that does not end by then does not end by itself.
-const PAUSES: u32 = 10;
+// So often a reader pauses before its input ends, so long: a session that does not end by then does not end by itself.
+const PAUSES: u32 = 100;
+
+const PAUSE_TURNS: u64 = 1_000_000_000;
 
 // A reader of one piece, which then pauses, each time for a while, and says when its input ends.
 #[derive(Drop)]
@@ -42,7 +41,7 @@ impl Read for Silent {
             return Ok(0);
         }
         self.pauses -= 1;
-        await_lines(&self.ended, 1);
+        await_within(&self.ended, 1, PAUSE_TURNS);
         Err(io::Error::from(io::ErrorKind::WouldBlock))
     }
 }
@@ -55,12 +54,12 @@ fn visits<R: Abort + Threads + Wait + Clock + Sync>(
     all: &Vec<Named>,
     hand: MemHand,
     text: &'static [u8],
-) -> (Option<Seat>, MemHand) {
-    let ended = Arc::new(alloc, AtomicU64::new(0)).expect(rt, "memory");
+) -> (Seat, MemHand) {
+    let ended = counter(rt, alloc);
     let reader = Silent {
         text,
         pauses: PAUSES,
-        ended: Arc::try_clone(&ended).expect(rt, "memory"),
+        ended: shared(rt, &ended),
     };
     let writer = Short {
         bytes: Vec::new(alloc),
@@ -76,7 +75,10 @@ fn visits<R: Abort + Threads + Wait + Clock + Sync>(
         fault,
     } = serve(rt, alloc, all, Connection { reader, writer }, hand);
     assert!(rt; fault.is_some() && receipts.is_empty() && ended.load(Ordering::SeqCst) == 0);
-    (seat, hand)
+    match seat {
+        Some(seat) => (seat, hand),
+        None => panic!(rt; "no seat"),
+    }
 }
 
 // Its waiting call is cancelled, since nobody is told of it, and no other session leaves for that. Catches
@@ -85,40 +87,12 @@ fn visits<R: Abort + Threads + Wait + Clock + Sync>(
 fn a_client_that_hears_nothing_is_let_go_alone(rt: HostRuntime) {
     let alloc = rt.alloc();
     let (all, hand) = offices(&rt, alloc, TURNS, ZERO);
-    let named = all.first().expect(&rt, "an office");
-    let first = named.office.seat(&rt).expect(&rt, "a seat");
-    let (seat, _) = visits(&rt, alloc, &all, hand, b"open turns\ncall b\n");
-    let seat = seat.expect(&rt, "a seat");
+    let office = first_of(&rt, &all);
+    let first = seat_of(&rt, office);
+    let (seat, _hand) = visits(&rt, alloc, &all, hand, b"open turns\ncall b\n");
     assert!(rt; first.session() == 1 && seat.session() == 2);
-    assert!(rt; named.office.kept(&rt, &first, 1, "b", &[]).is_ok());
-    assert!(rt; named.office.kept(&rt, &seat, 1, "b", &[]).is_err());
-}
-
-// Waits for a call that waits.
-fn awaited<R: Wait>(rt: &R, office: &Office, submitted: Submitted) -> Option<Ticket> {
-    let mut submitted = submitted;
-    for _ in rt.forever() {
-        match office.await_start(rt, submitted) {
-            Started::Ticket(ticket) => return Some(ticket),
-            Started::Cancelled => return None,
-            Started::Stranger(back) => submitted = back,
-        }
-    }
-    unreachable!()
-}
-
-// The ticket of a call of `a`, which starts at once.
-fn begun<R: Abort + Wait + Clock>(rt: &R, office: &Office, seat: &mut Seat) -> Ticket {
-    let (_, tried) = office
-        .submit_and_try(rt, seat, "a", &[])
-        .expect(rt, "a call");
-    let ticket = match tried {
-        Tried::Ticket(ticket) => Some(ticket),
-        Tried::Cancelled => None,
-        Tried::Waiting(back) => awaited(rt, office, back),
-        Tried::Stranger(back) => awaited(rt, office, back),
-    };
-    ticket.expect(rt, "a ticket")
+    assert!(rt; office.kept(&rt, &first, 1, "b", &[]).is_ok());
+    assert!(rt; office.kept(&rt, &seat, 1, "b", &[]).is_err());
 }
 
 // Before a call is submitted that has waited for its turn, what stands ready is sent. Where that fails, the call is not
@@ -127,16 +101,10 @@ fn begun<R: Abort + Wait + Clock>(rt: &R, office: &Office, seat: &mut Seat) -> T
 fn a_call_of_a_client_that_hears_nothing_is_not_taken(rt: HostRuntime) {
     let alloc = rt.alloc();
     let (all, hand) = offices(&rt, alloc, STEPS, ZERO);
-    let named = all.first().expect(&rt, "an office");
-    let mut first = named.office.seat(&rt).expect(&rt, "a seat");
-    let ticket = begun(&rt, &named.office, &mut first);
-    let (seat, hand) = visits(&rt, alloc, &all, hand, b"open steps\ncall a\n");
-    let seat = seat.expect(&rt, "a seat");
-    assert!(rt; named.office.next_key(&rt, &seat) == 1);
-    let mut hand = hand;
-    let mut outcome = run_at_once(alloc, ticket, &mut hand);
-    let taken = named
-        .office
-        .complete_in_place(&rt, &mut first, &mut outcome);
-    assert!(rt; taken.is_ok());
+    let office = first_of(&rt, &all);
+    let mut first = seat_of(&rt, office);
+    let ticket = begun(&rt, office, &mut first);
+    let (seat, mut hand) = visits(&rt, alloc, &all, hand, b"open steps\ncall a\n");
+    assert!(rt; office.next_key(&rt, &seat) == 1);
+    assert!(rt; ends(&rt, alloc, office, &mut first, ticket, &mut hand) == 1);
 }

@@ -1,10 +1,14 @@
-//! Sessions of clients, over the public calls of `session_core` and `session_core`, where no case shows it: readers, writers
-//! and devices that behave as a test needs. Above each test stands the edit of `wrong-by-test/` that it catches, or what
-//! no case can show.
+//! Sessions of clients, and what a server makes of them, over the public calls of `session_core` and `serve_core`, where
+//! no case shows it: readers, writers and devices that behave as a test needs, and gates. Above each test stands the
+//! edit of `wrong-by-test/` that it catches, or what no case can show.
 #![tactic(auto)]
 
 #[cfg(test)]
 mod deaf;
+#[cfg(test)]
+mod gates;
+#[cfg(test)]
+mod gathered;
 #[cfg(test)]
 mod gone;
 #[cfg(test)]

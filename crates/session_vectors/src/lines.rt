@@ -1,7 +1,8 @@
 //! What a session answers, and how it ends.
 
-use crate::make::{CELL, ZERO, offices, serve};
+use crate::make::{CELL, ZERO, first_of, offices, serve};
 use crate::streams::{Streams, connected};
+use apply_core::reply::Reply;
 use office_core::office::Office;
 use office_core::seat::Seat;
 use office_core::slip::Slip;
@@ -28,14 +29,21 @@ const CALLED_TOLD: &[u8] = b"opened cell\naccepted 1\ndone 1\naccepted 2\ndone 2
 
 // Whether the office of an object is closed with this seat and these slips.
 fn is_closed(all: Vec<Named>, seats: Vec<Seat>, slips: &[Slip]) -> bool {
-    let mut seats = Some(seats);
-    for named in all {
-        let Some(seats) = seats.take() else {
-            return false;
-        };
-        return named.office.close_by_slips(seats, slips).is_ok();
+    let mut all = all;
+    match all.pop() {
+        Some(named) => named.office.close_by_slips(seats, slips).is_ok(),
+        None => false,
     }
-    false
+}
+
+// Whether all of these tell of a call that was done.
+fn are_done(slips: &[Slip]) -> bool {
+    for slip in slips {
+        if !matches!(slip.reply(), Reply::Done(_)) {
+            return false;
+        }
+    }
+    true
 }
 
 // Plays a session over these lines. It answers whether what was written is a front of what is expected, as long as the
@@ -52,11 +60,12 @@ fn plays<R: Abort + Threads + Wait + Clock + Sync>(
     let end = serve(rt, alloc, &all, connected(alloc, lines, streams), hand);
     let mut seats = Vec::new(alloc);
     if let Some(seat) = end.seat {
-        seats.push(seat).expect(rt, "memory");
+        assert!(rt; seats.push(seat).is_ok());
     }
     let len = told.len().min(streams.takes);
     end.writer.bytes.as_slice() == &told[..len]
         && end.fault == fault
+        && are_done(&end.receipts)
         && is_closed(all, seats, &end.receipts)
 }
 
@@ -127,8 +136,8 @@ fn a_read_fails(rt: HostRuntime) {
 // A line of so many letters, and `quit`.
 fn letters(rt: &impl Abort, alloc: Global, count: usize) -> Vec<u8> {
     let mut line = Vec::new(alloc);
-    line.resize(count, b'x').expect(rt, "memory");
-    line.extend_from_slice(b"\nquit\n").expect(rt, "memory");
+    assert!(rt; line.resize(count, b'x').is_ok());
+    assert!(rt; line.extend_from_slice(b"\nquit\n").is_ok());
     line
 }
 
@@ -210,9 +219,7 @@ fn a_name_keeps_its_seat_where_all_are_given_out(rt: HostRuntime) {
     let first = connected(alloc, b"open cell as ann\nquit\n", whole);
     let first = serve(&rt, alloc, &all, first, hand);
     assert!(rt; first.writer.bytes.as_slice() == b"opened cell next 1\nbye\n".as_slice());
-    for named in &all {
-        assert!(rt; fills(&rt, &named.office, 2));
-    }
+    assert!(rt; fills(&rt, first_of(&rt, &all), 2));
     let lines = b"open cell as bob\nopen cell\nopen cell as ann\ncall #1 get\nquit\n";
     let second = connected(alloc, lines, whole);
     let second = serve(&rt, alloc, &all, second, first.hand);

@@ -2,15 +2,19 @@
 
 use crate::streams::Told;
 use decl_core::analyse::{Accepted, analyse};
+use decl_core::object::Object;
 use decl_read::read::read_objects;
 use device_core::hand::Hand;
 use device_core::memory::MemHand;
 use device_core::whole::put;
 use office_core::inside::Inside;
 use office_core::office::Office;
+use office_core::seat::{Seat, Tried};
 use page_core::page_list::PageList;
 use page_core::pins::Pins;
 use path_tree::name::Name;
+use run_core::at_once::run_at_once;
+use run_core::ticket::Ticket;
 use session_core::end::SessionEnd;
 use session_core::order::Named;
 use session_core::serve::{Connection, serve_session};
@@ -65,42 +69,83 @@ pub const ZERO: &[u8] = b"\x02\x01\x00\x01\x00\x00\x00\x00";
 /// The queue `<>`.
 pub const EMPTY: &[u8] = b"\x02\x03\x00\x00";
 
-// The object of a text, accepted, where there is memory for it.
-fn accepted(alloc: Global, text: &[u8]) -> Option<(Name, Accepted)> {
-    let objects = read_objects(alloc, text).ok()?;
-    for (_, object) in objects {
-        let name = object.name.copy(alloc).ok()?;
-        let accepted = analyse(alloc, object).ok()?;
-        return Some((name, accepted));
+// The last object of a text.
+fn object_of(rt: &impl Abort, alloc: Global, text: &[u8]) -> Object {
+    let mut objects = match read_objects(alloc, text) {
+        Ok(objects) => objects,
+        Err(_) => panic!(rt; "no objects"),
+    };
+    match objects.pop() {
+        Some((_name, object)) => object,
+        None => panic!(rt; "no object"),
     }
-    None
 }
 
-// The inside of an office with the object of a text, whose one part is spelled so.
-fn inside_of(
+// The one object of a text, accepted.
+fn accepted(rt: &impl Abort, alloc: Global, text: &[u8]) -> Accepted {
+    match analyse(alloc, object_of(rt, alloc, text)) {
+        Ok(accepted) => accepted,
+        Err(_) => panic!(rt; "refused"),
+    }
+}
+
+/// The name that these bytes spell.
+pub fn name(rt: &impl Abort, alloc: Global, bytes: &[u8]) -> Name {
+    match Name::read(alloc, bytes) {
+        Ok(Some(name)) => name,
+        _ => panic!(rt; "no name"),
+    }
+}
+
+// The office of an object whose one part is spelled so, in a file of this hand.
+fn office_of(
+    rt: &impl Abort,
     alloc: Global,
-    text: &[u8],
+    accepted: Accepted,
     part: &[u8],
     hand: &mut MemHand,
-) -> Option<(Name, Inside)> {
-    let (name, accepted) = accepted(alloc, text)?;
-    let stamp = put(hand, part).ok()?;
+) -> Office {
+    let stamp = match put(hand, part) {
+        Ok(stamp) => stamp,
+        Err(_) => panic!(rt; "no file"),
+    };
     let pins = Pins::new(&[PageList::of(&[stamp])]);
-    if pins.len() != accepted.object().parts.len() {
-        return None;
+    assert!(rt; pins.len() == accepted.object().parts.len());
+    let inside = match Inside::open(alloc, accepted, pins) {
+        Ok(inside) => inside,
+        Err(_) => panic!(rt; "no memory"),
+    };
+    match Office::open(alloc, inside) {
+        Ok(office) => office,
+        Err(_) => panic!(rt; "no memory"),
     }
-    let inside = Inside::open(alloc, accepted, pins).ok()?;
-    Some((name, inside))
 }
 
 /// The office of the object of a text, whose one part is spelled so, and the hand that its file is on.
 pub fn offices(rt: &impl Abort, alloc: Global, text: &[u8], part: &[u8]) -> (Vec<Named>, MemHand) {
     let mut hand = MemHand::new(alloc);
-    let (name, inside) = inside_of(alloc, text, part, &mut hand).expect(rt, "an inside");
-    let office = Office::open(alloc, inside).expect(rt, "memory");
+    let accepted = accepted(rt, alloc, text);
+    let name = name(rt, alloc, accepted.object().name.as_bytes());
+    let office = office_of(rt, alloc, accepted, part, &mut hand);
     let mut all = Vec::new(alloc);
-    all.push(Named { name, office }).expect(rt, "memory");
+    assert!(rt; all.push(Named { name, office }).is_ok());
     (all, hand)
+}
+
+/// The first of some offices.
+pub fn first_of<'a>(rt: &impl Abort, all: &'a Vec<Named>) -> &'a Office {
+    match all.first() {
+        Some(named) => &named.office,
+        None => panic!(rt; "no office"),
+    }
+}
+
+/// A seat without a name.
+pub fn seat_of<R: Abort + Wait>(rt: &R, office: &Office) -> Seat {
+    match office.seat(rt) {
+        Ok(seat) => seat,
+        Err(_) => panic!(rt; "no seat"),
+    }
 }
 
 /// Serves a session that no bell stops.
@@ -138,4 +183,26 @@ pub fn tells<
         return None;
     }
     Some(end.hand)
+}
+
+/// The ticket of a call of `a`, which starts at once.
+pub fn begun<R: Abort + Wait + Clock>(rt: &R, office: &Office, seat: &mut Seat) -> Ticket {
+    match office.submit_and_try(rt, seat, "a", &[]) {
+        Ok((_, Tried::Ticket(ticket))) => ticket,
+        _ => panic!(rt; "no ticket"),
+    }
+}
+
+/// Runs a call at once, and hands it in. It answers its number.
+pub fn ends<R: Abort + Wait>(
+    rt: &R,
+    alloc: Global,
+    office: &Office,
+    seat: &mut Seat,
+    ticket: Ticket,
+    hand: &mut MemHand,
+) -> u32 {
+    let mut outcome = run_at_once(alloc, ticket, hand);
+    assert!(rt; office.complete_in_place(rt, seat, &mut outcome).is_ok());
+    outcome.number()
 }

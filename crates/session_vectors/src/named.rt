@@ -1,14 +1,12 @@
 //! Sessions that meet a call of somebody else, and names that are in use.
 
-use crate::make::{BUFFER, EMPTY, STEPS, ZERO, offices, serve, tells};
-use crate::streams::{Counted, Gate, Streams, await_lines, connected};
+use crate::make::{
+    BUFFER, EMPTY, STEPS, ZERO, begun, ends, first_of, name, offices, seat_of, serve, tells,
+};
+use crate::streams::{Counted, Gate, Streams, await_lines, connected, counter, shared};
 use office_core::office::Office;
-use office_core::seat::{Seat, Started, Submitted, Tried};
 use path_tree::name::Name;
-use run_core::at_once::run_at_once;
-use run_core::ticket::Ticket;
 use session_core::fault::SessionFault;
-use session_core::order::Named;
 use session_core::serve::Connection;
 use std::alloc::Global;
 use std::io::{self, Read};
@@ -16,7 +14,6 @@ use std::process::Abort;
 use std::sync::atomic::{AtomicU64, Ordering};
 use std::sync::{Arc, Wait};
 use std::thread;
-use std::time::Clock;
 
 // A reader of lines that come one after the other, whose input ends only once it may. It tells when it
 // is asked for its end.
@@ -54,19 +51,16 @@ fn is_in_use<R: Wait>(rt: &R, office: &Office, name: &Name) -> bool {
 // use for a while after the session wrote its last line.
 fn lingers<R: Wait>(
     rt: &R,
-    all: &Vec<Named>,
+    office: &Office,
     name: &Name,
     written: &AtomicU64,
     asked: &AtomicU64,
     may_end: &AtomicU64,
 ) -> bool {
-    let Some(named) = all.first() else {
-        return false;
-    };
     await_lines(asked, 1);
-    named.office.cancel(rt, 1);
+    office.cancel(rt, 1);
     await_lines(written, 4);
-    let is_out = is_in_use(rt, &named.office, name);
+    let is_out = is_in_use(rt, office, name);
     may_end.store(1, Ordering::SeqCst);
     is_out
 }
@@ -79,22 +73,14 @@ const LINGERS: &[(u64, &[u8])] = &[
 
 const LINGERS_TOLD: &[u8] = b"opened buffer next 1\naccepted 1\ncancelled 1\nbye\n";
 
-fn counter(rt: &impl Abort, alloc: Global) -> Arc<AtomicU64> {
-    Arc::new(alloc, AtomicU64::new(0)).expect(rt, "memory")
-}
-
-fn shared(rt: &impl Abort, count: &Arc<AtomicU64>) -> Arc<AtomicU64> {
-    Arc::try_clone(count).expect(rt, "memory")
-}
-
 // Catches `park_before_join`: the second thread of a session that ends by `quit` behind a waiting call leaves the object
 // at the end of its input. So nobody gets the name before.
 #[test]
 fn a_name_is_in_use_until_the_input_ends(rt: HostRuntime) {
     let alloc = rt.alloc();
     let (all, hand) = offices(&rt, alloc, BUFFER, EMPTY);
-    let name = Name::read(alloc, b"ann").expect(&rt, "memory");
-    let name = name.expect(&rt, "a name");
+    let office = first_of(&rt, &all);
+    let name = name(&rt, alloc, b"ann");
     let (written, asked) = (counter(&rt, alloc), counter(&rt, alloc));
     let may_end = counter(&rt, alloc);
     let reader = Lingering {
@@ -120,39 +106,10 @@ fn a_name_is_in_use_until_the_input_ends(rt: HostRuntime) {
             hand,
             LINGERS_TOLD,
         ),
-        || lingers(by, &all, &name, &written, &asked, &may_end),
+        || lingers(by, office, &name, &written, &asked, &may_end),
     );
     assert!(rt; is_out && hand.is_some());
-    if let Some(named) = all.first() {
-        assert!(rt; named.office.seat_named(&rt, &name).is_ok());
-    }
-}
-
-// The ticket of a call of `a`, which starts at once.
-fn begun<R: Abort + Wait + Clock>(rt: &R, office: &Office, seat: &mut Seat) -> Ticket {
-    let (_, tried) = office
-        .submit_and_try(rt, seat, "a", &[])
-        .expect(rt, "a call");
-    let ticket = match tried {
-        Tried::Ticket(ticket) => Some(ticket),
-        Tried::Cancelled => None,
-        Tried::Waiting(back) => awaited(rt, office, back),
-        Tried::Stranger(back) => awaited(rt, office, back),
-    };
-    ticket.expect(rt, "a ticket")
-}
-
-// Waits for a call that waits.
-fn awaited<R: Wait>(rt: &R, office: &Office, submitted: Submitted) -> Option<Ticket> {
-    let mut submitted = submitted;
-    for _ in rt.forever() {
-        match office.await_start(rt, submitted) {
-            Started::Ticket(ticket) => return Some(ticket),
-            Started::Cancelled => return None,
-            Started::Stranger(back) => submitted = back,
-        }
-    }
-    unreachable!()
+    assert!(rt; office.seat_named(&rt, &name).is_ok());
 }
 
 // Catches `nothing_is_sent_before_a_call`: where a call of another session runs, what stands ready is sent before the
@@ -161,9 +118,9 @@ fn awaited<R: Wait>(rt: &R, office: &Office, submitted: Submitted) -> Option<Tic
 fn lines_are_sent_before_a_call_that_is_held_back(rt: HostRuntime) {
     let alloc = rt.alloc();
     let (all, hand) = offices(&rt, alloc, STEPS, ZERO);
-    let named = all.first().expect(&rt, "an office");
-    let mut seat = named.office.seat(&rt).expect(&rt, "a seat");
-    let ticket = begun(&rt, &named.office, &mut seat);
+    let office = first_of(&rt, &all);
+    let mut seat = seat_of(&rt, office);
+    let ticket = begun(&rt, office, &mut seat);
     let deaf = Streams {
         step: 4096,
         takes: 0,
@@ -178,10 +135,7 @@ fn lines_are_sent_before_a_call_that_is_held_back(rt: HostRuntime) {
     );
     assert!(rt; end.fault == Some(SessionFault::WriteFault) && end.receipts.is_empty());
     let mut hand = end.hand;
-    let mut outcome = run_at_once(alloc, ticket, &mut hand);
-    let taken = named.office.complete_in_place(&rt, &mut seat, &mut outcome);
-    assert!(rt; taken.is_ok());
-    let ticket = begun(&rt, &named.office, &mut seat);
-    let outcome = run_at_once(alloc, ticket, &mut hand);
-    assert!(rt; outcome.number() == 2);
+    assert!(rt; ends(&rt, alloc, office, &mut seat, ticket, &mut hand) == 1);
+    let ticket = begun(&rt, office, &mut seat);
+    assert!(rt; ends(&rt, alloc, office, &mut seat, ticket, &mut hand) == 2);
 }

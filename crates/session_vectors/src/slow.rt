@@ -1,7 +1,7 @@
 //! A call that runs on a slow device.
 
 use crate::make::{ZERO, offices, tells};
-use crate::streams::{Counted, Gate, await_lines};
+use crate::streams::{Counted, Gate, await_lines, counter, shared};
 use device_core::hand::{Hand, HandFault, Pen, Stamp};
 use device_core::memory::MemHand;
 use device_core::whole::put;
@@ -126,7 +126,7 @@ fn served<R: Abort + Threads + Wait + Clock + Sync>(
     } = client;
     let hand = SlowHand {
         inner: hand,
-        written: Arc::try_clone(&heard).expect(rt, "memory"),
+        written: shared(rt, &heard),
         until,
         in_time: true,
     };
@@ -165,14 +165,6 @@ fn copy_of(rt: &impl Abort, alloc: Global) -> MemHand {
     let mut copy = MemHand::new(alloc);
     assert!(rt; put(&mut copy, ZERO).is_ok());
     copy
-}
-
-fn counter(rt: &impl Abort, alloc: Global) -> Arc<AtomicU64> {
-    Arc::new(alloc, AtomicU64::new(0)).expect(rt, "memory")
-}
-
-fn shared(rt: &impl Abort, count: &Arc<AtomicU64>) -> Arc<AtomicU64> {
-    Arc::try_clone(count).expect(rt, "memory")
 }
 
 // Catches `call_that_runs_stops_the_second_thread`: a session that cancels its own call, which runs on a slow device, is

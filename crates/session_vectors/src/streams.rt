@@ -4,6 +4,7 @@ use session_core::serve::Connection;
 use std::alloc::Global;
 use std::io;
 use std::io::{Read, Write};
+use std::process::Abort;
 use std::sync::Arc;
 use std::sync::atomic::{AtomicU64, Ordering};
 
@@ -98,10 +99,31 @@ const MOST_TURNS: u64 = 20_000_000_000;
 
 /// Turns until so many lines were written, or nobody comes any more.
 pub fn await_lines(written: &AtomicU64, count: u64) {
-    for _ in 0..MOST_TURNS {
+    await_within(written, count, MOST_TURNS);
+}
+
+/// Takes so many turns at most until so many lines were written.
+pub fn await_within(written: &AtomicU64, count: u64, turns: u64) {
+    for _ in 0..turns {
         if written.load(Ordering::SeqCst) >= count {
             break;
         }
+    }
+}
+
+/// A counter at 0.
+pub fn counter(rt: &impl Abort, alloc: Global) -> Arc<AtomicU64> {
+    match Arc::new(alloc, AtomicU64::new(0)) {
+        Ok(count) => count,
+        Err(_) => panic!(rt; "no memory"),
+    }
+}
+
+/// The same counter once more.
+pub fn shared(rt: &impl Abort, count: &Arc<AtomicU64>) -> Arc<AtomicU64> {
+    match Arc::try_clone(count) {
+        Ok(count) => count,
+        Err(_) => panic!(rt; "no memory"),
     }
 }
 

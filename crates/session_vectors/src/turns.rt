@@ -4,8 +4,7 @@ use crate::streams::Short;
 use apply_core::reply::Reply;
 use session_core::mouth::Mouth;
 use session_core::output::Health;
-use session_core::said::AnyLine;
-use session_text::line::Line;
+use session_text::line::{AnyLine, Line};
 use std::alloc::Global;
 use std::marker::Brand;
 use std::process::Abort;
@@ -17,7 +16,7 @@ fn goes<R: Abort + Wait>(
     rt: &R,
     alloc: Global,
     lines: &[Line],
-    ended: Option<u32>,
+    ended: Option<u64>,
     so: Health,
     told: &[u8],
 ) -> bool {

@@ -1,6 +1,5 @@
 //! Readers and writers that fail where a test wants it, and objects.
 
-use decl_core::analyse::{Accepted, analyse};
 use decl_core::object::Object;
 use decl_read::read::read_objects;
 use std::alloc::Global;
@@ -11,29 +10,11 @@ use std::process::Abort;
 /// counted from 0.
 #[derive(Drop)]
 pub struct Choppy<'a> {
-    rest: &'a [u8],
-    most: usize,
-    reads: u64,
-    fails_at: u64,
-    kind: ErrorKind,
-}
-
-impl<'a> Choppy<'a> {
-    /// A reader that never fails.
-    pub fn new(text: &'a [u8], most: usize) -> Choppy<'a> {
-        Choppy::failing(text, most, u64::MAX, ErrorKind::Other)
-    }
-
-    /// A reader that fails once, with an error of this kind.
-    pub fn failing(text: &'a [u8], most: usize, fails_at: u64, kind: ErrorKind) -> Choppy<'a> {
-        Choppy {
-            rest: text,
-            most,
-            reads: 0,
-            fails_at,
-            kind,
-        }
-    }
+    pub rest: &'a [u8],
+    pub most: usize,
+    pub reads: u64,
+    pub fails_at: u64,
+    pub kind: ErrorKind,
 }
 
 impl Read for Choppy<'_> {
@@ -47,30 +28,6 @@ impl Read for Choppy<'_> {
         buf[..count].copy_from_slice(&self.rest[..count]);
         self.rest = &self.rest[count..];
         Ok(count)
-    }
-}
-
-/// A writer that takes at most `most` bytes a write and `room` bytes in all, and then fails.
-#[derive(Drop)]
-pub struct Brim {
-    pub taken: Vec<u8>,
-    pub room: usize,
-    pub most: usize,
-}
-
-impl Write for Brim {
-    fn write(&mut self, buf: &[u8]) -> io::Result<usize> {
-        let room = self.room.saturating_sub(self.taken.len());
-        let count = buf.len().min(self.most).min(room);
-        if count == 0 {
-            return Err(io::Error::from(ErrorKind::BrokenPipe));
-        }
-        self.taken.extend_from_slice(&buf[..count])?;
-        Ok(count)
-    }
-
-    fn flush(&mut self) -> io::Result<()> {
-        Ok(())
     }
 }
 
@@ -92,33 +49,42 @@ impl Read for Endless {
 /// What a `Shy` does with a write.
 #[derive(Clone, Copy)]
 pub enum Mood {
+    /// It takes at most so many bytes of it, and fails where it has no room.
+    Takes(usize),
     TakesNone,
     Broken,
     BrokenEachSecond,
 }
 
-/// A writer that counts the writes, and takes none of them, or each second one.
-#[derive(Drop)]
+/// A writer with so much room, which counts the writes.
+#[derive(Clone, Copy, Drop)]
 pub struct Shy {
     pub mood: Mood,
     pub writes: u64,
-    pub taken: Vec<u8>,
+    pub room: usize,
+}
+
+impl Shy {
+    // Takes at most so many bytes.
+    fn take(&mut self, count: usize) -> io::Result<usize> {
+        let count = count.min(self.room);
+        if count == 0 {
+            return Err(io::Error::from(ErrorKind::BrokenPipe));
+        }
+        self.room -= count;
+        Ok(count)
+    }
 }
 
 impl Write for Shy {
     fn write(&mut self, buf: &[u8]) -> io::Result<usize> {
-        let write = self.writes;
-        self.writes = write.saturating_add(1);
+        self.writes = self.writes.saturating_add(1);
         match self.mood {
-            Mood::TakesNone => return Ok(0),
-            Mood::Broken => return Err(io::Error::from(ErrorKind::Interrupted)),
-            Mood::BrokenEachSecond => {}
+            Mood::Takes(most) => self.take(buf.len().min(most)),
+            Mood::TakesNone => Ok(0),
+            Mood::BrokenEachSecond if self.writes % 2 == 0 => Ok(buf.len()),
+            _ => Err(io::Error::from(ErrorKind::Interrupted)),
         }
-        if write % 2 == 0 {
-            return Err(io::Error::from(ErrorKind::Interrupted));
-        }
-        self.taken.extend_from_slice(buf)?;
-        Ok(buf.len())
     }
 
     fn flush(&mut self) -> io::Result<()> {
@@ -128,27 +94,21 @@ impl Write for Shy {
 
 /// An object with one part.
 pub const CELL: &[u8] = b"object cell;
-  path 1:([get], put, bump) end;
+  path 1:([get], put) end;
   var v : array [1] of integer;
   entry function get : integer; begin get := v[0] end;
   entry procedure put(x : integer); begin v[0] := x end;
-  entry procedure bump(x : integer); begin v[0] := v[0] + x end;
 end;
 ";
 
 /// The object of a source that has one.
 pub fn only_object(rt: &impl Abort, alloc: Global, text: &[u8]) -> Object {
-    let objects = read_objects(alloc, text).expect(rt, "objects");
-    for (_, object) in objects {
-        return object;
+    let mut objects = match read_objects(alloc, text) {
+        Ok(objects) => objects,
+        Err(_) => panic!(rt; "no objects"),
+    };
+    match objects.pop() {
+        Some((_name, object)) => object,
+        None => panic!(rt; "no object"),
     }
-    panic!(rt; "no object")
-}
-
-/// The same, accepted.
-pub fn accepted(rt: &impl Abort, alloc: Global, text: &[u8]) -> Accepted {
-    let object = only_object(rt, alloc, text);
-    analyse(alloc, object)
-        .ok()
-        .expect(rt, "an object that is accepted")
 }

@@ -8,8 +8,18 @@ use std::alloc::Global;
 use std::process::Abort;
 
 fn name(rt: &impl Abort, alloc: Global, text: &[u8]) -> Name {
-    let name = Name::read(alloc, text).expect(rt, "memory");
-    name.expect(rt, "a name")
+    match Name::read(alloc, text) {
+        Ok(Some(name)) => name,
+        _ => panic!(rt; "no name"),
+    }
+}
+
+// So many sessions, and so many names.
+fn guests(rt: &impl Abort, alloc: Global, sessions: u16, names: u16) -> Guests {
+    match Guests::new(alloc, sessions, names) {
+        Ok(guests) => guests,
+        Err(_) => panic!(rt; "no memory"),
+    }
 }
 
 // Since when the client of a session is away.
@@ -37,7 +47,7 @@ fn a_call_is_asked_once_and_while_there_are_keys(rt: HostRuntime) {
     let alloc = rt.alloc();
     let ann = name(&rt, alloc, b"ann");
     let bob = name(&rt, alloc, b"bob");
-    let mut guests = Guests::new(alloc, 4, 2).expect(&rt, "memory");
+    let mut guests = guests(&rt, alloc, 4, 2);
     assert!(rt; guests.admit(&ann, 1, 0, 100).err() == Some(AdmitFault::BadKey));
     // There is no fifth session.
     assert!(rt; guests.admit(&ann, 5, 7, 100).err() == Some(AdmitFault::Taken));
@@ -57,7 +67,7 @@ fn a_name_comes_where_there_is_room(rt: HostRuntime) {
     let alloc = rt.alloc();
     let ann = name(&rt, alloc, b"ann");
     let bob = name(&rt, alloc, b"bob");
-    let mut guests = Guests::new(alloc, 4, 1).expect(&rt, "memory");
+    let mut guests = guests(&rt, alloc, 4, 1);
     assert!(rt; guests.enter(&ann, 0).is_ok());
     assert!(rt; guests.enter(&ann, 1).err() == Some(EnterFault::InUse));
     assert!(rt; guests.leave(1, 2) && guests.enter(&bob, 3_601).err() == Some(EnterFault::Full));

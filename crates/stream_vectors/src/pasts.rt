@@ -5,7 +5,8 @@ use path_count::finder::short_past;
 use path_count::past::PastEvent::{self, End, Start};
 use path_count::past::counters_behind;
 use path_tree::tree::PathTree;
-use std::alloc::{AllocError, Global};
+use std::alloc::Global;
+use std::process::Abort;
 
 // Each has the operations a and b, which are 0 and 1.
 const SLOTS: &[u8] = b"object slots; path 3:(a; b) end;
@@ -74,39 +75,33 @@ const ROWS: &[Row] = &[
 ];
 
 // The events of a row.
-fn long_past(alloc: Global, row: &Row) -> Result<Vec<PastEvent>, AllocError> {
+fn long_past(rt: &impl Abort, alloc: Global, row: &Row) -> Vec<PastEvent> {
     let mut long = Vec::new(alloc);
     for _ in 0..row.times {
-        long.extend_from_slice(row.often)?;
+        assert!(rt; long.extend_from_slice(row.often).is_ok());
     }
-    long.extend_from_slice(row.behind)?;
-    Ok(long)
+    assert!(rt; long.extend_from_slice(row.behind).is_ok());
+    long
 }
 
-// Whether a past is played, and a short one of so many events found in its place.
-fn is_found(
-    alloc: Global,
-    paths: &[PathTree],
-    long: &[PastEvent],
-    short: usize,
-) -> Result<bool, AllocError> {
-    let Some(counters) = counters_behind(alloc, paths, 2, long)? else {
-        return Ok(false);
-    };
-    match short_past(alloc, paths, 2, long, &counters)? {
-        Some(found) => Ok(found.len() == short),
-        None => Ok(false),
+// How many events the short past has that is found in the place of a long one, which is played.
+fn found(alloc: Global, paths: &[PathTree], long: &[PastEvent]) -> Option<usize> {
+    match counters_behind(alloc, paths, 2, long) {
+        Ok(Some(counters)) => match short_past(alloc, paths, 2, long, &counters) {
+            Ok(Some(short)) => Some(short.len()),
+            _ => None,
+        },
+        _ => None,
     }
 }
 
-// Catches `long_past_stands_for_itself`, `finish_is_no_turn`, `burst_ends_with_each_call` and `no_past_is_played`.
+// Catches `long_past_stands_for_itself`, `finish_is_no_turn` and `no_past_is_played`.
 #[test]
 fn a_short_past_stands_for_a_long_one(rt: HostRuntime) {
     let alloc = rt.alloc();
     for row in ROWS {
         let object = only_object(&rt, alloc, row.object);
-        let long = long_past(alloc, row).expect(&rt, "memory");
-        let is_found = is_found(alloc, &object.paths, &long, row.short);
-        assert!(rt; is_found.expect(&rt, "memory"));
+        let long = long_past(&rt, alloc, row);
+        assert!(rt; found(alloc, &object.paths, &long) == Some(row.short));
     }
 }
