@@ -1,9 +1,8 @@
-//! What the program needs to read, and what standard error is told where it lacks that.
+//! What a command needs to read, and what standard error is told where it lacks that.
 
 use answer_core::failure::Failure;
 use std::alloc::{AllocError, Global};
-use std::io;
-use std::io::{ErrorKind, Write};
+use std::io::{self, ErrorKind, Write};
 use text_core::reply::push_number;
 use text_core::write_whole;
 
