@@ -74,12 +74,7 @@ fn pairs_of(rt: &HostRuntime, source: &[u8], path: &str, when: Explain) -> Vec<u
 }
 
 /// `pathserve check`.
-pub fn run_check(
-    rt: &HostRuntime,
-    path: &str,
-    when: Explain,
-    stuck: bool,
-) -> Result<u8, Failure> {
+pub fn run_check(rt: &HostRuntime, path: &str, when: Explain, stuck: bool) -> Result<u8, Failure> {
     let file = match open_file(rt, path) {
         Ok(file) => file,
         Err(lacking) => return Err(told(rt, lacking, path)),

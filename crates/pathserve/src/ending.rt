@@ -13,7 +13,7 @@ use answer_core::answer::{ACCEPTED, REFUSED};
 use answer_core::failure::Failure;
 use device_core::shelf::Shelf;
 use keep_loop::{Fault, Limits, Outside, run};
-use keep_start::ending::end_objects;
+use keep_tool::ending::end_objects;
 use std::alloc::Global;
 use std::io::Write;
 use table_core::table::Table;

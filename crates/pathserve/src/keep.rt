@@ -2,18 +2,18 @@
 
 use crate::ending::{Ended, KeepEnd, serve_table};
 use answer_core::failure::Failure;
+use command_line::past::Past;
 use command_line::request::Keeping;
 use command_line::watching::{Apart, Watching};
 use decl_core::hold::Rules;
 use device_core::dir_shelf::DirShelf;
 use keep_log::log::Log;
-use keep_start::begin::{Kept, begin_source};
-use keep_start::needs::{KeepNeeds, needs_of, watching_of};
-use keep_start::outside::{begin_outside, form_of, limits_of};
-use keep_start::pasts::pasts_in;
-use keep_start::status::seconds_now;
+use keep_tool::begin::{Kept, begin_source};
+use keep_tool::needs::{KeepNeeds, needs_of, watching_of};
+use keep_tool::outside::{begin_outside, form_of, limits_of};
+use keep_tool::pasts::pasts_in;
+use keep_tool::status::seconds_now;
 use mio_core::stream::Listener;
-use command_line::past::Past;
 use std::io::{self, Write};
 use table_core::table::Table;
 
@@ -50,15 +50,7 @@ fn serve_kept<W: Write, E: Write, L: Write>(
     let table = Table::with_held(alloc, objects, custody, asked.at_once, 0)?;
     let start = seconds_now(rt);
     let mut outside = begin_outside(
-        rt,
-        &names,
-        &fronts,
-        asked,
-        watching,
-        listener,
-        start,
-        writer,
-        log,
+        rt, &names, &fronts, asked, watching, listener, start, writer, log,
     )?;
     let ended = serve_table(
         alloc,
@@ -95,7 +87,9 @@ fn keep_source<W: Write, E: Write>(
 ) -> Result<KeepEnd, Failure> {
     let mut log = Log::new(rt.alloc(), form_of(watching.log), *rt, rt.stderr());
     let away = u64::from(watching.away);
-    match begin_source(rt, source, rules, asked, away, pasts, writer, error, &mut log)? {
+    match begin_source(
+        rt, source, rules, asked, away, pasts, writer, error, &mut log,
+    )? {
         Some(kept) => {
             let ended = serve_kept(rt, kept, asked, watching, listener, writer, error, &mut log)?;
             Ok(KeepEnd::Whole(ended))

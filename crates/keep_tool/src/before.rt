@@ -53,7 +53,11 @@ pub(crate) fn done_before(
 }
 
 // The mistake of a word that tells of a past which a journal tells.
-pub(crate) fn told_twice(alloc: Global, name: &str, past: &Past<'_>) -> Result<Failure, AllocError> {
+pub(crate) fn told_twice(
+    alloc: Global,
+    name: &str,
+    past: &Past<'_>,
+) -> Result<Failure, AllocError> {
     let Past {
         object,
         operation,

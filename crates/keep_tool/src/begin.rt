@@ -2,8 +2,8 @@
 
 use crate::before::{done_before, first_past, strangers, told_twice};
 use crate::custody::{AllRules, add_held, begin_held};
-use crate::lines::{count_lines, object_line, refused_line, told_line};
 use crate::ending::say;
+use crate::lines::{count_lines, object_line, refused_line, told_line};
 use crate::stuck::stuck_lines;
 use answer_core::answer::REFUSED;
 use answer_core::explanation::explained;

@@ -12,7 +12,10 @@ use tool_core::lack::{Lacking, Wanted};
 use tool_core::socket::{Socket, socket_at};
 
 // Where a server that keeps objects listens, and its socket, where that has a path.
-pub(crate) fn ears_at(rt: &HostRuntime, address: Address<'_>) -> Result<(Ears, Option<Socket>), Lacking> {
+pub(crate) fn ears_at(
+    rt: &HostRuntime,
+    address: Address<'_>,
+) -> Result<(Ears, Option<Socket>), Lacking> {
     match address {
         Address::Port(port) => match port_at(rt, port) {
             Ok(listener) => Ok((Ears::Port(listener), None)),
@@ -46,7 +49,11 @@ pub(crate) fn place_text(alloc: Global, asked: Keeping<'_>) -> Result<String, Al
 }
 
 // `listening PLACE`.
-pub(crate) fn tell_place<W: Write>(alloc: Global, asked: Keeping<'_>, writer: &mut W) -> Result<(), Failure> {
+pub(crate) fn tell_place<W: Write>(
+    alloc: Global,
+    asked: Keeping<'_>,
+    writer: &mut W,
+) -> Result<(), Failure> {
     let place = place_text(alloc, asked)?;
     let line = format!(in alloc; "listening {place}\n")?;
     say(writer, line.as_bytes())

@@ -38,7 +38,11 @@ fn fault_text(alloc: Global, fault: TraceFault) -> Result<String, AllocError> {
 }
 
 // The line of a journal that is refused.
-pub(crate) fn refused_line(alloc: Global, name: &str, fault: RecoverFault) -> Result<Vec<u8>, AllocError> {
+pub(crate) fn refused_line(
+    alloc: Global,
+    name: &str,
+    fault: RecoverFault,
+) -> Result<Vec<u8>, AllocError> {
     let line = match fault {
         RecoverFault::Changed => {
             format!(in alloc; "object {name} was changed: start the old FILE once\n")?

@@ -165,6 +165,10 @@ pub fn begin_outside<W: Write, L: Write>(
     let outside = outside_of(rt, names, fronts, asked, watching, listener, start)?;
     tell_place(alloc, asked, writer)?;
     let place = place_text(alloc, asked)?;
-    log.started(names.len() as u64, asked.folder.as_bytes(), place.as_bytes());
+    log.started(
+        names.len() as u64,
+        asked.folder.as_bytes(),
+        place.as_bytes(),
+    );
     Ok(outside)
 }
