@@ -1,5 +1,9 @@
 //! What is outside of the objects of a server that stays.
 
+ghost use Rattle.std.specs.Prelude.{◌≡◌, None, Some};
+ghost use Rattle.command_line.specs.declared.watching.LogForm.TheVariants.{None as NoLog, Text as TextLog, Json as JsonLog};
+ghost use Rattle.keep_log.specs.declared.line.LineForm.TheVariants.{Text, Json};
+
 use crate::ears::{place_text, tell_place};
 use crate::status::StatusFile;
 use answer_core::failure::Failure;
@@ -39,7 +43,11 @@ fn pace_of(sync: Sync) -> u64 {
 }
 
 /// The form of a log, where one is asked for.
-pub fn form_of(log: LogForm) -> Option<LineForm> {
+pub fn form_of(log: LogForm) -> Option<LineForm>
+    ensures none { log ≡ NoLog → result ≡ None }
+    ensures text { log ≡ TextLog → result ≡ Some Text }
+    ensures json { log ≡ JsonLog → result ≡ Some Json }
+{
     match log {
         LogForm::None => None,
         LogForm::Text => Some(LineForm::Text),
@@ -105,7 +113,10 @@ fn serving_of(asked: Keeping<'_>) -> Serving {
 }
 
 /// The bounds of a server of so many objects.
-pub fn limits_of(asked: Keeping<'_>, journals: usize) -> LoopLimits {
+pub fn limits_of(asked: Keeping<'_>, journals: usize) -> LoopLimits
+    ensures places { result.places ≡ asked.at_once }
+    ensures journals { result.journals ≡ journals }
+{
     LoopLimits {
         places: asked.at_once,
         journals,

@@ -1,5 +1,9 @@
 //! Sources whose objects have holds, where a command does not follow them.
 
+ghost use Rattle.std.specs.Prelude.{◌≡◌, IfOk, OnOk};
+ghost use Rattle.std.specs.Io.KnownBytes.{Appends};
+ghost use Rattle.check_core.specs.Report.{fault_line};
+
 use crate::said::written;
 use answer_core::answer::REFUSED;
 use answer_core::explanation::Telling;
@@ -24,7 +28,10 @@ pub fn refuse_faulty<W: Write, E: Write>(
     file: &str,
     writer: &mut W,
     error: &mut E,
-) -> Result<u8, Failure> {
+) -> Result<u8, Failure>
+    ensures told { OnOk result (Appends (W.contents writer.old) (W.contents writer.new) (fault_line fault)) }
+    ensures status { IfOk result (λ given. given ≡ 1) }
+{
     let mut line = Vec::new(alloc);
     push_source_fault(&mut line, fault)?;
     let status = written(&line, REFUSED, writer)?;
@@ -63,7 +70,9 @@ pub fn refuse_held<W: Write>(
     held: &Held,
     instead: &[u8],
     writer: &mut W,
-) -> Result<u8, Failure> {
+) -> Result<u8, Failure>
+    ensures { IfOk result (λ given. given ≡ 1) }
+{
     let mut line = Vec::new(alloc);
     line.extend_from_slice(b"object ")?;
     line.extend_from_slice(first_held(held))?;

@@ -2,6 +2,8 @@
 
 ghost use Rattle.std.specs.Prelude.{◌≡◌, IfErr, IfOk, OnOk};
 ghost use Rattle.std.specs.Io.KnownBytes.{Appends};
+ghost use Rattle.answer_core.specs.declared.explanation.Telling.TheVariants.{Nothing, Whole};
+ghost use Rattle.command_line.specs.declared.request.Explain.TheVariants.{Always, Never};
 ghost use Rattle.answer_core.specs.declared.failure.Failure.TheVariants.{WriteFault};
 
 use crate::lack::{Lacking, Unmet, Wanted, tell_lack};
@@ -13,7 +15,10 @@ use std::io::{ErrorKind, IsTerminal, Read, Write};
 use text_core::write_whole;
 
 /// How much is told of why something is refused: with `AtTerminal` all where standard error is one, else that there is more.
-pub fn telling_of(rt: &HostRuntime, when: Explain) -> Telling {
+pub fn telling_of(rt: &HostRuntime, when: Explain) -> Telling
+    ensures always { when ≡ Always → result ≡ Whole }
+    ensures never { when ≡ Never → result ≡ Nothing }
+{
     match when {
         Explain::Always => Telling::Whole,
         Explain::Never => Telling::Nothing,
@@ -28,7 +33,9 @@ pub fn telling_of(rt: &HostRuntime, when: Explain) -> Telling {
 }
 
 /// Tells what is lacking, by its name, and gives what the program ends with.
-pub fn told(rt: &HostRuntime, lacking: Lacking, name: &str) -> Failure {
+pub fn told(rt: &HostRuntime, lacking: Lacking, name: &str) -> Failure
+    ensures { result ≡ lacking.failure }
+{
     let Lacking { failure, lack } = lacking;
     tell_lack(rt.alloc(), lack, name, &mut rt.stderr());
     failure
@@ -41,7 +48,9 @@ pub fn told_unread<R: Read + Drop>(
     need: Wanted,
     name: &str,
     kept: &Kept<R>,
-) -> Result<u8, Failure> {
+) -> Result<u8, Failure>
+    ensures { result ≡ ended }
+{
     if let Err(Failure::ReadFault) = &ended {
         let lack = Unmet {
             need,
