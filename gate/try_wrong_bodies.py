@@ -311,7 +311,9 @@ def is_by_its_clause(rt, crate, file, edit, said, how):
     if not found:
         say(f"{label}: refused{how}, BUT THE PROVER NAMES NO GOAL to compare with: {told}")
         return False
-    contracts = [edited, *sources.values(), *below]
+    # The contract of a trait's method stands in the trait: its text comes ahead of those that have another one of that name.
+    others, traits = [*sources.values(), *below], set(IMPLEMENTED.findall(edited))
+    contracts = [edited, *sorted(others, key=lambda text: traits.isdisjoint(TRAIT.findall(text)))]
     if any(clauses.is_named(named, it, edited, contracts) for it in found):
         say(f"{label}: refused{how}, by {clauses.spelled(named)}")
         return True
@@ -322,6 +324,8 @@ def is_by_its_clause(rt, crate, file, edit, said, how):
 # The head of a function, and what may hold one.
 HEAD = re.compile(r"\s*(?:pub(?:\([a-z]+\))? )?(?:unsafe )?fn (\w+)")
 HOLDER = re.compile(r"(impl|pub trait|trait|mod)\b")
+TRAIT = re.compile(r"^(?:pub )?trait (\w+)", re.M)
+IMPLEMENTED = re.compile(r"^impl(?:<.*>)? (\w+)(?:<.*>)? for ", re.M)
 IMPL = re.compile(r"impl(?:<[^>]*>)? (\w+)(?:<[^>]*>)?(?:\s+where .*)? \{")
 CYCLE = re.compile(r"#\[cycle\((\w+)\)\]")
 # Why a proof file is refused that names what an edit took away.

@@ -6,8 +6,8 @@ use Rattle.board_core.specs.Calls.{AcceptedCall}
 use Rattle.board_core.specs.Board.{Board, call_at}
 use Rattle.board_core.specs.Keys.{HasKey, next_key}
 use Rattle.board_core.proofs.Keys.{key_below, key_one}
-use Rattle.board_core.specs.declared.answer.SubmitFault.TheVariants as faults
-use Rattle.board_core.specs.declared.answer.KeyedFault.TheVariants.{Gone, BadKey, KeyReused, Submit}
+use Rattle.guest_core.specs.declared.answer.SubmitFault.TheVariants as faults
+use Rattle.guest_core.specs.declared.answer.KeyedFault.TheVariants.{Gone, BadKey, KeyReused, Submit}
 use Rattle.board_core.specs.declared.answer.Keyed.TheVariants.{New, Kept}
 use Rattle.board_core.specs.Answers.{Asked}
 use Rattle.board_core.specs.Keyed.{IsSameCall}

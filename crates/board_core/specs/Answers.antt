@@ -12,11 +12,11 @@ use Rattle.run_core.specs.Outcomes.{outcome_call, outcome_reply, outcome_news, o
 use Rattle.run_core.specs.declared.outcome.Outcome.{Outcome}
 use Rattle.board_core.specs.declared.receipt.Receipt.{Receipt}
 use Rattle.run_core.specs.Tickets.{ticket_call}
-use Rattle.board_core.specs.declared.answer.SubmitFault.{SubmitFault}
-use Rattle.board_core.specs.declared.answer.SubmitFault.TheVariants.{Gone, UnknownOp, BadArgs, SessionBusy, Full}
-use Rattle.board_core.specs.declared.answer.SubmitFault.TheVariants.{HistoryFull, Memory}
-use Rattle.board_core.specs.declared.answer.Cancelled.{Cancelled}
-use Rattle.board_core.specs.declared.answer.Cancelled.TheVariants as cancels
+use Rattle.guest_core.specs.declared.answer.SubmitFault.{SubmitFault}
+use Rattle.guest_core.specs.declared.answer.SubmitFault.TheVariants.{Gone, UnknownOp, BadArgs, SessionBusy, Full}
+use Rattle.guest_core.specs.declared.answer.SubmitFault.TheVariants.{HistoryFull, Memory}
+use Rattle.guest_core.specs.declared.answer.Cancelled.{Cancelled}
+use Rattle.guest_core.specs.declared.answer.Cancelled.TheVariants as cancels
 use Rattle.board_core.specs.declared.answer.Collected.{Collected}
 use Rattle.board_core.specs.declared.answer.Finished.{Finished}
 use Rattle.board_core.specs.declared.answer.Collected.TheVariants as collects

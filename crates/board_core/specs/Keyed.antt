@@ -5,8 +5,8 @@ use Rattle.board_core.specs.Calls.{AcceptedCall, Noted}
 use Rattle.board_core.specs.Board.{Board, joined}
 use Rattle.board_core.specs.Started.{Settles}
 use Rattle.board_core.specs.Keys.{HasKey, next_key}
-use Rattle.board_core.specs.declared.answer.KeyedFault.{KeyedFault}
-use Rattle.board_core.specs.declared.answer.KeyedFault.TheVariants.{Gone, BadKey, KeyReused, Submit}
+use Rattle.guest_core.specs.declared.answer.KeyedFault.{KeyedFault}
+use Rattle.guest_core.specs.declared.answer.KeyedFault.TheVariants.{Gone, BadKey, KeyReused, Submit}
 use Rattle.board_core.specs.declared.answer.CallState.{CallState}
 use Rattle.board_core.specs.declared.answer.CallState.TheVariants.{Waiting, Running, Cancelled, Ended}
 use Rattle.board_core.specs.declared.answer.Kept.{Kept}

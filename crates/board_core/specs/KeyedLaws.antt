@@ -4,10 +4,10 @@ use Rattle.board_core.specs.Calls.{AcceptedCall}
 use Rattle.board_core.specs.Board.{Board, joined}
 use Rattle.board_core.specs.Started.{Settles}
 use Rattle.board_core.specs.Keys.{HasKey, next_key}
-use Rattle.board_core.specs.declared.answer.SubmitFault.{SubmitFault}
-use Rattle.board_core.specs.declared.answer.SubmitFault.TheVariants as faults
-use Rattle.board_core.specs.declared.answer.KeyedFault.{KeyedFault}
-use Rattle.board_core.specs.declared.answer.KeyedFault.TheVariants.{Gone, Submit}
+use Rattle.guest_core.specs.declared.answer.SubmitFault.{SubmitFault}
+use Rattle.guest_core.specs.declared.answer.SubmitFault.TheVariants as faults
+use Rattle.guest_core.specs.declared.answer.KeyedFault.{KeyedFault}
+use Rattle.guest_core.specs.declared.answer.KeyedFault.TheVariants.{Gone, Submit}
 use Rattle.board_core.specs.declared.answer.Keyed.{Keyed}
 use Rattle.board_core.specs.declared.answer.Keyed.TheVariants.{New, Kept}
 use Rattle.board_core.specs.Answers.{Asked, IsGone, IsTaken, IsRefused}

@@ -1,4 +1,4 @@
-//! What a desk answers.
+//! What a desk answers, beside `guest_core::answer`.
 
 ghost use Rattle.std.specs.Prelude.{◌≡◌};
 ghost use Rattle.board_core.specs.Answers.{receipt_by};
@@ -8,50 +8,6 @@ use apply_core::reply::Reply;
 use device_core::hand::Stamp;
 use run_core::outcome::Outcome;
 use run_core::ticket::Ticket;
-use thiserror::Error;
-
-/// Why a call is refused. The first that applies is told.
-#[derive(Clone, Copy, Debug, PartialEq, Eq, Error)]
-pub enum SubmitFault {
-    /// The session has left, or has no number from 1 to 1,024.
-    #[error("Gone")]
-    Gone,
-    /// No operation of the object has this name.
-    #[error("UnknownOp")]
-    UnknownOp,
-    /// The arguments do not fit the operation.
-    #[error("BadArgs")]
-    BadArgs,
-    /// A call of the session waits or runs.
-    #[error("SessionBusy")]
-    SessionBusy,
-    /// 256 calls wait or run.
-    #[error("Full")]
-    Full,
-    /// 65,536 numbers were given out.
-    #[error("HistoryFull")]
-    HistoryFull,
-    /// Memory was refused.
-    #[error("Memory")]
-    Memory,
-}
-
-/// Why a call under a key is refused. The first that applies is told.
-#[derive(Clone, Copy, Debug, PartialEq, Eq, Error)]
-pub enum KeyedFault {
-    /// The session has left, or has no number from 1 to 1,024.
-    #[error("Gone")]
-    Gone,
-    /// The key is 0, or past that of the session's next call.
-    #[error("BadKey")]
-    BadKey,
-    /// The session's call of this key is of another operation or has other arguments.
-    #[error("KeyReused")]
-    KeyReused,
-    /// The key is that of the session's next call, which is refused.
-    #[error("{0}")]
-    Submit(SubmitFault),
-}
 
 /// What became of an accepted call.
 #[derive(Clone, Copy, Debug, PartialEq, Eq)]
@@ -82,19 +38,6 @@ pub enum Keyed {
     New(u32),
     /// The session made this call before, under this key. Nothing is changed.
     Kept(Kept),
-}
-
-/// What became of a cancel.
-#[derive(Clone, Copy, Debug, PartialEq, Eq)]
-pub enum Cancelled {
-    /// The call waited, and is cancelled.
-    Cancelled,
-    /// The call runs, and goes on.
-    Running,
-    /// The call has finished, or was cancelled before.
-    Ended,
-    /// There is no such call.
-    Unknown,
 }
 
 /// What a finish gives beside the outcome that it was given.

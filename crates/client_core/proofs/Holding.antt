@@ -21,7 +21,7 @@ use Rattle.client_core.specs.declared.ask.Ask.TheVariants as asks
 use Rattle.client_core.specs.declared.ask.Sight.{Sight}
 use Rattle.client_core.specs.declared.ask.Sight.TheVariants as insides
 use Rattle.client_core.specs.declared.client.Opened.{Opened}
-use Rattle.client_core.specs.Custody.{Custody, Custodies, FollowsIn, HeldBehindAll, as_told, holding_now}
+use Rattle.custody_core.specs.Custody.{Custody, Custodies, FollowsIn, HeldBehindAll, as_told, holding_now}
 use Rattle.client_core.specs.State.{State}
 use Rattle.client_core.specs.Deeds.{Texts, Deed, Nothing, OnlyTold, Then}
 use Rattle.client_core.specs.Asked.{IsRefused, Opens, Ends, AllEnd, Follows, Submits, Sits, AnswersCall, LetsGo, AnswersCancel, AnswersInside, Goes, Acts, Heeds}

@@ -6,9 +6,9 @@ use Rattle.value_core.specs.declared.datum.Datum.{Datum}
 use Rattle.decl_core.specs.ObjectMap.{object_of}
 use Rattle.word_core.specs.Text.{operation_name}
 use Rattle.word_core.specs.Answers.{cancelled_line, kept_line}
-use Rattle.board_core.specs.declared.answer.Cancelled.{Cancelled}
-use Rattle.board_core.specs.declared.answer.Cancelled.TheVariants as cancels
-use Rattle.board_core.specs.declared.answer.SubmitFault.TheVariants as faults
+use Rattle.guest_core.specs.declared.answer.Cancelled.{Cancelled}
+use Rattle.guest_core.specs.declared.answer.Cancelled.TheVariants as cancels
+use Rattle.guest_core.specs.declared.answer.SubmitFault.TheVariants as faults
 use Rattle.session_text.specs.declared.line.Line.{Line}
 use Rattle.session_text.specs.declared.line.Line.TheVariants as lines
 use Rattle.session_text.specs.Lines.{accepted_text, bye_text, cancel_name, ended_text, line_text, opened_text, repeated_text, withdrawn_text}
@@ -30,7 +30,7 @@ use Rattle.client_core.specs.declared.ask.Ask.{Ask}
 use Rattle.client_core.specs.declared.ask.Ask.TheVariants as asks
 use Rattle.client_core.specs.declared.ask.Sight.{Sight}
 use Rattle.client_core.specs.declared.client.Opened.{Opened}
-use Rattle.client_core.specs.Custody.{Custody, Custodies, MayMake, FollowsIn, IsFreeOf, HasSome, not_held_text}
+use Rattle.custody_core.specs.Custody.{Custody, Custodies, MayMake, FollowsIn, IsFreeOf, HasSome, not_held_text}
 use Rattle.client_core.specs.State.{State, nobody, opening, waiting, opened_at, changed, with_object, with_custody, told_to, counted, session_by}
 use Rattle.client_core.specs.Deeds.{Texts, Deed, Nothing, OnlyTold}
 use Rattle.client_core.specs.ToldInside.{Sees}

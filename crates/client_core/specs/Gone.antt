@@ -13,7 +13,7 @@ use Rattle.guest_core.specs.Seats.{IsLeastFree}
 use Rattle.hosted_core.specs.Calls.{Does}
 use Rattle.hosted_core.specs.Scene.{Scene, with_guests}
 use Rattle.client_core.specs.declared.client.Opened.{Opened}
-use Rattle.client_core.specs.Custody.{Custody, IsOwed, HasNone}
+use Rattle.custody_core.specs.Custody.{Custody, IsOwed, HasNone}
 use Rattle.client_core.specs.State.{State, opened_at, with_object}
 use Rattle.client_core.specs.Deeds.{Texts}
 use Rattle.client_core.specs.Asked.{AllEnd, Follows}

@@ -5,7 +5,6 @@ pub mod Numbers
 pub mod People
 pub mod Places
 pub mod Asked
-pub mod Custody
 pub mod Deeds
 pub mod Given
 pub mod Gone

@@ -4,7 +4,7 @@ use Rattle.hosted_core.specs.Fronts.{IsNextFront}
 use Rattle.hosted_core.specs.Scene.{Scene}
 use Rattle.hosted_core.specs.Steps.{Steps, BeginsBy}
 use Rattle.post_core.specs.Texts.{to}
-use Rattle.client_core.specs.Custody.{held_lines_in}
+use Rattle.custody_core.specs.Custody.{held_lines_in}
 use Rattle.client_core.specs.State.{State}
 
 -- each object goes by such steps, and the lines that are added to its journal are those of them

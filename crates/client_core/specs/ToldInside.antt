@@ -21,7 +21,7 @@ use Rattle.inside_text.specs.List.{list_text}
 use Rattle.decl_core.specs.HoldForm.{HoldForm}
 use Rattle.guest_core.specs.Held.{HeldCall}
 use Rattle.check_core.specs.HeldTold.{holds_line}
-use Rattle.client_core.specs.Custody.{holds_by, held_by}
+use Rattle.custody_core.specs.Custody.{holds_by, held_by}
 use Rattle.client_core.specs.State.{Peer, State, opened_in, opened_at}
 use Rattle.client_core.specs.Deeds.{Texts, Deed, OnlyTold}
 

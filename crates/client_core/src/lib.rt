@@ -1,9 +1,8 @@
 //! The connections of a kept server: what a line asks for, the lines that answer, which lines are held, and what a turn
 //! tells to whom.
 //!
-//! `ask` reads a line, `answer` has the lines that tell numbers of 64 bits. `clients::Clients` has a place for each
-//! connection: what it has opened, whether a call of it waits, and the lines that came behind that call. Those whose
-//! held lines may be done stand in a row.
+//! `ask` reads a line. `clients::Clients` has a place for each connection: what it has opened, whether a call of it
+//! waits, and the lines that came behind that call. Those whose held lines may be done stand in a row.
 //!
 //! What a turn of `keep` tells is said over the definitions alone. A `State` is a table as its clients know it: each
 //! object with its clients, and each place of connections. A *deed* is what is told to whom, and what is added to which
@@ -11,7 +10,6 @@
 //! `specs/Turns.antt` which deeds a turn is; `laws` has what holds of them, which no program calls.
 #![tactic(auto)]
 
-pub mod answer;
 pub mod ask;
 pub mod client;
 pub mod clients;

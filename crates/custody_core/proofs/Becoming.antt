@@ -10,7 +10,7 @@ use Rattle.decl_core.specs.ObjectForm.{ObjectForm}
 use Rattle.decl_core.specs.HoldForm.{EveryForm}
 use Rattle.custody_core.specs.declared.holding.OwedCall.{OwedCall}
 use Rattle.custody_core.specs.declared.ticking.Ticking.{Ticking}
-use Rattle.client_core.specs.Custody.{Custody, HasNone}
+use Rattle.custody_core.specs.Custody.{Custody, HasNone}
 use Rattle.custody_core.specs.Views.{custody_of, custodies_of}
 use Rattle.custody_core.specs.declared.all.DueCall.{DueCall}
 use Rattle.custody_core.proofs.Placing.{some_at}

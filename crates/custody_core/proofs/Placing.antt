@@ -7,12 +7,12 @@ use Rattle.std.proofs.lemmas.Option.{same_Some, slice_get-get_or}
 use Rattle.hosted_core.specs.Scene.{Scene}
 use Rattle.live_core.specs.declared.call.Ran.{Ran}
 use Rattle.decl_core.specs.HoldForm.{HoldForm, RulesForm}
-use Rattle.recover_core.specs.HeldLines.{held_text}
+use Rattle.front_read.specs.HeldLines.{held_text}
 use Rattle.guest_core.specs.Held.{HeldCall}
 use Rattle.custody_core.specs.declared.holding.OwedCall.{OwedCall}
 use Rattle.custody_core.specs.Holding.{Holding, IsDueOf, NothingIsDueOf}
-use Rattle.client_core.specs.Custody.{Custody, Custodies, FollowsIn, HeldBehindAll, HasSome, HasNone, IsFreeOf, IsOwed, held_lines}
-use Rattle.client_core.specs.Custody.IsOwed.{gives_back}
+use Rattle.custody_core.specs.Custody.{Custody, Custodies, FollowsIn, HeldBehindAll, HasSome, HasNone, IsFreeOf, IsOwed, held_lines}
+use Rattle.custody_core.specs.Custody.IsOwed.{gives_back}
 use Rattle.custody_core.specs.Views.{custody_of}
 
 -- the one at a place

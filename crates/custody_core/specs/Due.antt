@@ -5,7 +5,7 @@ use Rattle.session_text.specs.declared.line.Refusal.TheVariants.{Full, InUse}
 use Rattle.decl_core.specs.ObjectForm.{ObjectForm}
 use Rattle.live_core.specs.declared.call.Ran.{Ran}
 use Rattle.hosted_core.specs.Scene.{Scene}
-use Rattle.client_core.specs.Custody.{as_told}
+use Rattle.custody_core.specs.Custody.{as_told}
 use Rattle.custody_core.specs.declared.holder.Holder.{Holder}
 use Rattle.custody_core.specs.declared.holder.WhenDue.TheVariants as whens
 use Rattle.custody_core.specs.declared.ticking.Ticking.{Ticking}

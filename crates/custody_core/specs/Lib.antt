@@ -1,3 +1,4 @@
+pub mod Custody
 pub mod Views
 pub mod Due
 pub mod Gone

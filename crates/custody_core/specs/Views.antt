@@ -1,7 +1,7 @@
 -- What is held of objects, without who is gone.
 use Rattle.std.specs.Prelude.{List, map}
 use Rattle.custody_core.specs.Holding.{Holding}
-use Rattle.client_core.specs.Custody.{Custody, Custodies}
+use Rattle.custody_core.specs.Custody.{Custody, Custodies}
 use Rattle.custody_core.specs.declared.all.AllHeld.TheInside.{Inside}
 
 abbrev pub custody_of : Holding → Custody

@@ -5,8 +5,7 @@
 //! clients and of time has none. `all::AllHeld` has it of each object of a table by its place.
 //!
 //! Neither makes a call nor touches an object: `table_core` asks what is due, makes the calls, ordinary ones by the
-//! sessions that held, and says what became of them. `client_core` says what is held behind calls that ended (its
-//! `specs/Custody.antt`).
+//! sessions that held, and says what became of them. `specs/Custody.antt` says what is held behind calls that ended.
 #![tactic(auto)]
 
 pub mod all;

@@ -2,7 +2,7 @@
 
 ghost use Rattle.std.specs.Prelude.{◌≡◌, [], Some, OnOk, IfOk, true, false};
 ghost use Rattle.hosted_core.specs.Scene.{Scene};
-ghost use Rattle.client_core.specs.Custody.{HeldBehind, HeldBehindAll, HasNone, HasSome, as_told};
+ghost use Rattle.custody_core.specs.Custody.{HeldBehind, HeldBehindAll, HasNone, HasSome, as_told};
 ghost use Rattle.custody_core.specs.Holding.{Ends, Goes};
 ghost use Rattle.custody_core.specs.Due.{EndsAll, IsUnwelcome, Looks, Notes};
 ghost use Rattle.custody_core.specs.Views.{custody_of};

@@ -16,14 +16,13 @@ ghost use Rattle.board_core.specs.Answers.{IsGone, IsTaken, IsRefused, Cancels, 
 ghost use Rattle.board_core.specs.Answers.{receipt_by, waits_in, runs_in, runs_by};
 
 use crate::roster::{MOST_SESSIONS, Roster};
-use board_core::answer::{
-    Cancelled, Collected, Finished, Kept, Keyed, KeyedFault, Stranger, SubmitFault,
-};
+use board_core::answer::{Collected, Finished, Kept, Keyed, Stranger};
 use board_core::call::Call;
 use board_core::entry::Entry;
 use board_core::event::TraceEvent;
 use board_core::receipt::Receipt;
 use decl_core::analyse::Accepted;
+use guest_core::answer::{Cancelled, KeyedFault, SubmitFault};
 use page_core::pins::Pins;
 use run_core::outcome::Outcome;
 use std::alloc::{AllocError, Global};

@@ -1,3 +1,4 @@
+mod Adding
 mod Answering
 mod Calling
 mod Clear

@@ -7,3 +7,4 @@ pub mod Parts
 pub mod Row
 pub mod Fault
 pub mod Read
+pub mod HeldLines

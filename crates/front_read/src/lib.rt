@@ -3,6 +3,9 @@
 //! `read::read_front` takes the front at the beginning of a text, and tells how many bytes it has. Nothing but what
 //! `live_core` writes is read: each row is written again and compared. A row is read in three steps: `text` cuts its
 //! line, `word_core` makes words of it, and the module of the row takes these for what they stand for.
+//!
+//! The front of an object with holds has a line `held sK N OP DATA ..` for each call that is held when it begins, behind
+//! all others. `hold_lines` writes them; `recover_core` reads them.
 #![tactic(auto)]
 
 mod answer;
@@ -10,6 +13,7 @@ mod call;
 mod carried;
 mod client;
 mod head;
+pub mod hold_lines;
 mod kept;
 mod names;
 mod number;

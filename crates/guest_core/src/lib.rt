@@ -9,12 +9,15 @@
 //! a key, `specs/Guests.antt` what each step makes of a table of clients. `laws` says that along any steps keys are
 //! consecutive, that each stands once, and what is kept of the calls of each name.
 //!
+//! `answer` has what a call, a call under a key and a cancel are refused or answered.
+//!
 //! What sessions hold are calls that are done, until a call that ends a hold has ended: it follows from what happened
 //! alone (`specs/Held.antt`, `AreHeld`). `held` keeps it, end by end, says who may end what, and what is to be called
 //! for who is gone. `hold_laws` says that a hold that not anybody may end is never given back more often than it was
 //! taken.
 #![tactic(auto)]
 
+pub mod answer;
 pub mod guest;
 pub mod guests;
 pub mod held;

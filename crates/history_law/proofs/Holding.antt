@@ -6,7 +6,7 @@ use Rattle.front_read.specs.Rows.{has_verb}
 use Rattle.front_read.specs.Text.{goes_on}
 use Rattle.decl_core.specs.HoldForm.{HoldForm}
 use Rattle.guest_core.specs.Held.{HeldCall}
-use Rattle.recover_core.specs.HeldLines.{held_text}
+use Rattle.front_read.specs.HeldLines.{held_text}
 use Rattle.history_law.specs.Held.{WrittenHasHeld}
 use Rattle.history_law.proofs.FrontReading.{IsApart, fronts_apart, adds_apart, front_begins, front_apart}
 

@@ -6,7 +6,7 @@ use Rattle.live_core.specs.Text.{front_text}
 use Rattle.front_read.specs.Text.{goes_on}
 use Rattle.decl_core.specs.HoldForm.{HoldForm}
 use Rattle.guest_core.specs.Held.{HeldCall}
-use Rattle.recover_core.specs.HeldLines.{held_text, IsHeldLine}
+use Rattle.front_read.specs.HeldLines.{held_text, IsHeldLine}
 use Rattle.recover_core.specs.HeldText.{HasHeld}
 use Rattle.history_law.specs.WrittenRead.{Adds}
 

@@ -14,7 +14,7 @@ use Rattle.inside_core.specs.declared.numbers.SeenObject.{SeenObject}
 use Rattle.inside_core.specs.declared.numbers.OperationTally.{OperationTally}
 use Rattle.inside_core.specs.declared.tallies.CallEnds.{CallEnds}
 use Rattle.inside_core.specs.declared.tallies.ObjectTally.{ObjectTally}
-use Rattle.client_core.specs.Custody.{Custodies}
+use Rattle.custody_core.specs.Custody.{Custodies}
 use Rattle.client_core.specs.ToldInside.{Crowd, is_asked, sits_in, sitting_from}
 use Rattle.client_core.specs.State.{Peer, opened_in}
 use Rattle.inside_core.proofs.Sitting.{sits_more}

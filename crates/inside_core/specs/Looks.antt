@@ -16,7 +16,7 @@ use Rattle.inside_core.specs.Laws.{sum_of}
 use Rattle.inside_core.specs.Tallies.{ends_of, taken_of}
 use Rattle.inside_core.specs.declared.tallies.CallEnds.{CallEnds}
 use Rattle.inside_core.specs.declared.tallies.ObjectTally.{ObjectTally}
-use Rattle.client_core.specs.Custody.{Custodies, held_by}
+use Rattle.custody_core.specs.Custody.{Custodies, held_by}
 use Rattle.client_core.specs.ToldInside.{Crowd, sitting_from}
 use Rattle.client_core.specs.State.{opened_in, peers_of}
 

@@ -7,7 +7,7 @@ ghost use Rattle.word_core.specs.Text.{operation_name};
 ghost use Rattle.inside_core.specs.Laws.{sum_of};
 ghost use Rattle.inside_core.specs.Tallies.{ends_of, taken_of};
 ghost use Rattle.custody_core.specs.Views.{custodies_of};
-ghost use Rattle.client_core.specs.Custody.{held_by};
+ghost use Rattle.custody_core.specs.Custody.{held_by};
 ghost use Rattle.client_core.specs.ToldInside.{Crowd, sits_in, sitting_from};
 ghost use Rattle.client_core.specs.State.{opened_in, peers_of};
 ghost use Rattle.inside_core.specs.Looks.{waiting_of, told_ends, left_of, wait_in, wait_at, crowd_at, IsLongest, IsTally, AreTallies, Shows};

@@ -4,9 +4,9 @@ use Rattle.std.specs.Prelude.{Ok, Err}
 use Rattle.board_core.specs.Board.{Board}
 use Rattle.board_core.specs.Sound.{IsSound}
 use Rattle.board_core.specs.Keys.{next_key}
-use Rattle.board_core.specs.declared.answer.SubmitFault.{SubmitFault}
-use Rattle.board_core.specs.declared.answer.KeyedFault.{KeyedFault}
-use Rattle.board_core.specs.declared.answer.KeyedFault.TheVariants.{Gone, BadKey, KeyReused, Submit}
+use Rattle.guest_core.specs.declared.answer.SubmitFault.{SubmitFault}
+use Rattle.guest_core.specs.declared.answer.KeyedFault.{KeyedFault}
+use Rattle.guest_core.specs.declared.answer.KeyedFault.TheVariants.{Gone, BadKey, KeyReused, Submit}
 use Rattle.board_core.specs.Answers.{Asked, IsGone, IsRefused}
 use Rattle.board_core.specs.Keyed.{Finds, SubmitsKeyed}
 

@@ -3,7 +3,7 @@ use Rattle.std.specs.Prelude.{◌≡◌, ℕ, ◌+◌, List, length, Result, Ok,
 use Rattle.board_core.specs.Calls.{AcceptedCall}
 use Rattle.board_core.specs.Board.{Board, joined}
 use Rattle.board_core.specs.Started.{Settles}
-use Rattle.board_core.specs.declared.answer.SubmitFault.{SubmitFault}
+use Rattle.guest_core.specs.declared.answer.SubmitFault.{SubmitFault}
 use Rattle.board_core.specs.Answers.{Asked, IsTaken, IsRefused}
 use Rattle.office_core.specs.declared.clients.Client.{Client}
 

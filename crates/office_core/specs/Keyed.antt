@@ -4,7 +4,7 @@ use Rattle.board_core.specs.Board.{Board}
 use Rattle.board_core.specs.Sound.{IsSound}
 use Rattle.board_core.specs.Answers.{Asked}
 use Rattle.board_core.specs.Keyed.{IsKeptCall, SubmitsKeyed}
-use Rattle.board_core.specs.declared.answer.KeyedFault.{KeyedFault}
+use Rattle.guest_core.specs.declared.answer.KeyedFault.{KeyedFault}
 use Rattle.board_core.specs.declared.answer.Keyed.{Keyed}
 use Rattle.board_core.specs.declared.answer.Keyed.TheVariants as keyed
 use Rattle.office_core.specs.declared.seat.Submitted.{Submitted}

@@ -13,7 +13,8 @@ use crate::client_seat::Seat;
 use crate::inside::Inside;
 use crate::office::Office;
 use crate::seat::Submitted;
-use board_core::answer::{Kept, KeyedFault};
+use board_core::answer::Kept;
+use guest_core::answer::KeyedFault;
 use std::sync::Wait;
 use value_core::datum::Datum;
 

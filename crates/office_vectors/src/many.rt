@@ -2,12 +2,12 @@
 
 use crate::make::{office_of, pins, stuck};
 use apply_core::reply::Reply;
-use board_core::answer::SubmitFault;
 use board_core::entry::Entry;
 use board_core::event::TraceEvent;
 use board_core::receipt::Receipt;
 use desk_core::desk::Desk;
 use device_core::memory::MemHand;
+use guest_core::answer::SubmitFault;
 use office_core::inside::Closed;
 use office_core::office::Office;
 use office_core::seat::{Seat, Started, Submitted};

@@ -2,8 +2,9 @@
 
 use crate::make::{finish, office_of, pins, stuck};
 use apply_core::reply::Reply;
-use board_core::answer::{CallState, Kept, KeyedFault};
+use board_core::answer::{CallState, Kept};
 use device_core::memory::MemHand;
+use guest_core::answer::KeyedFault;
 use office_core::keyed::Resubmitted;
 use office_core::named::{NameFault, ParkFault};
 use office_core::office::Office;

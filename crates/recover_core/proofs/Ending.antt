@@ -11,7 +11,7 @@ use Rattle.word_core.specs.Events.{Called, began, ended, body_at}
 use Rattle.live_core.specs.Front.{Every, IsOperation}
 use Rattle.decl_core.specs.HoldForm.{HoldForm, reply_sorts}
 use Rattle.guest_core.specs.Held.{HeldCall, GivesBy, GivesOne, Fits, at_first, at_begin, at_end, begun, begun_by, held_data, hold_ended, hold_of_op, reply_data}
-use Rattle.recover_core.specs.HeldLines.{IsHeldLine}
+use Rattle.front_read.specs.HeldLines.{IsHeldLine}
 use Rattle.recover_core.specs.HeldSo.{IsHeldBy}
 use Rattle.recover_core.specs.Laws.{HeldAreLines, IsEnding, LinesTellOne, Replies}
 use Rattle.recover_core.proofs.Named.{rule_at}

@@ -2,7 +2,6 @@ pub mod Coming
 pub mod Cutting
 pub mod Hearing
 pub mod Recovering
-mod Adding
 mod Ending
 mod Named
 mod Numerals

@@ -24,7 +24,7 @@ use Rattle.front_read.specs.Rows.{row_words}
 use Rattle.front_read.specs.Words.{behind_verb, long_first, long_of, session_first}
 use Rattle.decl_core.specs.HoldForm.{HoldForm}
 use Rattle.guest_core.specs.Held.{HeldCall, hold_of_op}
-use Rattle.recover_core.specs.HeldLines.{held_op, held_words, op_by, IsHeldLine}
+use Rattle.front_read.specs.HeldLines.{held_op, held_words, op_by, IsHeldLine}
 use Rattle.recover_core.specs.HeldSo.{held_head, held_so, IsHeldBy, TakesBy, TakesHeld, Tells}
 use Rattle.recover_core.proofs.Named.{first_of, rule_at}
 use Rattle.recover_core.proofs.Numerals.{long_fits, long_of-decimal}

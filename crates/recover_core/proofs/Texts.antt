@@ -16,7 +16,7 @@ use Rattle.front_read.specs.Rows.{AreRows, IsRow, NoRow, has_verb, row_words}
 use Rattle.decl_core.specs.HoldForm.{HoldForm}
 use Rattle.guest_core.specs.Held.{HeldCall}
 use Rattle.recover_core.specs.declared.text.HeldFront.{HeldFront}
-use Rattle.recover_core.specs.HeldLines.{held_text, held_words, IsHeldLine}
+use Rattle.front_read.specs.HeldLines.{held_text, held_words, IsHeldLine}
 use Rattle.recover_core.specs.HeldSo.{TakesHeld}
 use Rattle.recover_core.specs.HeldText.{HasHeld, IsBehind, IsHeldFault}
 use Rattle.recover_core.proofs.Reading.{held_clear, held_once, words_in}

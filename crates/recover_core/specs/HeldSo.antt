@@ -15,13 +15,7 @@ use Rattle.front_read.specs.Rows.{row_words}
 use Rattle.front_read.specs.Words.{behind_verb, long_first, session_first}
 use Rattle.decl_core.specs.HoldForm.{HoldForm, reply_sorts}
 use Rattle.guest_core.specs.Held.{HeldCall, hold_of_op}
-use Rattle.recover_core.specs.declared.hold_lines.HeldSo.{HeldSo}
-use Rattle.recover_core.specs.HeldLines.{held_words, IsHeldLine}
-
--- a call that is held so, with these values
-abbrev pub held_with : HeldSo → List Datum → HeldCall
-held_with so values =
-    record { number = so.number; session = so.session; rule = so.rule; values = values }
+use Rattle.front_read.specs.HeldLines.{held_words, IsHeldLine}
 
 -- `held sK N OP`, and the words behind it
 abbrev pub held_head : List Word → Option (ℕ × ℕ × List ℕ × List Word)

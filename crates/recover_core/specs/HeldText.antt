@@ -9,7 +9,7 @@ use Rattle.recover_core.specs.Lines.{line_ends}
 use Rattle.decl_core.specs.HoldForm.{HoldForm}
 use Rattle.guest_core.specs.Held.{HeldCall}
 use Rattle.recover_core.specs.declared.text.HeldFront.{HeldFront}
-use Rattle.recover_core.specs.HeldLines.{held_text, held_words, IsHeldLine}
+use Rattle.front_read.specs.HeldLines.{held_text, held_words, IsHeldLine}
 
 -- A journal says of an object and of what is held when its epoch begins what its front says: the lines of that, then those
 -- of what is held, and behind them what happened.

@@ -11,7 +11,7 @@ use Rattle.live_core.specs.Front.{Every, IsLong, IsOperation, IsSession}
 use Rattle.front_read.specs.Rows.{has_verb}
 use Rattle.decl_core.specs.HoldForm.{HoldForm}
 use Rattle.guest_core.specs.Held.{HeldCall, AreHeld}
-use Rattle.recover_core.specs.HeldLines.{held_text, IsHeldLine}
+use Rattle.front_read.specs.HeldLines.{held_text, IsHeldLine}
 
 -- what an operation replies that was done: nothing, or a datum of its sort
 abbrev pub Replies : Option Elem → Reply → Type 0

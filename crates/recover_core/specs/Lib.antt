@@ -5,7 +5,6 @@ pub mod Odd
 pub mod Playing
 pub mod Recovered
 pub mod Chain
-pub mod HeldLines
 pub mod HeldPlay
 pub mod HeldSo
 pub mod HeldText

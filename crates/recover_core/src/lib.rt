@@ -11,8 +11,8 @@
 //! has the lines that tell of it.
 //!
 //! The front of an object with holds has a line `held sK N OP DATA ..` for each call that is held when it begins, the
-//! oldest first, behind all others. `hold_lines` writes them, and `text` reads a front with them, and cuts them out of
-//! a journal, which is then read as that of an object without holds. `past` says what is held at the end: what happened
+//! oldest first, behind all others. `front_read::hold_lines` writes them, and `text` reads a front with them, and cuts
+//! them out of a journal, which is then read as that of an object without holds. `past` says what is held at the end: what happened
 //! since is told by the lines behind the front, and nothing else is stored. `laws` says that what is held can be told
 //! so, and in one way.
 #![tactic(auto)]
@@ -20,7 +20,6 @@
 pub mod chain;
 mod clients;
 pub mod epochs;
-pub mod hold_lines;
 pub mod laws;
 pub mod lines;
 mod number;

@@ -11,12 +11,13 @@ ghost use Rattle.live_core.specs.Front.{Every};
 ghost use Rattle.front_read.specs.Calls.{operation_in};
 ghost use Rattle.decl_core.specs.HoldForm.{reply_sorts};
 ghost use Rattle.decl_core.specs.HoldMap.{holds_of};
-ghost use Rattle.recover_core.specs.HeldSo.{held_head as held_head_in, head_view, held_with, FindsRule, TakesBy, TakesHeld, TakesSo};
+ghost use Rattle.front_read.specs.HeldLines.{held_with};
+ghost use Rattle.recover_core.specs.HeldSo.{held_head as held_head_in, head_view, FindsRule, TakesBy, TakesHeld, TakesSo};
 
-use crate::hold_lines::{HeldSo, push_held_so};
 use crate::number::{behind_verb, long_first, object_has_names, session_first};
 use decl_core::hold::Hold;
 use decl_core::object::{Object, Operation, Param};
+use front_read::hold_lines::{HeldSo, push_held_so};
 use guest_core::held::{Holds, hold_of_op};
 use path_tree::node::OpId;
 use std::alloc::{AllocError, Global};

@@ -11,7 +11,7 @@ ghost use Rattle.front_read.specs.Rows.{Takes, TakesAll, row_words};
 ghost use Rattle.front_read.specs.Text.{begins, goes_on};
 ghost use Rattle.decl_core.specs.HoldMap.{holds_of};
 ghost use Rattle.guest_core.specs.Held.{HeldCall as AHeldCall};
-ghost use Rattle.recover_core.specs.HeldLines.{held_text, held_words, IsHeldLine};
+ghost use Rattle.front_read.specs.HeldLines.{held_text, held_words, IsHeldLine};
 ghost use Rattle.recover_core.specs.HeldText.{HasHeld, IsBehind, IsHeldFault};
 
 use crate::lines::line_ends;

@@ -13,7 +13,7 @@ use Rattle.board_core.specs.Calls.{RunningCall}
 use Rattle.board_core.specs.Board.{Board, call_at}
 use Rattle.board_core.specs.Sound.{IsSound, IsRunningIn}
 use Rattle.board_core.specs.Answers.{Asked, runs_in}
-use Rattle.board_core.specs.declared.answer.SubmitFault.{SubmitFault}
+use Rattle.guest_core.specs.declared.answer.SubmitFault.{SubmitFault}
 use Rattle.world_core.specs.declared.event.Answer.TheVariants.{Number, Stepped, Ended, Refused}
 use Rattle.world_core.specs.declared.event.Refusal.{Refusal}
 use Rattle.world_core.specs.declared.event.Refusal.TheVariants.{NoStep, NotRunning}

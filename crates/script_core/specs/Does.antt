@@ -10,12 +10,12 @@ use Rattle.run_core.specs.declared.step.StepAnswer.TheVariants.{Went, Failed, Al
 use Rattle.word_core.specs.Text.{trace_text}
 use Rattle.board_core.specs.declared.event.TraceEvent.{TraceEvent}
 use Rattle.board_core.specs.Sound.{event_number, IsSound}
-use Rattle.board_core.specs.declared.answer.SubmitFault.TheVariants as faults
-use Rattle.board_core.specs.declared.answer.KeyedFault.TheVariants as keyed
+use Rattle.guest_core.specs.declared.answer.SubmitFault.TheVariants as faults
+use Rattle.guest_core.specs.declared.answer.KeyedFault.TheVariants as keyed
 use Rattle.board_core.specs.declared.answer.CallState.{CallState}
 use Rattle.board_core.specs.declared.answer.CallState.TheVariants as states
-use Rattle.board_core.specs.declared.answer.Cancelled.{Cancelled}
-use Rattle.board_core.specs.declared.answer.Cancelled.TheVariants as cancels
+use Rattle.guest_core.specs.declared.answer.Cancelled.{Cancelled}
+use Rattle.guest_core.specs.declared.answer.Cancelled.TheVariants as cancels
 use Rattle.board_core.specs.Answers.{runs_in}
 use Rattle.desk_core.specs.Told.{lines_told}
 use Rattle.world_core.specs.declared.event.Refusal.{Refusal}

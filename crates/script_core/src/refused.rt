@@ -9,10 +9,10 @@ ghost use Rattle.word_core.specs.ScriptView.{said_view};
 ghost use Rattle.script_core.specs.HoldDoes.{IsNew, IsNotHeld, Refuses, Asks, asked};
 
 use apply_core::fits::arguments_fit;
-use board_core::answer::KeyedFault;
 use board_core::find::place_of;
 use decl_core::hold::Hold;
 use desk_core::desk::Desk;
+use guest_core::answer::KeyedFault;
 use guest_core::held::Holds;
 use path_tree::node::OpId;
 use value_core::datum::Datum;

@@ -11,3 +11,4 @@ pub mod Notes
 pub mod Repeats
 pub mod Written
 pub mod Truth
+pub mod Says

@@ -34,7 +34,7 @@ pub struct SessionEnd<W: Drop, H: Drop> {
 fn is_note_of(receipt: &Slip, note: &Note) -> bool
     ensures { IsTrue result ↔ IsNoteOf receipt.now note.now }
 {
-    receipt.number() == note.number && receipt.is_reply(&note.reply)
+    u64::from(receipt.number()) == note.number && receipt.is_reply(&note.reply)
 }
 
 // Whether the notes are those of the first receipts, one by one.

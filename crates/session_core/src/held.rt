@@ -1,22 +1,24 @@
 //! The lines of a session that are held back.
 
-ghost use Rattle.std.specs.Prelude.{◌≡◌, [], ℕ, List, false};
+ghost use Rattle.std.specs.Prelude.{◌≡◌, ◌++◌, [], OnOk, OnErr};
 ghost use Rattle.std.specs.Bool.{OnFalse};
-ghost use Rattle.session_text.specs.Answers.{opened, ended, repeated, told};
 ghost use Rattle.session_core.specs.declared.note.Note.{Note};
-ghost use Rattle.session_core.specs.Repeats.{WasNoted};
-ghost use Rattle.session_core.specs.Written.{IsHeld, IsSilent, Adds, HandsOver};
+ghost use Rattle.session_text.specs.Answers.{said_of, said_text};
+ghost use Rattle.session_text.specs.Lines.{ended_text};
+ghost use Rattle.session_core.specs.Says.{MaySay};
+ghost use Rattle.session_core.specs.Written.{note_of, IsHeld, IsSilent, Adds, HandsOver};
 
 use crate::note::{Note, add_note};
 use crate::room::make_room_for;
-use crate::stage::{Stage, behind, behind_free, behind_last};
+use crate::stage::{Stage, behind};
 use apply_core::reply::Reply;
-use path_tree::name::Name;
-use session_text::line::{Line, push_ended, push_line, push_opened, push_repeated};
-use std::alloc::Global;
+use session_text::line::{AnyLine, push_line};
+use std::alloc::{AllocError, Global};
 use std::marker::Model;
 use std::mem;
 use text_core::limits::MOST_TEXT_BYTES;
+use word_core::line::push_line as push_words_line;
+use word_core::word::Written;
 
 /// Room for the longest line that is written of a call, in bytes, twice over.
 const LINE_ROOM: usize = 4096;
@@ -52,69 +54,79 @@ impl Model for Held {
     ghost invariant = { λ h. IsHeld h.text.items h.notes.items h.first h.at };
 }
 
-// Holds a line back.
-fn add_line(held: &mut Vec<u8>, text: &mut Vec<u8>, line: Line) -> bool
-    ensures { (notes : List Note) → Adds held.old.items held.new.items notes notes (told line) result }
+// Adds the last line of a call that has a receipt. What it replied is written from where it lies: as an ending it would
+// be copied, and it has room for a kilobyte.
+fn push_last(out: &mut Vec<u8>, number: u64, reply: &Reply) -> Result<(), AllocError>
+    ensures { OnOk result (out.new.items ≡ out.old.items ++ ended_text number reply.now) }
 {
-    text.clear();
-    if push_line(text, line).is_err() {
-        return false;
+    match reply {
+        Reply::Done(None) => push_words_line(
+            out,
+            &[Written::Bare(b"done"), Written::Integer(number)],
+        ),
+        Reply::Done(Some(datum)) => push_words_line(
+            out,
+            &[
+                Written::Bare(b"done"),
+                Written::Integer(number),
+                Written::Datum(datum),
+            ],
+        ),
+        _ => push_line(out, AnyLine::Ended(number, reply)),
     }
-    held.extend_from_slice(text.as_slice()).is_ok()
 }
 
-// Holds `opened NAME` back, with the next key where one is told.
-fn add_opened(held: &mut Vec<u8>, text: &mut Vec<u8>, name: &Name, next: Option<u32>) -> bool
-    ensures { (notes : List Note) → Adds held.old.items held.new.items notes notes (opened name.now next) result }
+// Adds a line.
+fn push_any(out: &mut Vec<u8>, line: AnyLine<'_>) -> Result<(), AllocError>
+    ensures { OnOk result (out.new.items ≡ out.old.items ++ said_text (said_of line.entry)) }
 {
-    text.clear();
-    if push_opened(text, name, next).is_err() {
-        return false;
+    match line {
+        AnyLine::Ended(number, reply) => push_last(out, number, reply),
+        AnyLine::Opened(_, _) => push_line(out, line),
+        AnyLine::Repeated(_, _) => push_line(out, line),
+        AnyLine::Told(_) => push_line(out, line),
     }
-    held.extend_from_slice(text.as_slice()).is_ok()
 }
 
-// Holds the last line of a call back that was made before. It is not noted: its receipt is of another session, or of
-// this one at its time.
-fn add_repeated(held: &mut Vec<u8>, text: &mut Vec<u8>, number: u32, reply: &Reply) -> bool
-    ensures { (notes : List Note) → Adds held.old.items held.new.items notes notes (repeated number reply.now) result }
+// Notes a line, where it is the last one of a call that has a receipt.
+fn add_note_of(
+    alloc: Global,
+    notes: &mut Vec<Note>,
+    spare: &mut Vec<u8>,
+    line: AnyLine<'_>,
+) -> Result<(), AllocError>
+    ensures ok { OnOk result (notes.new.items ≡ notes.old.items ++ note_of (said_of line.entry)) }
+    ensures err { OnErr result (notes.new.items ≡ notes.old.items) }
 {
-    text.clear();
-    if push_repeated(text, number, reply).is_err() {
-        return false;
+    match line {
+        AnyLine::Ended(number, reply) => add_note(alloc, notes, spare, number, reply),
+        AnyLine::Opened(_, _) => Ok(()),
+        AnyLine::Repeated(_, _) => Ok(()),
+        AnyLine::Told(_) => Ok(()),
     }
-    held.extend_from_slice(text.as_slice()).is_ok()
 }
 
-// How a call ended.
-#[derive(Clone, Copy)]
-struct Ended<'a> {
-    number: u32,
-    reply: &'a Reply,
-}
-
-// Holds the last line of a call that has a receipt back, and notes it.
-fn add_ended(
+// Holds a line back, and notes it where it is the last one of a call that has a receipt. The last line of a call that was
+// made before is not noted: its receipt is of another session, or of this one at its time.
+fn add_line(
     alloc: Global,
     held: &mut Vec<u8>,
     text: &mut Vec<u8>,
     notes: &mut Vec<Note>,
     spare: &mut Vec<u8>,
-    call: Ended<'_>,
+    line: AnyLine<'_>,
 ) -> bool
-    ensures { Adds held.old.items held.new.items notes.old.items notes.new.items
-        (ended call.entry.number call.entry.reply.now) result }
+    ensures { Adds held.old.items held.new.items notes.old.items notes.new.items (said_of line.entry) result }
 {
-    let Ended { number, reply } = call;
     text.clear();
-    if push_ended(text, number, reply).is_err() {
+    if push_any(text, line).is_err() {
         return false;
     }
     let before = held.len();
     if held.extend_from_slice(text.as_slice()).is_err() {
         return false;
     }
-    if add_note(alloc, notes, spare, number, reply).is_err() {
+    if add_note_of(alloc, notes, spare, line).is_err() {
         held.truncate(before);
         return false;
     }
@@ -219,10 +231,12 @@ impl Held {
     }
 
     /// Holds a line back, unless it may not stand here, or a line before it was not held back. It answers whether it
-    /// did.
-    pub fn say(&mut self, line: Line) -> bool
+    /// did. The last line of a call that has a receipt stands only while that call is open, and is noted; `opened NAME`
+    /// and the last line of a call that was made before stand only where no call is open.
+    pub fn say(&mut self, line: AnyLine<'_>) -> bool
+        requires { MaySay line }
         ensures silent { OnFalse result (IsSilent self.new.4 self.new.5) }
-        ensures added { Adds self.old.0 self.new.0 self.old.1 self.new.1 (told line) result }
+        ensures added { Adds self.old.0 self.new.0 self.old.1 self.new.1 (said_of line.entry) result }
     {
         if !self.is_whole() {
             return false;
@@ -231,78 +245,14 @@ impl Held {
             self.mixed = true;
             return false;
         };
-        if !add_line(&mut self.text, &mut self.line, line) {
-            self.lost = true;
-            return false;
-        }
-        self.at = to;
-        true
-    }
-
-    /// Holds back the last line of a call that has a receipt, and notes it, unless that call is not open, or a line
-    /// before it was not held back. It answers whether it did.
-    pub fn say_ended(&mut self, number: u32, reply: &Reply) -> bool
-        ensures silent { OnFalse result (IsSilent self.new.4 self.new.5) }
-        ensures added { Adds self.old.0 self.new.0 self.old.1 self.new.1 (ended number reply.now) result }
-    {
-        if !self.is_whole() {
-            return false;
-        }
-        let Some(to) = behind_last(self.at, number) else {
-            self.mixed = true;
-            return false;
-        };
-        if !add_ended(
+        if !add_line(
             self.alloc,
             &mut self.text,
             &mut self.line,
             &mut self.notes,
             &mut self.spare,
-            Ended { number, reply },
+            line,
         ) {
-            self.lost = true;
-            return false;
-        }
-        self.at = to;
-        true
-    }
-
-    /// Holds back the last line of a call that was made before, unless a call is open, or a line before it was not held
-    /// back. It answers whether it did. It is not noted. Only what stands in a history is told so.
-    pub fn say_repeated(&mut self, number: u32, reply: &Reply) -> bool
-        requires { WasNoted number reply.now }
-        ensures silent { OnFalse result (IsSilent self.new.4 self.new.5) }
-        ensures added { Adds self.old.0 self.new.0 self.old.1 self.new.1 (repeated number reply.now) result }
-    {
-        if !self.is_whole() {
-            return false;
-        }
-        let Some(to) = behind_free(self.at) else {
-            self.mixed = true;
-            return false;
-        };
-        if !add_repeated(&mut self.text, &mut self.line, number, reply) {
-            self.lost = true;
-            return false;
-        }
-        self.at = to;
-        true
-    }
-
-    /// Holds back `opened NAME`, with the next key where one is told, unless a call is open, or a line before it was not
-    /// held back. It answers whether it did.
-    pub fn say_opened(&mut self, name: &Name, next: Option<u32>) -> bool
-        ensures silent { OnFalse result (IsSilent self.new.4 self.new.5) }
-        ensures added { Adds self.old.0 self.new.0 self.old.1 self.new.1 (opened name.now next) result }
-    {
-        if !self.is_whole() {
-            return false;
-        }
-        let Some(to) = behind_free(self.at) else {
-            self.mixed = true;
-            return false;
-        };
-        if !add_opened(&mut self.text, &mut self.line, name, next) {
             self.lost = true;
             return false;
         }

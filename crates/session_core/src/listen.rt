@@ -7,7 +7,7 @@ use crate::order::Offices;
 use crate::output::Start;
 use crossbeam_channel::Receiver;
 use session_text::ear::{Ear, Heard};
-use session_text::line::{Line, Refusal};
+use session_text::line::{AnyLine, Line, Refusal};
 use session_text::relay::Relay;
 use session_text::session::Action;
 use std::alloc::Global;
@@ -16,7 +16,7 @@ use std::sync::Wait;
 
 // Writes a line at once.
 fn tell<R: Wait, W: Write + Drop, J: Start>(rt: &R, mouth: &Mouth<W, J>, line: Line) -> bool {
-    mouth.say(rt, line) && mouth.flush(rt)
+    mouth.say(rt, AnyLine::Told(line)) && mouth.flush(rt)
 }
 
 // Cancels a call of the object that is opened, and answers at once.
@@ -34,7 +34,7 @@ fn cancel<R: Wait, W: Write + Drop, J: Start, O: Offices>(
         return true;
     };
     let answer = office.cancel(rt, number);
-    tell(rt, mouth, Line::Cancel(number, answer))
+    tell(rt, mouth, Line::Cancel(u64::from(number), answer))
 }
 
 /// A session leaves its object.

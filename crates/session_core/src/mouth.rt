@@ -5,15 +5,13 @@
 
 ghost use Rattle.std.specs.Prelude.{◌≡◌, ℕ, List, Option};
 ghost use Rattle.session_core.specs.declared.note.Note.{Note};
-ghost use Rattle.session_core.specs.Repeats.{WasNoted};
+ghost use Rattle.session_core.specs.Says.{MaySay};
 ghost use Rattle.session_core.specs.Written.{IsSaid};
 
 use crate::held::Held;
 use crate::note::Note;
 use crate::output::{Health, Output, Start};
-use apply_core::reply::Reply;
-use path_tree::name::Name;
-use session_text::line::Line;
+use session_text::line::AnyLine;
 use std::alloc::Global;
 use std::io::Write;
 use std::mem;
@@ -80,30 +78,12 @@ impl<W: Write + Drop, J: Start> Mouth<W, J> {
     }
 
     /// Holds a line back, unless it may not stand here, or a line before it was not held back. It answers whether it
-    /// did. It waits for nobody who sends.
-    pub fn say<R: Wait>(&self, rt: &R, line: Line) -> bool {
-        self.held.lock(rt).say(line)
-    }
-
-    /// Holds back the last line of a call that has a receipt, and notes it, unless that call is not open, or a line
-    /// before it was not held back. It answers whether it did. It waits for nobody who sends.
-    pub fn say_ended<R: Wait>(&self, rt: &R, number: u32, reply: &Reply) -> bool {
-        self.held.lock(rt).say_ended(number, reply)
-    }
-
-    /// Holds back the last line of a call that was made before, unless a call is open, or a line before it was not held
-    /// back. It answers whether it did. It is not noted: its receipt is of another session, or was told before. It
-    /// waits for nobody who sends.
-    pub fn say_repeated<R: Wait>(&self, rt: &R, number: u32, reply: &Reply) -> bool
-        requires { WasNoted number reply.now }
+    /// did. The last line of a call that has a receipt stands only while that call is open, and is noted; `opened NAME`
+    /// and the last line of a call that was made before stand only where no call is open. It waits for nobody who sends.
+    pub fn say<R: Wait>(&self, rt: &R, line: AnyLine<'_>) -> bool
+        requires { MaySay line }
     {
-        self.held.lock(rt).say_repeated(number, reply)
-    }
-
-    /// Holds back `opened NAME`, with the next key where one is told, unless a call is open, or a line before it was not
-    /// held back. It answers whether it did. It waits for nobody who sends.
-    pub fn say_opened<R: Wait>(&self, rt: &R, name: &Name, next: Option<u32>) -> bool {
-        self.held.lock(rt).say_opened(name, next)
+        self.held.lock(rt).say(line)
     }
 
     /// Sends the lines that are held back, and waits until the writer has taken them. It answers whether all

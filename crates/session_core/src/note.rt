@@ -12,7 +12,7 @@ use text_core::limits::MOST_TEXT_BYTES;
 #[derive(Drop)]
 pub struct Note {
     /// The number of the call.
-    pub number: u32,
+    pub number: u64,
     /// Its reply.
     pub reply: Short,
 }
@@ -23,7 +23,7 @@ pub fn add_note(
     alloc: Global,
     notes: &mut Vec<Note>,
     spare: &mut Vec<u8>,
-    number: u32,
+    number: u64,
     reply: &Reply,
 ) -> Result<(), AllocError>
     ensures ok { OnOk result (notes.new.items ≡ notes.old.items ++ note_at number reply.now ∷ []) }

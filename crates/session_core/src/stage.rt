@@ -2,10 +2,10 @@
 
 ghost use Rattle.std.specs.Prelude.{◌≡◌, ◌↔◌, IsTrue, ℕ, List, Option};
 ghost use Rattle.apply_core.specs.declared.reply.Reply.{Reply};
-ghost use Rattle.session_text.specs.Answers.{opened, ended, repeated, told};
+ghost use Rattle.session_text.specs.Answers.{opened, ended, repeated, said_of, told};
 ghost use Rattle.session_core.specs.Dialogue.{Leads, IsShut};
 
-use session_text::line::{Line, Refusal};
+use session_text::line::{AnyLine, Line, Refusal};
 
 /// Where the lines of a session have come to.
 #[derive(Clone, Copy, Debug, PartialEq, Eq)]
@@ -13,7 +13,7 @@ pub enum Stage {
     /// No call is open.
     Free,
     /// The call of this number was accepted, and its last line is not said yet.
-    Open(u32),
+    Open(u64),
     /// `bye` was said. No line stands behind it.
     Over,
 }
@@ -36,8 +36,8 @@ pub(crate) fn is_shut(stage: Stage) -> bool
     }
 }
 
-/// Where `opened NAME`, or what became of a call that was made before, leads: it stands only where no call is open.
-pub(crate) fn behind_free(stage: Stage) -> Option<Stage>
+// Where `opened NAME`, or what became of a call that was made before, leads: it stands only where no call is open.
+fn behind_free(stage: Stage) -> Option<Stage>
     ensures opened { (name : List ℕ) (next : Option ℕ) → Leads stage (opened name next) result }
     ensures repeated { (n : ℕ) (r : Reply) → Leads stage (repeated n r) result }
 {
@@ -48,8 +48,8 @@ pub(crate) fn behind_free(stage: Stage) -> Option<Stage>
     }
 }
 
-/// Where the last line of the call of this number leads: it stands only where that call is open.
-pub(crate) fn behind_last(stage: Stage, number: u32) -> Option<Stage>
+// Where the last line of the call of this number leads: it stands only where that call is open.
+fn behind_last(stage: Stage, number: u64) -> Option<Stage>
     ensures ended { (r : Reply) → Leads stage (ended number r) result }
     ensures withdrawn { Leads stage (told (Line.Withdrawn number)) result }
 {
@@ -81,7 +81,7 @@ fn from_free(line: Line) -> Option<Stage>
 }
 
 // Where a line that says that one was refused leads while this call is open.
-fn from_open_refused(number: u32, refusal: Refusal) -> Option<Stage>
+fn from_open_refused(number: u64, refusal: Refusal) -> Option<Stage>
     ensures { Leads (Stage.Open number) (told (Line.Refused refusal)) result }
 {
     match refusal {
@@ -97,7 +97,7 @@ fn from_open_refused(number: u32, refusal: Refusal) -> Option<Stage>
 }
 
 // Where a line leads while this call is open.
-fn from_open(number: u32, line: Line) -> Option<Stage>
+fn from_open(number: u64, line: Line) -> Option<Stage>
     ensures { Leads (Stage.Open number) (told line) result }
 {
     match line {
@@ -112,13 +112,25 @@ fn from_open(number: u32, line: Line) -> Option<Stage>
     }
 }
 
-/// Where a line leads, if it may stand here.
-pub(crate) fn behind(stage: Stage, line: Line) -> Option<Stage>
+// Where a line leads that lends nothing, if it may stand here.
+fn behind_told(stage: Stage, line: Line) -> Option<Stage>
     ensures { Leads stage (told line) result }
 {
     match stage {
         Stage::Free => from_free(line),
         Stage::Open(open) => from_open(open, line),
         Stage::Over => None,
+    }
+}
+
+/// Where a line leads, if it may stand here.
+pub(crate) fn behind(stage: Stage, line: AnyLine<'_>) -> Option<Stage>
+    ensures { Leads stage (said_of line.entry) result }
+{
+    match line {
+        AnyLine::Opened(_, _) => behind_free(stage),
+        AnyLine::Ended(number, _) => behind_last(stage, number),
+        AnyLine::Repeated(_, _) => behind_free(stage),
+        AnyLine::Told(line) => behind_told(stage, line),
     }
 }

@@ -1,8 +1,7 @@
 //! The first thread of a session: it does the calls, and reads too, as long as no call waits.
 
-ghost use Rattle.std.specs.Prelude.{◌≡◌, ◌<◌, ◌++◌, ◌∷◌, [], IsTrue, IfOk, IfSome, Ok};
+ghost use Rattle.std.specs.Prelude.{◌≡◌, ◌<◌, ◌++◌, ◌∷◌, [], IsTrue, IfOk, IfSome, Ok, Some};
 ghost use Rattle.std.specs.Vec.{vec_len, vec_capacity};
-ghost use Rattle.device_core.specs.Device.{Assignment};
 ghost use Rattle.board_core.specs.Board.{Board};
 ghost use Rattle.board_core.specs.Sound.{IsSound};
 ghost use Rattle.run_core.specs.Tickets.{ticket_call};
@@ -14,11 +13,11 @@ ghost use Rattle.office_core.specs.Slips.{told_by};
 ghost use Rattle.office_core.specs.declared.seat.Submitted.{Submitted as Ask};
 ghost use Rattle.office_core.specs.Submissions.{Asks, Tells, IsTicketOf};
 ghost use Rattle.office_core.specs.Seats.{CompletedIn};
-ghost use Rattle.session_core.specs.Truth.{Keeps, AreTrue, OutcomeIsTrue};
+ghost use Rattle.session_core.specs.Truth.{Keeps, AreTrue};
 ghost use Rattle.session_core.specs.Leaving.{RetiresLeft, PutsOff};
 ghost use Rattle.session_core.specs.Making.{IsNew, MakesCall, MakesFor, MakesOnce, asked_by};
 ghost use Rattle.session_core.specs.Opening.{Takes, Enters};
-ghost use Rattle.session_core.specs.Working.{Runs, Works, WorksOn};
+ghost use Rattle.session_core.specs.Working.{Works, WorksOn};
 
 use crate::entered::{Entered, NotEntered, seat_at};
 use crate::listen::leave;
@@ -26,9 +25,10 @@ use crate::mouth::Mouth;
 use crate::order::Offices;
 use crate::output::Start;
 use crate::room::make_room_in;
-use board_core::answer::{CallState, Finished, Kept, SubmitFault};
+use board_core::answer::{CallState, Finished, Kept};
 use device_core::hand::{Hand, Stamp};
 use device_core::retire::retire_all;
+use guest_core::answer::SubmitFault;
 use office_core::late::Late;
 use office_core::office::Office;
 use office_core::room::SlipRoom;
@@ -40,7 +40,7 @@ use run_core::outcome::Outcome;
 use run_core::ticket::Ticket;
 use session_text::ear::Heard;
 use session_text::fault::HearFault;
-use session_text::line::{Line, Refusal, Unended};
+use session_text::line::{AnyLine, Line, Refusal, Unended};
 use session_text::reading::Reading;
 use session_text::session::Action;
 use std::alloc::Global;
@@ -201,16 +201,6 @@ fn submitted<R: Wait + Clock, W: Write + Drop, J: Start>(
     service.by.submit_and_try(service.rt, seat, op, args)
 }
 
-// Runs a started call.
-fn performed<H: Hand>(alloc: Global, ticket: Ticket, hand: &mut H) -> Outcome
-    ensures call { outcome_call result ≡ ticket_call ticket }
-    ensures kept { Keeps H.agrees hand.old hand.new }
-    ensures told { (a : Assignment) → H.agrees hand.new a → OutcomeIsTrue a result }
-    ensures runs { Runs H.makes result hand.old hand.new }
-{
-    run_at_once(alloc, ticket, hand)
-}
-
 // Hands an outcome in, until it is taken.
 fn completed<R: Wait>(rt: &R, office: &Office, seat: &mut Seat, outcome: &mut Outcome) -> Finished
     ensures same { TellsSame outcome.old outcome.new }
@@ -250,7 +240,7 @@ fn put_off<H: Hand>(hand: &mut H, free: Vec<Stamp>, left: &mut Vec<Stamp>)
 
 // Holds a line back.
 fn say<R: Wait, P, W: Write + Drop, J: Start>(service: Service<'_, R, P, W, J>, line: Line) {
-    let _said = service.mouth.say(service.rt, line);
+    let _said = service.mouth.say(service.rt, AnyLine::Told(line));
 }
 
 // A call from its submission to its start, with the lines up to there. It answers no ticket where the
@@ -273,14 +263,14 @@ fn begun<R: Wait + Clock, I: Read + Drop, W: Write + Drop, J: Start>(
             return None;
         }
     };
-    say(service, Line::Accepted(number));
+    say(service, Line::Accepted(u64::from(number)));
     let tried = match tried {
         Tried::Ticket(ticket) => return Some(ticket),
         other => other,
     };
     let ticket = started(service, late, seat, reading, tried);
     if ticket.is_none() {
-        say(service, Line::Withdrawn(number));
+        say(service, Line::Withdrawn(u64::from(number)));
     }
     ticket
 }
@@ -336,11 +326,10 @@ fn serve_at<R: Wait + Clock, I: Read + Drop, W: Write + Drop, H: Hand + Drop, J:
     let Some(ticket) = begun else {
         return;
     };
-    let mut outcome = performed(service.alloc, ticket, &mut worked.hand);
+    let mut outcome = run_at_once(service.alloc, ticket, &mut worked.hand);
     let finished = completed(service.rt, service.by, seat, &mut outcome);
-    let _said = service
-        .mouth
-        .say_ended(service.rt, outcome.number(), outcome.reply());
+    let ended = AnyLine::Ended(u64::from(outcome.number()), outcome.reply());
+    let _said = service.mouth.say(service.rt, ended);
     let Finished {
         place,
         session: _,
@@ -355,11 +344,44 @@ fn say_kept<R: Wait, W: Write + Drop, J: Start>(service: Service<'_, R, Office, 
     requires { (b : Board) × IsSound b × IsStateOf b kept.now.number kept.now.state }
 {
     match &kept.state {
-        CallState::Waiting => say(service, Line::Kept(kept.number, Unended::Waiting)),
-        CallState::Running => say(service, Line::Kept(kept.number, Unended::Running)),
-        CallState::Cancelled => say(service, Line::Kept(kept.number, Unended::Cancelled)),
+        CallState::Waiting => say(
+            service,
+            Line::Kept(u64::from(kept.number), Unended::Waiting),
+        ),
+        CallState::Running => say(
+            service,
+            Line::Kept(u64::from(kept.number), Unended::Running),
+        ),
+        CallState::Cancelled => say(
+            service,
+            Line::Kept(u64::from(kept.number), Unended::Cancelled),
+        ),
         CallState::Ended(reply) => {
-            let _said = service.mouth.say_repeated(service.rt, kept.number, reply);
+            let last = AnyLine::Repeated(u64::from(kept.number), reply);
+            let _said = service.mouth.say(service.rt, last);
+        }
+    }
+}
+
+// Whether a call under a key is to be made: that of its session's next call.
+fn is_next<R: Wait, W: Write + Drop, J: Start>(
+    service: Service<'_, R, Office, W, J>,
+    seat: &Seat,
+    key: u32,
+    op: &str,
+    args: &[Datum],
+) -> bool
+    ensures { IsTrue result → IsNew (asked_by seat.now.session op.now args.now) (Some key) }
+{
+    match service.by.kept(service.rt, seat, key, op, args) {
+        Ok(None) => true,
+        Ok(Some(kept)) => {
+            say_kept(service, &kept);
+            false
+        }
+        Err(fault) => {
+            say(service, Line::Unkeyed(fault));
+            false
         }
     }
 }
@@ -375,19 +397,10 @@ fn is_new<R: Wait, W: Write + Drop, J: Start>(
 ) -> bool
     ensures { IsTrue result → IsNew (asked_by seat.now.session op.now args.now) key }
 {
-    let Some(key) = key else {
-        return true;
-    };
-    match service.by.kept(service.rt, seat, key, op, args) {
-        Ok(None) => true,
-        Ok(Some(kept)) => {
-            say_kept(service, &kept);
-            false
-        }
-        Err(fault) => {
-            say(service, Line::Unkeyed(fault));
-            false
-        }
+    match key {
+        None => true,
+        // A call of its own, so that a call without a key clears no room for a reply that is kept.
+        Some(key) => is_next(service, seat, key, op, args),
     }
 }
 
@@ -447,7 +460,11 @@ fn take_found<R: Wait, I: Read + Drop, W: Write + Drop, J: Start, O: Offices>(
     match found {
         Ok((entered, next)) => {
             reading.set_opened(entered.at, entered.seat.session());
-            let _said = service.mouth.say_opened(service.rt, name, next);
+            let next = match next {
+                Some(key) => Some(u64::from(key)),
+                None => None,
+            };
+            let _said = service.mouth.say(service.rt, AnyLine::Opened(name, next));
             *seat = Some(entered);
             Goes::On
         }
@@ -483,7 +500,7 @@ fn cancel<R: Wait, W: Write + Drop, J: Start, O: Offices>(
     if let Some(entered) = seat {
         if let Some(office) = service.by.office(entered.at) {
             let answer = office.cancel(service.rt, number);
-            say(service, Line::Cancel(number, answer));
+            say(service, Line::Cancel(u64::from(number), answer));
         }
     }
 }

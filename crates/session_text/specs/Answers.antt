@@ -1,6 +1,8 @@
 -- Which lines may answer which request.
 use Rattle.std.specs.Prelude.{⊤, ◌≡◌, ℕ, List, Option, Some, None}
 use Rattle.apply_core.specs.declared.reply.Reply.{Reply}
+use Rattle.session_text.specs.declared.line.AnyLine.{AnyLine}
+use Rattle.session_text.specs.declared.line.AnyLine.TheVariants as any_lines
 use Rattle.session_text.specs.declared.line.Line.{Line}
 use Rattle.session_text.specs.declared.line.Line.TheVariants as lines
 use Rattle.session_text.specs.declared.line.Refusal.TheVariants as refusals
@@ -20,6 +22,13 @@ said_text (opened name next) = opened_text name next
 said_text (ended n reply) = ended_text n reply
 said_text (repeated n reply) = repeated_text n reply
 said_text (told line) = line_text line
+
+-- a line, without where a name or a reply lies
+abbrev pub said_of : AnyLine → Said
+said_of (any_lines.Opened name next) = opened name.now next
+said_of (any_lines.Ended n reply) = ended n reply.now
+said_of (any_lines.Repeated n reply) = repeated n reply.now
+said_of (any_lines.Told line) = told line
 
 -- the table: which lines may answer a request, or a line that asks for nothing; the last line of a call that has a
 -- receipt is not among them

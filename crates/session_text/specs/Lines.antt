@@ -1,12 +1,12 @@
 -- The texts of the lines that a session writes.
 use Rattle.std.specs.Prelude.{ℕ, List, [], ◌∷◌, Option, Some, None, codes, decimal}
 use Rattle.apply_core.specs.declared.reply.Reply.{Reply}
-use Rattle.board_core.specs.declared.answer.SubmitFault.{SubmitFault}
-use Rattle.board_core.specs.declared.answer.SubmitFault.TheVariants as faults
-use Rattle.board_core.specs.declared.answer.KeyedFault.{KeyedFault}
-use Rattle.board_core.specs.declared.answer.KeyedFault.TheVariants as keyed
-use Rattle.board_core.specs.declared.answer.Cancelled.{Cancelled}
-use Rattle.board_core.specs.declared.answer.Cancelled.TheVariants as answers
+use Rattle.guest_core.specs.declared.answer.SubmitFault.{SubmitFault}
+use Rattle.guest_core.specs.declared.answer.SubmitFault.TheVariants as faults
+use Rattle.guest_core.specs.declared.answer.KeyedFault.{KeyedFault}
+use Rattle.guest_core.specs.declared.answer.KeyedFault.TheVariants as keyed
+use Rattle.guest_core.specs.declared.answer.Cancelled.{Cancelled}
+use Rattle.guest_core.specs.declared.answer.Cancelled.TheVariants as answers
 use Rattle.word_core.specs.Words.{bare, line_of}
 use Rattle.word_core.specs.Answers.{refused_line, finished_line, cancelled_line, kept_line, repeated_line}
 use Rattle.session_text.specs.declared.line.Refusal.{Refusal}

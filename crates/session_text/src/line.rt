@@ -1,19 +1,18 @@
 //! The lines that a session writes.
-//!
-//! Each function adds a line to `out`. Its error is that memory was refused; how much of the line then stands in `out`
-//! is not said.
 
 ghost use Rattle.std.specs.Prelude.{◌≡◌, ◌++◌, Some, None, OnOk};
+ghost use Rattle.word_core.specs.Answers as answers;
 ghost use Rattle.session_text.specs.Lines as lines;
+ghost use Rattle.session_text.specs.Answers.{said_of, said_text};
 
 use apply_core::reply::Reply;
-use board_core::answer::{Cancelled, KeyedFault, SubmitFault};
+use guest_core::answer::{Cancelled, KeyedFault, SubmitFault};
 use path_tree::name::Name;
 use std::alloc::AllocError;
-use word_core::answers::{
-    push_cancelled, push_finished, push_kept, push_refused, push_repeated as push_repeated_line,
-};
+use word_core::answers::push_refused;
+use word_core::ending::push_finish;
 use word_core::line::push_line as push_words_line;
+use word_core::reply::reply_ending;
 use word_core::word::Written;
 
 /// Why a line is refused that submits nothing.
@@ -48,7 +47,7 @@ pub enum Unended {
     Cancelled,
 }
 
-/// A line that a session writes, other than `opened NAME ..` and the lines that tell a reply.
+/// A line that a session writes, and that lends nothing. Numbers are those of calls, from 1.
 #[derive(Clone, Copy, Debug, PartialEq, Eq)]
 pub enum Line {
     /// `no REFUSAL`: a line was refused.
@@ -58,15 +57,28 @@ pub enum Line {
     /// `no FAULT`: a call under a key was not taken, and is none that was made before.
     Unkeyed(KeyedFault),
     /// `accepted N`: a call was taken, under this number.
-    Accepted(u32),
+    Accepted(u64),
     /// `repeat STATE N`: the call was made before, under this number, and has no reply.
-    Kept(u32, Unended),
+    Kept(u64, Unended),
     /// `cancelled N`: a call was cancelled before it started.
-    Withdrawn(u32),
+    Withdrawn(u64),
     /// `cancel N ANSWER`: what became of a cancel.
-    Cancel(u32, Cancelled),
+    Cancel(u64, Cancelled),
     /// `bye`: the session ends.
     Bye,
+}
+
+/// A line that a session writes.
+#[derive(Clone, Copy)]
+pub enum AnyLine<'a> {
+    /// `opened NAME`, or `opened NAME next K` where the key of the next call is told.
+    Opened(&'a Name, Option<u64>),
+    /// The last line of a call that has a receipt: `done N`, `done N VALUE`, `refused N WORD` or `failed N WORD`.
+    Ended(u64, &'a Reply),
+    /// The same behind `repeat`: the last line of a call that was made before.
+    Repeated(u64, &'a Reply),
+    /// Any other line.
+    Told(Line),
 }
 
 fn refusal_name(refusal: Refusal) -> &'static str
@@ -109,47 +121,64 @@ fn keyed_name(fault: KeyedFault) -> &'static str
     }
 }
 
-fn unended_name(state: Unended) -> &'static str
+fn unended_name(state: Unended) -> &'static [u8]
     ensures { result.now ≡ lines.unended_name state }
 {
     match state {
-        Unended::Waiting => "waiting",
-        Unended::Running => "running",
-        Unended::Cancelled => "cancelled",
+        Unended::Waiting => b"waiting",
+        Unended::Running => b"running",
+        Unended::Cancelled => b"cancelled",
     }
 }
 
-fn cancel_name(answer: Cancelled) -> &'static str
+fn cancel_name(answer: Cancelled) -> &'static [u8]
     ensures { result.now ≡ lines.cancel_name answer }
 {
     match answer {
-        Cancelled::Cancelled => "Cancelled",
-        Cancelled::Running => "Running",
-        Cancelled::Ended => "Ended",
-        Cancelled::Unknown => "Unknown",
+        Cancelled::Cancelled => b"Cancelled",
+        Cancelled::Running => b"Running",
+        Cancelled::Ended => b"Ended",
+        Cancelled::Unknown => b"Unknown",
     }
 }
 
-fn push_accepted(out: &mut Vec<u8>, number: u32) -> Result<(), AllocError>
+fn push_accepted(out: &mut Vec<u8>, number: u64) -> Result<(), AllocError>
     ensures { OnOk result (out.new.items ≡ out.old.items ++ lines.accepted_text number) }
 {
-    push_words_line(
-        out,
-        &[
-            Written::Bare(b"accepted"),
-            Written::Integer(u64::from(number)),
-        ],
-    )
+    push_words_line(out, &[Written::Bare(b"accepted"), Written::Integer(number)])
 }
 
-fn push_withdrawn(out: &mut Vec<u8>, number: u32) -> Result<(), AllocError>
+fn push_withdrawn(out: &mut Vec<u8>, number: u64) -> Result<(), AllocError>
     ensures { OnOk result (out.new.items ≡ out.old.items ++ lines.withdrawn_text number) }
 {
     push_words_line(
         out,
+        &[Written::Bare(b"cancelled"), Written::Integer(number)],
+    )
+}
+
+fn push_kept(out: &mut Vec<u8>, number: u64, state: Unended) -> Result<(), AllocError>
+    ensures { OnOk result (out.new.items ≡ out.old.items ++ answers.kept_line (lines.unended_name state) number) }
+{
+    push_words_line(
+        out,
         &[
-            Written::Bare(b"cancelled"),
-            Written::Integer(u64::from(number)),
+            Written::Bare(b"repeat"),
+            Written::Bare(unended_name(state)),
+            Written::Integer(number),
+        ],
+    )
+}
+
+fn push_cancel(out: &mut Vec<u8>, number: u64, answer: Cancelled) -> Result<(), AllocError>
+    ensures { OnOk result (out.new.items ≡ out.old.items ++ answers.cancelled_line number (lines.cancel_name answer)) }
+{
+    push_words_line(
+        out,
+        &[
+            Written::Bare(b"cancel"),
+            Written::Integer(number),
+            Written::Bare(cancel_name(answer)),
         ],
     )
 }
@@ -160,8 +189,7 @@ fn push_bye(out: &mut Vec<u8>) -> Result<(), AllocError>
     push_words_line(out, &[Written::Bare(b"bye")])
 }
 
-/// Adds a line.
-pub fn push_line(out: &mut Vec<u8>, line: Line) -> Result<(), AllocError>
+fn push_told(out: &mut Vec<u8>, line: Line) -> Result<(), AllocError>
     ensures { OnOk result (out.new.items ≡ out.old.items ++ lines.line_text line) }
 {
     match line {
@@ -169,9 +197,9 @@ pub fn push_line(out: &mut Vec<u8>, line: Line) -> Result<(), AllocError>
         Line::Unsubmitted(fault) => push_refused(out, fault_name(fault)),
         Line::Unkeyed(fault) => push_refused(out, keyed_name(fault)),
         Line::Accepted(number) => push_accepted(out, number),
-        Line::Kept(number, state) => push_kept(out, unended_name(state), number),
+        Line::Kept(number, state) => push_kept(out, number, state),
         Line::Withdrawn(number) => push_withdrawn(out, number),
-        Line::Cancel(number, answer) => push_cancelled(out, number, cancel_name(answer)),
+        Line::Cancel(number, answer) => push_cancel(out, number, answer),
         Line::Bye => push_bye(out),
     }
 }
@@ -185,7 +213,7 @@ fn push_opened_plain(out: &mut Vec<u8>, name: &Name) -> Result<(), AllocError>
     )
 }
 
-fn push_opened_next(out: &mut Vec<u8>, name: &Name, key: u32) -> Result<(), AllocError>
+fn push_opened_next(out: &mut Vec<u8>, name: &Name, key: u64) -> Result<(), AllocError>
     ensures { OnOk result (out.new.items ≡ out.old.items ++ lines.opened_text name.now (Some key)) }
 {
     push_words_line(
@@ -194,13 +222,12 @@ fn push_opened_next(out: &mut Vec<u8>, name: &Name, key: u32) -> Result<(), Allo
             Written::Bare(b"opened"),
             Written::Bare(name.as_bytes()),
             Written::Bare(b"next"),
-            Written::Integer(u64::from(key)),
+            Written::Integer(key),
         ],
     )
 }
 
-/// Adds `opened NAME`, or `opened NAME next K` where a next key is told.
-pub fn push_opened(out: &mut Vec<u8>, name: &Name, next: Option<u32>) -> Result<(), AllocError>
+fn push_opened(out: &mut Vec<u8>, name: &Name, next: Option<u64>) -> Result<(), AllocError>
     ensures { OnOk result (out.new.items ≡ out.old.items ++ lines.opened_text name.now next) }
 {
     match next {
@@ -209,16 +236,27 @@ pub fn push_opened(out: &mut Vec<u8>, name: &Name, next: Option<u32>) -> Result<
     }
 }
 
-/// Adds the last line of a call that has a receipt: `done N`, `done N VALUE`, `refused N WORD` or `failed N WORD`.
-pub fn push_ended(out: &mut Vec<u8>, number: u32, reply: &Reply) -> Result<(), AllocError>
+fn push_ended(out: &mut Vec<u8>, number: u64, reply: &Reply) -> Result<(), AllocError>
     ensures { OnOk result (out.new.items ≡ out.old.items ++ lines.ended_text number reply.now) }
 {
-    push_finished(out, number, reply)
+    push_finish(out, number, &reply_ending(reply))
 }
 
-/// Adds the same behind `repeat`: the last line of a call that was made before.
-pub fn push_repeated(out: &mut Vec<u8>, number: u32, reply: &Reply) -> Result<(), AllocError>
+fn push_repeated(out: &mut Vec<u8>, number: u64, reply: &Reply) -> Result<(), AllocError>
     ensures { OnOk result (out.new.items ≡ out.old.items ++ lines.repeated_text number reply.now) }
 {
-    push_repeated_line(out, number, reply)
+    out.extend_from_slice(b"repeat ")?;
+    push_finish(out, number, &reply_ending(reply))
+}
+
+/// Adds a line to `out`. The error is that memory was refused; how much of the line then stands in `out` is not said.
+pub fn push_line(out: &mut Vec<u8>, line: AnyLine<'_>) -> Result<(), AllocError>
+    ensures { OnOk result (out.new.items ≡ out.old.items ++ said_text (said_of line.entry)) }
+{
+    match line {
+        AnyLine::Opened(name, next) => push_opened(out, name, next),
+        AnyLine::Ended(number, reply) => push_ended(out, number, reply),
+        AnyLine::Repeated(number, reply) => push_repeated(out, number, reply),
+        AnyLine::Told(line) => push_told(out, line),
+    }
 }

@@ -4,6 +4,7 @@ use crate::streams::Short;
 use apply_core::reply::Reply;
 use session_core::mouth::Mouth;
 use session_core::output::Health;
+use session_core::said::AnyLine;
 use session_text::line::Line;
 use std::alloc::Global;
 use std::marker::Brand;
@@ -28,11 +29,11 @@ fn goes<R: Abort + Wait>(
     let mouth: Mouth<Short, Brand> = Mouth::new(alloc, writer);
     assert!(rt; mouth.make_room(rt));
     for line in lines {
-        let _said = mouth.say(rt, *line);
+        let _said = mouth.say(rt, AnyLine::Told(*line));
         let _sent = mouth.flush(rt);
     }
     if let Some(number) = ended {
-        let _said = mouth.say_ended(rt, number, &Reply::Done(None));
+        let _said = mouth.say(rt, AnyLine::Ended(number, &Reply::Done(None)));
         let _sent = mouth.flush(rt);
     }
     let (writer, _notes, health) = mouth.into_parts();

@@ -6,12 +6,12 @@ use Rattle.post_core.specs.declared.post.Post.{Post}
 use Rattle.word_core.specs.Answers.{cancelled_line}
 use Rattle.session_text.specs.declared.line.Line.{Line}
 use Rattle.session_text.specs.Lines.{cancel_name, line_text, withdrawn_text}
-use Rattle.board_core.specs.declared.answer.Cancelled.{Cancelled}
-use Rattle.board_core.specs.declared.answer.Cancelled.TheVariants as answers
+use Rattle.guest_core.specs.declared.answer.Cancelled.{Cancelled}
+use Rattle.guest_core.specs.declared.answer.Cancelled.TheVariants as answers
 use Rattle.client_core.specs.declared.client.Opened.{Opened}
 use Rattle.hosted_core.specs.Keys.{WaitsAs}
 use Rattle.hosted_core.specs.Scene.{Scene}
-use Rattle.client_core.specs.Custody.{Custodies}
+use Rattle.custody_core.specs.Custody.{Custodies}
 use Rattle.client_core.specs.State.{Peer, State, opened_at, told_to, with_object}
 use Rattle.client_core.specs.Deeds.{Texts, OnlyTold}
 use Rattle.client_core.specs.Asked.{IsRefusal, Ends, LetsGo, AnswersCancel}

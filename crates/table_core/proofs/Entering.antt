@@ -12,7 +12,7 @@ use Rattle.client_core.specs.Held.{is_some}
 use Rattle.guest_core.specs.declared.guests.Entered.{Entered}
 use Rattle.hosted_core.specs.Lines.{entered_lines}
 use Rattle.hosted_core.specs.Scene.{Scene, with_guests}
-use Rattle.client_core.specs.Custody.{Custodies, IsFreeOf}
+use Rattle.custody_core.specs.Custody.{Custodies, IsFreeOf}
 use Rattle.client_core.specs.State.{Peer, State, change, changed, nobody, opening, opened_at, peers_of, told_to}
 use Rattle.client_core.specs.Deeds.{Texts, OnlyTold}
 use Rattle.client_core.specs.Asked.{IsRefusal, IsRefused, OpensBare, Opens, HasNoSession, Goes, Quits}

@@ -14,7 +14,7 @@ use Rattle.client_core.specs.Held.{waits_of, waits_in, is_not, is_some, rest_in,
 use Rattle.client_core.specs.People.{Person}
 use Rattle.client_core.specs.Places.{has_in, is_here_in, opened_in as has_opened, held_in as all_held, place_at, place_for, Elsewhere}
 use Rattle.client_core.specs.Asks.{Asks}
-use Rattle.client_core.specs.Custody.{Custodies}
+use Rattle.custody_core.specs.Custody.{Custodies}
 use Rattle.client_core.specs.State.{Peer, State, cut_of, peer_of, peers_of, change, nobody, comer, opening, waiting, holding, left_with, who_in, opened_in, held_in}
 use Rattle.client_core.specs.Asked.{IsFor, Waits}
 use Rattle.client_core.specs.Turns.{TakesLine}

@@ -21,8 +21,8 @@ use Rattle.decl_core.specs.HoldForm.{EveryForm}
 use Rattle.client_core.specs.declared.client.Opened.{Opened}
 use Rattle.client_core.specs.declared.clients.Clients.{Clients}
 use Rattle.hosted_core.specs.Scene.{Scene, with_guests}
-use Rattle.client_core.specs.Custody.{Custody, Custodies, IsFreeOf, IsOwed, HasNone, HasSome, FollowsIn, MayMake, held_lines_in, not_held_text}
-use Rattle.client_core.specs.Custody.IsOwed.{again}
+use Rattle.custody_core.specs.Custody.{Custody, Custodies, IsFreeOf, IsOwed, HasNone, HasSome, FollowsIn, MayMake, held_lines_in, not_held_text}
+use Rattle.custody_core.specs.Custody.IsOwed.{again}
 use Rattle.client_core.specs.Moves.{Begins, BeginsHeld, FrontsHeld}
 use Rattle.client_core.specs.State.{State, opened_at, peers_of}
 use Rattle.client_core.specs.Deeds.{Texts, Deed, OnlyTold}

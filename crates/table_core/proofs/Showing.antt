@@ -13,7 +13,7 @@ use Rattle.hosted_core.specs.Scene.{Scene}
 use Rattle.client_core.specs.People.{Person}
 use Rattle.decl_core.specs.HoldForm.{HoldForm}
 use Rattle.guest_core.specs.Held.{HeldCall}
-use Rattle.client_core.specs.Custody.{Custody, holds_by, held_by}
+use Rattle.custody_core.specs.Custody.{Custody, holds_by, held_by}
 use Rattle.client_core.specs.State.{State, opened_at}
 use Rattle.client_core.specs.Deeds.{Texts, OnlyTold}
 use Rattle.client_core.specs.Asked.{IsRefusal, IsRefused, AnswersInside}

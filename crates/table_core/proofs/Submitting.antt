@@ -20,7 +20,7 @@ use Rattle.hosted_core.specs.declared.hosted.Keyed.{Keyed}
 use Rattle.hosted_core.specs.declared.hosted.Keyed.TheVariants as keys
 use Rattle.hosted_core.specs.Keys.{Says}
 use Rattle.hosted_core.specs.Scene.{Scene, told_of, with_guests}
-use Rattle.client_core.specs.Custody.{Custodies}
+use Rattle.custody_core.specs.Custody.{Custodies}
 use Rattle.client_core.specs.State.{Peer, State, change, changed, counted, opening, waiting, opened_at, peers_of, session_by, told_to}
 use Rattle.client_core.specs.Deeds.{Texts, OnlyTold}
 use Rattle.client_core.specs.Asked.{IsRefusal, IsRefused, Sits, Waits, Ends, AllEnd, AnswersCall, keyed_text}

@@ -9,7 +9,7 @@ use Rattle.post_core.specs.declared.post.Post.{Post}
 use Rattle.post_core.specs.Turns.Asked.{Heard, Noted}
 use Rattle.post_core.specs.declared.served.LineEnd.{LineEnd}
 use Rattle.post_core.specs.declared.served.Note.{Note}
-use Rattle.board_core.specs.declared.answer.SubmitFault.TheVariants as faults
+use Rattle.guest_core.specs.declared.answer.SubmitFault.TheVariants as faults
 use Rattle.session_text.specs.declared.line.Line.TheVariants as lines
 use Rattle.session_text.specs.Lines.{line_text}
 use Rattle.client_core.specs.declared.ask.Ask.{Ask}
@@ -22,7 +22,7 @@ use Rattle.client_core.specs.declared.ask.Sight.{Sight}
 use Rattle.client_core.specs.Inside.{inside_in}
 use Rattle.client_core.specs.Numbers.{cancel_in}
 use Rattle.hosted_core.specs.Scene.{Scene}
-use Rattle.client_core.specs.Custody.{Custodies}
+use Rattle.custody_core.specs.Custody.{Custodies}
 use Rattle.client_core.specs.State.{State, change, comer, holding, held_at, opened_at, waits_at, who_at, peers_of}
 use Rattle.client_core.specs.Deeds.{Texts, Deed, Nothing, OnlyTold, Then}
 use Rattle.client_core.specs.Asked.{AnswersCancel, AnswersInside, Heeds, Goes}

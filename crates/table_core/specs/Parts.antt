@@ -7,8 +7,8 @@ use Rattle.value_core.specs.declared.datum.Datum.{Datum}
 use Rattle.decl_core.specs.ObjectMap.{object_of}
 use Rattle.word_core.specs.Answers.{cancelled_line}
 use Rattle.session_text.specs.Lines.{accepted_text, cancel_name, withdrawn_text}
-use Rattle.board_core.specs.declared.answer.Cancelled.TheVariants as answers
-use Rattle.board_core.specs.declared.answer.SubmitFault.{SubmitFault}
+use Rattle.guest_core.specs.declared.answer.Cancelled.TheVariants as answers
+use Rattle.guest_core.specs.declared.answer.SubmitFault.{SubmitFault}
 use Rattle.live_core.specs.declared.call.Ran.{Ran}
 use Rattle.live_core.specs.declared.live.Taken.{Taken}
 use Rattle.live_core.specs.Lines.{all_lines}
@@ -27,7 +27,7 @@ use Rattle.post_core.specs.Posts.{Tells}
 use Rattle.post_core.specs.declared.post.Post.{Post}
 use Rattle.client_core.specs.State.{State, opening, changed, with_object, told_to, counted, session_by}
 use Rattle.client_core.specs.Deeds.{Texts, Deed, OnlyTold}
-use Rattle.client_core.specs.Custody.{Custody, IsOwed, not_held_text}
+use Rattle.custody_core.specs.Custody.{Custody, IsOwed, not_held_text}
 use Rattle.client_core.specs.Asked.{IsRefused, Sits, Submits, AllEnd, Ends, Follows, LetsGo, IsNotCancelled, LeavesObject, MayCall, NoneLeaves, keyed_text}
 use Rattle.client_core.specs.Gone.{Frees, SeatsOne}
 use Rattle.client_core.specs.Turns.{NoneWaits}

@@ -2,7 +2,7 @@
 use Rattle.std.specs.Prelude.{◌≡◌, ℕ, List, [], Some, None, slice_get}
 use Rattle.hosted_core.specs.Scene.{Scene}
 use Rattle.client_core.specs.declared.clients.Clients.{Clients}
-use Rattle.client_core.specs.Custody.{Custodies}
+use Rattle.custody_core.specs.Custody.{Custodies}
 use Rattle.custody_core.specs.Views.{custodies_of}
 use Rattle.client_core.specs.State.{Peer, State, peers_of}
 use Rattle.table_core.specs.declared.table.Table.{Table}

@@ -3,7 +3,7 @@
 ghost use Rattle.std.specs.Prelude.{◌≡◌, ◌<◌, [], Some, true, false, OnOk, OnErr, IfOk, length, slice_get};
 ghost use Rattle.word_core.specs.Answers.{cancelled_line};
 ghost use Rattle.session_text.specs.Lines.{cancel_name, ended_text, withdrawn_text};
-ghost use Rattle.board_core.specs.declared.answer.Cancelled.TheVariants as answers;
+ghost use Rattle.guest_core.specs.declared.answer.Cancelled.TheVariants as answers;
 ghost use Rattle.client_core.specs.declared.client.Opened.{Opened as AnOpened};
 ghost use Rattle.hosted_core.specs.declared.hosted.Keyed.TheVariants as keys;
 ghost use Rattle.hosted_core.specs.Scene.{Scene, told_of};
@@ -23,18 +23,16 @@ use crate::objects::{
 };
 use crate::peers::{ToldCall, open, open_called, opened_at, rest, waiter};
 use crate::table::{MOST_LINE, SHORT_LINE, Table};
-use crate::tell::{
-    tell_accepted, tell_cancel, tell_ended, tell_kept, tell_line, tell_repeated, tell_withdrawn,
-};
-use board_core::answer::{Cancelled, SubmitFault};
+use crate::tell::tell_line;
 use client_core::client::Opened;
+use guest_core::answer::{Cancelled, SubmitFault};
 use hosted_core::hosted::Keyed;
 use keep_loop::Post;
 use live_core::call::Ran;
 use live_core::live::Taken;
 use path_tree::name::Name;
 use path_tree::node::OpId;
-use session_text::line::{Line, Refusal};
+use session_text::line::{AnyLine, Line, Refusal, Unended};
 use std::alloc::AllocError;
 use value_core::datum::Datum;
 
@@ -159,34 +157,15 @@ impl Table {
         match keyed {
             Keyed::New => Ok(()),
             Keyed::Repeated(told, reply) => {
-                tell_repeated(&self.clients, &mut self.line, place, told, &reply, post)?;
+                let line = AnyLine::Repeated(told, &reply);
+                tell_line(&self.clients, &mut self.line, place, line, post)?;
                 Ok(())
             }
             Keyed::Cancelled(told) => {
-                tell_kept(
-                    &self.clients,
-                    &mut self.line,
-                    place,
-                    b"cancelled",
-                    told,
-                    post,
-                )?;
-                Ok(())
+                self.say(place, Line::Kept(told, Unended::Cancelled), post)
             }
-            Keyed::Waits(told) => {
-                tell_kept(&self.clients, &mut self.line, place, b"waiting", told, post)?;
-                Ok(())
-            }
-            Keyed::Refused(fault) => {
-                tell_line(
-                    &self.clients,
-                    &mut self.line,
-                    place,
-                    Line::Unkeyed(fault),
-                    post,
-                )?;
-                Ok(())
-            }
+            Keyed::Waits(told) => { self.say(place, Line::Kept(told, Unended::Waiting), post) }
+            Keyed::Refused(fault) => { self.say(place, Line::Unkeyed(fault), post) }
         }
     }
 
@@ -338,7 +317,8 @@ impl Table {
     {
         let at = seat.object;
         let told = told_at(&self.objects, at, taken.number);
-        tell_accepted(&self.clients, &mut self.line, place, told, post)?;
+        let line = AnyLine::Told(Line::Accepted(told));
+        tell_line(&self.clients, &mut self.line, place, line, post)?;
         open_called(&mut self.clients, place, counted(seat, told), self.second);
         self.all_ended(at, &taken.ran, post)?;
         Ok(())
@@ -380,7 +360,8 @@ impl Table {
         match waiter(&self.clients, thought, call) {
             None => Ok(()),
             Some(place) => {
-                tell_ended(&self.clients, &mut self.line, place, told, &ran.reply, post)?;
+                let line = AnyLine::Ended(told, &ran.reply);
+                tell_line(&self.clients, &mut self.line, place, line, post)?;
                 rest(&mut self.clients, place);
                 Ok(())
             }
@@ -487,7 +468,7 @@ impl Table {
         ensures { OnOk result (Brings (OnlyTold place (cancelled_line told (cancel_name answer))) post.old (seen self.old)
             post.new (seen self.new)) }
     {
-        tell_cancel(&self.clients, &mut self.line, place, told, answer, post)?;
+        self.say(place, Line::Cancel(told, answer), post)?;
         Ok(())
     }
 
@@ -531,7 +512,8 @@ impl Table {
         match waiter(&self.clients, thought, call) {
             None => Ok(()),
             Some(place) => {
-                tell_withdrawn(&self.clients, &mut self.line, place, number, post)?;
+                let line = AnyLine::Told(Line::Withdrawn(number));
+                tell_line(&self.clients, &mut self.line, place, line, post)?;
                 rest(&mut self.clients, place);
                 Ok(())
             }

@@ -1,7 +1,7 @@
 //! What is done with the object at a place. Where there is none, nothing is done.
 
 ghost use Rattle.std.specs.Prelude.{◌≡◌, [], ◌∷◌, Ok, Err, Some, true, false, IfOk, IfErr, IfSome, OnErr, slice_get, slice_set};
-ghost use Rattle.board_core.specs.declared.answer.Cancelled.TheVariants as answers;
+ghost use Rattle.guest_core.specs.declared.answer.Cancelled.TheVariants as answers;
 ghost use Rattle.hosted_core.specs.declared.hosted.Keyed.TheVariants as keys;
 ghost use Rattle.hosted_core.specs.Keys.{Says, WaitsAs};
 ghost use Rattle.hosted_core.specs.Scene.{Scene, told_of};
@@ -10,7 +10,7 @@ ghost use Rattle.guest_core.specs.Guests.{SomebodyHas};
 ghost use Rattle.client_core.specs.Moves.{Begins, IsFrontAt};
 ghost use Rattle.table_core.specs.Objects.{IsNamed, HasOperation, EntersAt, SeatsAt, LeavesAt, CallsAt, CancelsAt, IsKnownAt};
 
-use board_core::answer::{Cancelled, SubmitFault};
+use guest_core::answer::{Cancelled, SubmitFault};
 use guest_core::guests::{EnterFault, Entered};
 use hosted_core::hosted::{Hosted, Keyed};
 use live_core::live::Taken;

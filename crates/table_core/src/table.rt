@@ -14,17 +14,17 @@ ghost use Rattle.table_core.specs.Seen.{IsQuiet, NobodyIsThere, seen};
 
 use crate::objects::{Comer, enter_at, may_come, object_for};
 use crate::peers::{go, open_as, opened_at, who_at};
-use crate::tell::{tell_line, tell_opened};
-use board_core::answer::SubmitFault;
+use crate::tell::tell_line;
 use client_core::client::Opened;
 use client_core::clients::Clients;
 use custody_core::all::AllHeld;
+use guest_core::answer::SubmitFault;
 use guest_core::guests::{EnterFault, Entered};
 use hosted_core::hosted::Hosted;
 use inside_core::tallies::Tallies;
 use keep_loop::Post;
 use path_tree::name::Name;
-use session_text::line::{Line, Refusal};
+use session_text::line::{AnyLine, Line, Refusal};
 use std::alloc::{AllocError, Global};
 
 /// Where more than so many bytes are owed to a connection, its held lines are done later.
@@ -133,6 +133,7 @@ impl Table {
     ) -> Result<(), AllocError>
         ensures { OnOk result (Brings (OnlyTold place (line_text line)) post.old (seen self.old) post.new (seen self.new)) }
     {
+        let line = AnyLine::Told(line);
         tell_line(&self.clients, &mut self.line, place, line, post)?;
         Ok(())
     }
@@ -339,7 +340,8 @@ impl Table {
         ensures { OnOk result (Brings (TellsOpened place (opened_text name.now next) opened) post.old (seen self.old)
             post.new (seen self.new)) }
     {
-        tell_opened(&self.clients, &mut self.line, place, name, next, post)?;
+        let line = AnyLine::Opened(name, next);
+        tell_line(&self.clients, &mut self.line, place, line, post)?;
         open_as(&mut self.clients, place, opened, client);
         Ok(())
     }

@@ -24,8 +24,8 @@ use crate::peers::{
     who_at,
 };
 use crate::table::{MOST_OWED, Table};
-use board_core::answer::SubmitFault;
 use client_core::ask::{Ask, Sight, ask_of, cancel_of, inside_of};
+use guest_core::answer::SubmitFault;
 use hosted_core::hosted::Hosted;
 use inside_core::look::write_look;
 use keep_loop::{LineEnd, Note, Post, Served, Visible};

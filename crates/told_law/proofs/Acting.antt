@@ -9,7 +9,7 @@ use Rattle.value_core.specs.declared.datum.Datum.{Datum}
 use Rattle.decl_core.specs.declared.object.Object.{Object}
 use Rattle.decl_core.specs.ObjectMap.{object_of}
 use Rattle.word_core.specs.Text.{operation_name}
-use Rattle.board_core.specs.declared.answer.SubmitFault.TheVariants as faults
+use Rattle.guest_core.specs.declared.answer.SubmitFault.TheVariants as faults
 use Rattle.session_text.specs.declared.line.Line.TheVariants as lines
 use Rattle.session_text.specs.Lines.{bye_text, line_text, opened_text}
 use Rattle.guest_core.specs.declared.seats.Seat.TheVariants.{Nameless}
@@ -28,7 +28,7 @@ use Rattle.client_core.specs.declared.client.Opened.{Opened}
 use Rattle.client_core.specs.Asks.{Asks}
 use Rattle.client_core.specs.Held.{is_some, waits_of}
 use Rattle.client_core.specs.Asked.{OpensBare, OpensAs, Opens, GetsNumber, Sits, Calls, RepeatsUnder, AnswersCall, AnswersInside, LeavesObject, Goes, Quits, Acts, Heeds, keyed_text}
-use Rattle.client_core.specs.Custody.{not_held_text}
+use Rattle.custody_core.specs.Custody.{not_held_text}
 use Rattle.client_core.specs.Deeds.{Texts}
 use Rattle.client_core.specs.Gone.{SeatsOne, Frees}
 use Rattle.client_core.specs.State.{Peer, State, change, changed, nobody, opened_at, opened_in, one_text, opening, session_by, told_to, waits_at, who_at, who_in}

@@ -6,7 +6,7 @@ use Rattle.std.specs.declared.alloc.AllocError.{AllocError}
 use Rattle.std.proofs.lemmas.Option.{same_Some}
 use Rattle.value_core.specs.declared.datum.Datum.{Datum}
 use Rattle.word_core.specs.Events.{Called}
-use Rattle.board_core.specs.declared.answer.SubmitFault.TheVariants as faults
+use Rattle.guest_core.specs.declared.answer.SubmitFault.TheVariants as faults
 use Rattle.guest_core.specs.declared.seats.Seat.{Seat}
 use Rattle.guest_core.specs.Keys.{asks as asks_for}
 use Rattle.hosted_core.specs.Scene.{Scene}

@@ -17,8 +17,8 @@ use Rattle.hosted_core.specs.Steps.{Steps}
 use Rattle.decl_core.specs.HoldForm.{HoldForm, RulesForm}
 use Rattle.guest_core.specs.Held.{HeldCall, Fits, MayUndo, MayUndoBy, hold_ended}
 use Rattle.guest_core.specs.Undo.{taken_by, IsUndoOf}
-use Rattle.client_core.specs.Custody.{Custody, HeldBehindAll, IsOwed, MayMake, holding_now}
-use Rattle.client_core.specs.Custody.IsOwed.{gives_back, again}
+use Rattle.custody_core.specs.Custody.{Custody, HeldBehindAll, IsOwed, MayMake, holding_now}
+use Rattle.custody_core.specs.Custody.IsOwed.{gives_back, again}
 use Rattle.told_law.specs.Ended.{ends_of}
 use Rattle.told_law.specs.Keeps.{AreApart, Keeps}
 use Rattle.told_law.proofs.Holding.{happened_by, quiet_none, calls_end, both_end}

@@ -17,7 +17,7 @@ use Rattle.hosted_core.specs.Scene.{Scene}
 use Rattle.post_core.specs.Texts.{to}
 use Rattle.post_core.specs.Turns.{Asked}
 use Rattle.post_core.specs.Turns.Asked.{Heard, Noted, Changes}
-use Rattle.client_core.specs.Custody.{Custody, Custodies}
+use Rattle.custody_core.specs.Custody.{Custody, Custodies}
 use Rattle.client_core.specs.Deeds.{Texts}
 use Rattle.client_core.specs.Moves.{Begins}
 use Rattle.client_core.specs.State.{State}

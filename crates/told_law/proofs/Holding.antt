@@ -18,7 +18,7 @@ use Rattle.hosted_core.specs.Scene.{Scene}
 use Rattle.hosted_core.specs.Steps as hosted
 use Rattle.hosted_core.specs.Steps.{Steps}
 use Rattle.history_law.specs.Happens.{with_ran, with_entered, with_cancelled, happens, all_happen}
-use Rattle.client_core.specs.Custody.{Custody, HeldBehindAll, as_told, holding_now}
+use Rattle.custody_core.specs.Custody.{Custody, HeldBehindAll, as_told, holding_now}
 use Rattle.told_law.proofs.Going.{TellsAlike, all_more, all_alike, told_alike}
 use Rattle.told_law.specs.Ended.{ends_of}
 use Rattle.told_law.proofs.Keeping.{ran_ends}

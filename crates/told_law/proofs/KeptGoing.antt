@@ -28,7 +28,7 @@ use Rattle.keep_loop.specs.Seen.{Happened}
 use Rattle.keep_loop.specs.Stands.{SurvivesSince}
 use Rattle.keep_loop.proofs.Crashed.{survives_since}
 use Rattle.client_core.specs.Deeds.{Texts}
-use Rattle.client_core.specs.Custody.{Custodies, held_lines, held_lines_in}
+use Rattle.custody_core.specs.Custody.{Custodies, held_lines, held_lines_in}
 use Rattle.client_core.specs.Moves.{Moves, FrontsHeld}
 use Rattle.client_core.specs.State.{State}
 use Rattle.client_core.proofs.Turning.{turns_move}

@@ -20,7 +20,7 @@ use Rattle.post_core.specs.Turns.Asked.{Heard, Noted, Changes}
 use Rattle.post_core.specs.declared.served.LineEnd.{LineEnd}
 use Rattle.post_core.specs.declared.served.Note.{Note}
 use Rattle.client_core.specs.Deeds.{Texts}
-use Rattle.client_core.specs.Custody.{held_lines, held_lines_in}
+use Rattle.custody_core.specs.Custody.{held_lines, held_lines_in}
 use Rattle.client_core.specs.Moves.{BeginsHeld}
 use Rattle.client_core.specs.State.{State}
 use Rattle.told_law.specs.Said.{Account, AllWent, SaysIn}

@@ -28,7 +28,7 @@ use Rattle.history_law.specs.Told.{heard_of}
 use Rattle.history_law.proofs.WrittenTelling.{steps_are_told}
 use Rattle.post_core.specs.Turns.{Asked}
 use Rattle.post_core.specs.Turns.Asked.{Heard as Hears, Noted, Changes}
-use Rattle.client_core.specs.Custody.{as_told}
+use Rattle.custody_core.specs.Custody.{as_told}
 use Rattle.told_law.specs.Said.{SaysIn, Went}
 use Rattle.told_law.proofs.Going.{all_alike, all_more}
 use Rattle.table_core.specs.Seen.{seen}

@@ -22,7 +22,7 @@ use Rattle.history_law.proofs.Holding.{written_has_held}
 use Rattle.history_law.proofs.FrontReading.{front_is_written, written_is_read}
 use Rattle.decl_core.specs.HoldForm.{RulesForm}
 use Rattle.guest_core.specs.Held.{HeldCall}
-use Rattle.recover_core.specs.HeldLines.{held_text, IsHeldLine}
+use Rattle.front_read.specs.HeldLines.{held_text, IsHeldLine}
 use Rattle.recover_core.specs.HeldText.{HasHeld}
 use Rattle.recover_core.specs.Laws.{AreEndings, HeldAreLines}
 use Rattle.told_law.specs.Ended.{HoldsBy}
@@ -47,7 +47,7 @@ use Rattle.keep_loop.specs.declared.keep.Limits.{Limits}
 use Rattle.keep_loop.specs.Seen.{Happened}
 use Rattle.keep_loop.specs.Epochs.{rules_of, front_in, before_in, since_in, stored_since, Agrees, HasBegun, LastBegan, change_to, BeginsNone}
 use Rattle.keep_loop.specs.Stands.{IsBetween, Survives}
-use Rattle.client_core.specs.Custody.{Custody, Custodies, held_lines, held_lines_in}
+use Rattle.custody_core.specs.Custody.{Custody, Custodies, held_lines, held_lines_in}
 use Rattle.told_law.specs.Said.{Account}
 use Rattle.table_core.specs.Moves.{Gives, Fronts}
 use Rattle.table_core.specs.Seen.{seen}

@@ -17,7 +17,7 @@ use Rattle.client_core.specs.declared.ask.Ask.{Ask}
 use Rattle.client_core.specs.declared.ask.Ask.TheVariants as asks
 use Rattle.client_core.specs.declared.client.Opened.{Opened}
 use Rattle.client_core.specs.Asks.{Asks}
-use Rattle.client_core.specs.Custody.{Custody, IsOwed}
+use Rattle.custody_core.specs.Custody.{Custody, IsOwed}
 use Rattle.client_core.specs.Deeds.{Texts}
 use Rattle.client_core.specs.Given as told
 use Rattle.client_core.specs.Held.{is_some}

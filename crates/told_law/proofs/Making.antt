@@ -10,7 +10,7 @@ use Rattle.word_core.specs.Events.{Called}
 use Rattle.word_core.specs.Text.{operation_name}
 use Rattle.session_text.specs.Lines.{accepted_text, cancel_name, withdrawn_text}
 use Rattle.word_core.specs.Answers.{cancelled_line}
-use Rattle.board_core.specs.declared.answer.Cancelled.TheVariants as cancels_by
+use Rattle.guest_core.specs.declared.answer.Cancelled.TheVariants as cancels_by
 use Rattle.live_core.specs.declared.call.Ran.{Ran}
 use Rattle.live_core.specs.declared.live.Taken.{Taken}
 use Rattle.live_core.specs.Answers.{asked, IsFree}

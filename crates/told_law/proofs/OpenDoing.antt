@@ -11,8 +11,8 @@ use Rattle.decl_core.specs.ObjectMap.{object_of}
 use Rattle.apply_core.specs.History.{End}
 use Rattle.apply_core.specs.declared.reply.Reply.{Reply}
 use Rattle.word_core.specs.Answers.{cancelled_line}
-use Rattle.board_core.specs.declared.answer.Cancelled.TheVariants as cancels_by
-use Rattle.board_core.specs.declared.answer.SubmitFault.TheVariants as faults
+use Rattle.guest_core.specs.declared.answer.Cancelled.TheVariants as cancels_by
+use Rattle.guest_core.specs.declared.answer.SubmitFault.TheVariants as faults
 use Rattle.session_text.specs.declared.line.Line.TheVariants as lines
 use Rattle.session_text.specs.declared.session.Action.{Action}
 use Rattle.session_text.specs.declared.session.Action.TheVariants as actions
@@ -37,7 +37,7 @@ use Rattle.client_core.specs.declared.client.Opened.{Opened}
 use Rattle.client_core.specs.Asks.{Asks, IsWide, TableDoes, asked_by}
 use Rattle.client_core.specs.Asked as told
 use Rattle.client_core.specs.Asked.{AllEnd, AnswersCall, AnswersCancel, AnswersInside, Calls, Heeds, IsRefused, Opens as OpensOne, Repeats, Sits, keyed_text}
-use Rattle.client_core.specs.Custody.{not_held_text}
+use Rattle.custody_core.specs.Custody.{not_held_text}
 use Rattle.client_core.specs.Deeds.{Texts, OnlyTold}
 use Rattle.client_core.specs.Held.{is_some}
 use Rattle.client_core.specs.State.{Peer, State, one_text, opened_at, opened_in, opening, session_by, told_to, who_in, waits_at, who_at, with_object}

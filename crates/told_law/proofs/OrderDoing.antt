@@ -14,7 +14,7 @@ use Rattle.decl_core.specs.ObjectMap.{object_of}
 use Rattle.decl_core.specs.declared.object.Object.{Object}
 use Rattle.word_core.specs.Events.{Called}
 use Rattle.word_core.specs.Text.{operation_name}
-use Rattle.board_core.specs.declared.answer.SubmitFault.TheVariants as faults
+use Rattle.guest_core.specs.declared.answer.SubmitFault.TheVariants as faults
 use Rattle.session_text.specs.declared.line.Line.TheVariants as lines
 use Rattle.session_text.specs.declared.line.Line.{Line as Answer}
 use Rattle.session_text.specs.Lines.{accepted_text, bye_text, line_text, opened_text, repeated_text}
@@ -37,7 +37,7 @@ use Rattle.history_law.specs.Happens.{with_ran as behind_ran}
 use Rattle.post_core.specs.declared.served.LineEnd.{LineEnd}
 use Rattle.client_core.specs.Asked as told
 use Rattle.client_core.specs.Asked.{OpensBare, OpensAs, Opens, GetsNumber, Sits, Calls, Submits, RepeatsUnder, AnswersCall, AnswersInside, LeavesObject, NoneLeaves, Goes, Quits, Acts, Heeds, keyed_text}
-use Rattle.client_core.specs.Custody.{not_held_text}
+use Rattle.custody_core.specs.Custody.{not_held_text}
 use Rattle.client_core.specs.Deeds.{Texts, OnlyTold}
 use Rattle.client_core.specs.Gone.{SeatsOne, Frees}
 use Rattle.client_core.specs.ToldInside.{IsWhy, state_by, form_at, object_in}

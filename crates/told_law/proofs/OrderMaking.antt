@@ -11,7 +11,7 @@ use Rattle.decl_core.specs.declared.object.Object.{Object}
 use Rattle.word_core.specs.Events.{Called, history_of}
 use Rattle.word_core.specs.Text.{operation_name}
 use Rattle.word_core.specs.Answers.{cancelled_line}
-use Rattle.board_core.specs.declared.answer.Cancelled.TheVariants as cancels_by
+use Rattle.guest_core.specs.declared.answer.Cancelled.TheVariants as cancels_by
 use Rattle.session_text.specs.Lines.{cancel_name, line_text, withdrawn_text}
 use Rattle.live_core.specs.declared.call.Ran.{Ran}
 use Rattle.live_core.specs.Answers.{asked}

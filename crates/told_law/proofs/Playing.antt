@@ -10,7 +10,7 @@ use Rattle.live_core.specs.Front.{Opening}
 use Rattle.live_core.specs.Text.{front_text}
 use Rattle.decl_core.specs.HoldForm.{RulesForm}
 use Rattle.guest_core.specs.Held.{AreHeld}
-use Rattle.recover_core.specs.HeldLines.{held_text}
+use Rattle.front_read.specs.HeldLines.{held_text}
 use Rattle.recover_core.specs.HeldPlay.{HaveNumbers, told_ends}
 use Rattle.history_law.proofs.Holding.{written_has_held}
 use Rattle.audit_core.specs.EpochSaid.{Says, Asked, a_start, an_end, a_cancel, a_name}
@@ -28,7 +28,7 @@ use Rattle.history_law.specs.Stands.{Stands}
 use Rattle.history_law.specs.Told.{heard_of}
 use Rattle.history_law.proofs.Beginning.{followed_stands}
 use Rattle.post_core.specs.Turns.{added_by}
-use Rattle.client_core.specs.Custody.{Custody, Custodies, held_lines, held_lines_in}
+use Rattle.custody_core.specs.Custody.{Custody, Custodies, held_lines, held_lines_in}
 use Rattle.table_core.specs.Seen.{seen}
 use Rattle.told_law.proofs.KeptGoing.{set_at, runs_are_steps}
 use Rattle.told_law.specs.Ended.{ends_of}

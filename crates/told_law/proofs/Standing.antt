@@ -20,7 +20,7 @@ use Rattle.history_law.specs.Keyed.{ended_as, ended_by, with_ran, with_came, wit
 use Rattle.post_core.specs.Texts.{to}
 use Rattle.post_core.specs.Turns.{Asked, Turn}
 use Rattle.post_core.specs.Turns.Asked.{Heard, Noted, Changes}
-use Rattle.client_core.specs.Custody.{Custody}
+use Rattle.custody_core.specs.Custody.{Custody}
 use Rattle.told_law.specs.Said.{Account}
 use Rattle.told_law.proofs.Going.{ran_more, all_more, TellsAlike, all_alike, told_alike}
 use Rattle.table_core.specs.Seen.{seen}

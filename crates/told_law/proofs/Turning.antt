@@ -2,7 +2,7 @@
 use Rattle.std.proofs.Common.{◌≡◌, ap, refl, ℕ, zero, suc, inl, inr, List, [], ◌∷◌, Bool, true, false, Result, Ok, Err}
 use Rattle.std.specs.Prelude.{length}
 use Rattle.std.specs.declared.alloc.AllocError.{AllocError}
-use Rattle.board_core.specs.declared.answer.SubmitFault.TheVariants as faults
+use Rattle.guest_core.specs.declared.answer.SubmitFault.TheVariants as faults
 use Rattle.session_text.specs.declared.line.Line.TheVariants as lines
 use Rattle.session_text.specs.declared.line.Refusal.TheVariants as refusals
 use Rattle.session_text.specs.Lines.{bye_text, line_text}

@@ -18,7 +18,7 @@ use Rattle.client_core.specs.declared.ask.Ask.{Ask}
 use Rattle.client_core.specs.declared.ask.Ask.TheVariants as asks
 use Rattle.client_core.specs.Asks.{Asks}
 use Rattle.client_core.specs.Asked.{IsRefusal, keyed_text}
-use Rattle.client_core.specs.Custody.{not_held_text}
+use Rattle.custody_core.specs.Custody.{not_held_text}
 use Rattle.told_law.specs.Said.{Account, SaysNoReply}
 use Rattle.told_law.specs.Awaits.{HasOpened, Lines}
 use Rattle.told_law.specs.Talk.{AnswersCancel, Line}

@@ -20,7 +20,7 @@ use Rattle.keep_loop.specs.Seen.{Happened}
 use Rattle.keep_loop.specs.Stands.{IsHonest, IsBetween}
 use Rattle.client_core.specs.declared.ask.Ask.TheVariants as asks
 use Rattle.client_core.specs.Asks.{Asks}
-use Rattle.client_core.specs.Custody.{Custody, IsOwed}
+use Rattle.custody_core.specs.Custody.{Custody, IsOwed}
 use Rattle.table_core.specs.Moves.{Gives, Fronts}
 use Rattle.table_core.specs.Seen.{IsQuiet, seen}
 use Rattle.table_core.specs.declared.table.Table.{Table}

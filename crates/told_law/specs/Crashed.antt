@@ -10,9 +10,9 @@ use Rattle.recover_core.specs.Playing.{begun_by}
 use Rattle.hosted_core.specs.Fronts.{front_of}
 use Rattle.hosted_core.specs.Scene.{Scene}
 use Rattle.history_law.specs.Stands.{Stands}
-use Rattle.client_core.specs.Custody.{Custody}
+use Rattle.custody_core.specs.Custody.{Custody}
 use Rattle.decl_core.specs.HoldForm.{RulesForm}
-use Rattle.recover_core.specs.HeldLines.{held_text}
+use Rattle.front_read.specs.HeldLines.{held_text}
 use Rattle.post_core.specs.Turns.{Turn, Runs}
 use Rattle.keep_loop.specs.declared.keep.Limits.{Limits}
 use Rattle.keep_loop.specs.Seen.{Happened}

@@ -7,7 +7,7 @@ use Rattle.guest_core.specs.Held.{AreHeld}
 use Rattle.audit_core.specs.Steps.{Step, ran, cancelled, named}
 use Rattle.hosted_core.specs.Scene.{Scene}
 use Rattle.post_core.specs.Turns.{Turn}
-use Rattle.client_core.specs.Custody.{Custody, as_told}
+use Rattle.custody_core.specs.Custody.{Custody, as_told}
 use Rattle.told_law.specs.Said.{Account, SaysIn}
 use Rattle.table_core.specs.Moves.{Gives}
 use Rattle.table_core.specs.Seen.{seen}

@@ -5,7 +5,7 @@ use Rattle.word_core.specs.Events.{Happened}
 use Rattle.live_core.specs.Front.{Every, Opening}
 use Rattle.live_core.specs.Text.{front_text}
 use Rattle.decl_core.specs.HoldForm.{RulesForm}
-use Rattle.recover_core.specs.HeldLines.{held_text, IsHeldLine}
+use Rattle.front_read.specs.HeldLines.{held_text, IsHeldLine}
 use Rattle.recover_core.specs.HeldText.{HasHeld}
 use Rattle.recover_core.specs.Laws.{AreEndings}
 use Rattle.told_law.specs.Ended.{EndsOver, HoldsBy}

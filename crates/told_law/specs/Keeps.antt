@@ -11,7 +11,7 @@ use Rattle.guest_core.specs.Laws.{given, taken, held_by}
 use Rattle.hold_read.specs.Holds.{IsRules}
 use Rattle.hosted_core.specs.Scene.{Scene}
 use Rattle.post_core.specs.Turns.{Turn}
-use Rattle.client_core.specs.Custody.{Custody}
+use Rattle.custody_core.specs.Custody.{Custody}
 use Rattle.told_law.specs.Said.{Account}
 use Rattle.table_core.specs.Seen.{seen}
 use Rattle.table_core.specs.declared.table.Table.{Table}

@@ -14,7 +14,7 @@ use Rattle.history_law.specs.Keyed.{HaveKeys, IsTheCall, with_steps}
 use Rattle.post_core.specs.Texts.{to}
 use Rattle.post_core.specs.Turns.{Asked, Turn}
 use Rattle.post_core.specs.Turns.Asked.{Heard, Noted, Changes}
-use Rattle.client_core.specs.Custody.{Custody, held_lines}
+use Rattle.custody_core.specs.Custody.{Custody, held_lines}
 use Rattle.told_law.specs.Said.{Account, SaysIn, Went}
 use Rattle.table_core.specs.Moves.{Gives}
 use Rattle.table_core.specs.Seen.{seen}

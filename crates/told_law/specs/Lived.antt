@@ -25,7 +25,7 @@ use Rattle.keep_loop.specs.declared.keep.Limits.{Limits as LoopLimits}
 use Rattle.keep_loop.specs.Seen.{Happened}
 use Rattle.keep_loop.specs.Epochs.{rules_of, since_in, stored_since, BeginsNone, change_to}
 use Rattle.keep_loop.specs.Stands.{IsHonest, IsBetween}
-use Rattle.client_core.specs.Custody.{Custody, held_lines}
+use Rattle.custody_core.specs.Custody.{Custody, held_lines}
 use Rattle.table_core.specs.Moves.{Gives, Fronts}
 use Rattle.table_core.specs.declared.table.Table.{Table}
 use Rattle.told_law.specs.Kept.{Stood, LeavesAnswered}

@@ -28,7 +28,7 @@ use Rattle.keep_loop.specs.declared.keep.Limits.{Limits}
 use Rattle.keep_loop.specs.Seen.{Happened}
 use Rattle.keep_loop.specs.Epochs.{rules_of, front_in, since_in, stored_since}
 use Rattle.keep_loop.specs.Stands.{IsHonest, IsBetween}
-use Rattle.client_core.specs.Custody.{held_lines}
+use Rattle.custody_core.specs.Custody.{held_lines}
 use Rattle.told_law.specs.Said.{Account}
 use Rattle.table_core.specs.Moves.{Gives, Fronts}
 use Rattle.table_core.specs.Seen.{seen}

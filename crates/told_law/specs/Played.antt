@@ -8,7 +8,7 @@ use Rattle.live_core.specs.Front.{Opening, HasRows, Every}
 use Rattle.live_core.specs.Text.{front_text}
 use Rattle.decl_core.specs.HoldForm.{HoldForm, RulesForm}
 use Rattle.guest_core.specs.Held.{HeldCall, AreHeld}
-use Rattle.recover_core.specs.HeldLines.{held_text, IsHeldLine}
+use Rattle.front_read.specs.HeldLines.{held_text, IsHeldLine}
 use Rattle.recover_core.specs.HeldText.{HasHeld}
 use Rattle.recover_core.specs.HeldPlay.{PlaysLines}
 use Rattle.recover_core.specs.declared.recover.House.{House}

@@ -11,8 +11,8 @@ use Rattle.word_core.specs.Reads.{Reads}
 use Rattle.word_core.specs.Events.{Called, end_of}
 use Rattle.word_core.specs.Text.{operation_name}
 use Rattle.word_core.specs.Answers.{cancelled_line}
-use Rattle.board_core.specs.declared.answer.Cancelled.{Cancelled}
-use Rattle.board_core.specs.declared.answer.SubmitFault.TheVariants as faults
+use Rattle.guest_core.specs.declared.answer.Cancelled.{Cancelled}
+use Rattle.guest_core.specs.declared.answer.SubmitFault.TheVariants as faults
 use Rattle.session_text.specs.declared.line.Line.TheVariants as lines
 use Rattle.session_text.specs.declared.line.Line.{Line as Answer}
 use Rattle.session_text.specs.declared.line.Refusal.TheVariants as refusals

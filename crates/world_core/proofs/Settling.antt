@@ -18,12 +18,12 @@ use Rattle.board_core.specs.Keys.{resumed}
 use Rattle.board_core.specs.Started.{Settles, HasStarted, run_of}
 use Rattle.board_core.specs.Chain.{ShowContents, IsTrueEntry}
 use Rattle.board_core.specs.Sound.{IsSound, kinds_of}
-use Rattle.board_core.specs.declared.answer.Cancelled.{Cancelled}
-use Rattle.board_core.specs.declared.answer.Cancelled.TheVariants as cancels
+use Rattle.guest_core.specs.declared.answer.Cancelled.{Cancelled}
+use Rattle.guest_core.specs.declared.answer.Cancelled.TheVariants as cancels
 use Rattle.board_core.specs.Answers.{Asked, Cancels}
 use Rattle.board_core.specs.Keyed.{SubmitsKeyed}
-use Rattle.board_core.specs.declared.answer.KeyedFault.{KeyedFault}
-use Rattle.board_core.specs.declared.answer.KeyedFault.TheVariants as faults
+use Rattle.guest_core.specs.declared.answer.KeyedFault.{KeyedFault}
+use Rattle.guest_core.specs.declared.answer.KeyedFault.TheVariants as faults
 use Rattle.world_core.specs.declared.slot.Slot.{Slot}
 use Rattle.world_core.specs.declared.stage.Stage.{Stage}
 use Rattle.world_core.specs.Scene.{Scene, Standing, AreBegun, Goes, call_running, collected}

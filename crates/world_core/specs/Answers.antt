@@ -20,11 +20,11 @@ use Rattle.board_core.specs.Board.{joined, dismissed, released, marked, ended, e
 use Rattle.board_core.specs.Chain.{history_of}
 use Rattle.board_core.specs.Keys as keys
 use Rattle.board_core.specs.Keys.{next_key}
-use Rattle.board_core.specs.declared.answer.SubmitFault.{SubmitFault}
-use Rattle.board_core.specs.declared.answer.KeyedFault.{KeyedFault}
+use Rattle.guest_core.specs.declared.answer.SubmitFault.{SubmitFault}
+use Rattle.guest_core.specs.declared.answer.KeyedFault.{KeyedFault}
 use Rattle.board_core.specs.declared.answer.Kept.{Kept as KeptCall}
-use Rattle.board_core.specs.declared.answer.Cancelled.{Cancelled}
-use Rattle.board_core.specs.declared.answer.Cancelled.TheVariants as cancels
+use Rattle.guest_core.specs.declared.answer.Cancelled.{Cancelled}
+use Rattle.guest_core.specs.declared.answer.Cancelled.TheVariants as cancels
 use Rattle.board_core.specs.Answers.{Asked, IsGone, IsTaken, IsRefused, Cancels, waits_in, runs_in}
 use Rattle.board_core.specs.Keyed.{IsKeptCall, SubmitsKeyed}
 use Rattle.world_core.specs.declared.event.Refusal.TheVariants.{Submit, Keyed, NotRunning, NoStep, NotDone, NoSession}

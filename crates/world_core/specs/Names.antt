@@ -1,9 +1,9 @@
 -- The names of refusals.
 use Rattle.std.specs.Prelude.{ℕ, List, codes}
-use Rattle.board_core.specs.declared.answer.SubmitFault.{SubmitFault}
-use Rattle.board_core.specs.declared.answer.SubmitFault.TheVariants as faults
-use Rattle.board_core.specs.declared.answer.KeyedFault.{KeyedFault}
-use Rattle.board_core.specs.declared.answer.KeyedFault.TheVariants as keyed
+use Rattle.guest_core.specs.declared.answer.SubmitFault.{SubmitFault}
+use Rattle.guest_core.specs.declared.answer.SubmitFault.TheVariants as faults
+use Rattle.guest_core.specs.declared.answer.KeyedFault.{KeyedFault}
+use Rattle.guest_core.specs.declared.answer.KeyedFault.TheVariants as keyed
 use Rattle.world_core.specs.declared.event.Refusal.{Refusal}
 use Rattle.world_core.specs.declared.event.Refusal.TheVariants.{Submit, Keyed, NotRunning, NoStep, NotDone, NoSession}
 use Rattle.world_core.specs.declared.event.Refusal.TheVariants.{Memory}

@@ -15,10 +15,11 @@ ghost use Rattle.script_core.specs.Does.{Does, Happens, IsNoWant, IsTold, StepsO
 ghost use Rattle.script_core.specs.Does.{event_lines, has_gone, next_number, repeat_line};
 
 use crate::script::steps::step_to_end;
-use board_core::answer::{CallState, Cancelled, Kept, KeyedFault, SubmitFault};
+use board_core::answer::{CallState, Kept};
 use board_core::event::TraceEvent;
 use decl_core::object::Object;
 use desk_core::desk::Desk;
+use guest_core::answer::{Cancelled, KeyedFault, SubmitFault};
 use run_core::step::StepAnswer;
 use std::alloc::{AllocError, Global};
 use value_core::datum::Datum;

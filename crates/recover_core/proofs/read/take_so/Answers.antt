@@ -2,7 +2,7 @@ use Rattle.std.proofs.Common.{◌≡◌, ◌++◌, sym, ap, ◌∙◌}
 use Rattle.decl_core.specs.ObjectMap.{object_of}
 use Rattle.word_core.specs.Words.{line_of}
 use Rattle.decl_core.specs.HoldMap.{holds_of}
-use Rattle.recover_core.specs.HeldSo.{held_with}
+use Rattle.front_read.specs.HeldLines.{held_with}
 use Rattle.recover_core.proofs.Reading.{same_line, words_in}
 use Rattle.recover_core.proofs.read.take_so.Goals as goal
 

@@ -1,7 +1,7 @@
 use Rattle.std.proofs.Common.{◌++◌}
 use Rattle.decl_core.specs.ObjectMap.{object_of}
 use Rattle.decl_core.specs.HoldMap.{holds_of}
-use Rattle.recover_core.specs.HeldLines.{held_text}
+use Rattle.front_read.specs.HeldLines.{held_text}
 use Rattle.recover_core.proofs.Texts.{fault_by, found_by, told_by}
 use Rattle.recover_core.proofs.text.read_held.Goals as goal
 

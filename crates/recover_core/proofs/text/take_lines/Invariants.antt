@@ -3,7 +3,7 @@ use Rattle.std.specs.Prelude.{codes}
 use Rattle.decl_core.specs.ObjectMap.{object_of}
 use Rattle.front_read.specs.Rows.{AreRows}
 use Rattle.decl_core.specs.HoldMap.{holds_of}
-use Rattle.recover_core.specs.HeldLines.{held_words, IsHeldLine}
+use Rattle.front_read.specs.HeldLines.{held_words, IsHeldLine}
 use Rattle.recover_core.proofs.text.take_lines.Given as goal
 
 abbrev pub invariant-lines : goal.invariant-lines

@@ -5,7 +5,7 @@ use Rattle.std.proofs.lemmas.Option.{slice_get_within}
 use Rattle.board_core.specs.Calls.{AcceptedCall}
 use Rattle.board_core.specs.Board.{Board, joined, bodies, Admits}
 use Rattle.board_core.specs.Answers.{Asked, IsTaken, IsRefused}
-use Rattle.board_core.specs.declared.answer.SubmitFault.TheVariants.{Memory}
+use Rattle.guest_core.specs.declared.answer.SubmitFault.TheVariants.{Memory}
 use Rattle.board_core.specs.Started.{Settles}
 use Rattle.board_core.proofs.Admission.{rests_after, joined_history, settled}
 use Rattle.desk_core.proofs.Sessions.{session_there}

@@ -1,4 +1,4 @@
-use Rattle.board_core.specs.declared.answer.SubmitFault.TheVariants as faults
+use Rattle.guest_core.specs.declared.answer.SubmitFault.TheVariants as faults
 use Rattle.session_text.specs.declared.line.Line.TheVariants as lines
 use Rattle.table_core.specs.Seen.{seen}
 use Rattle.table_core.proofs.Cancelling.{one_refused, one_behind}

@@ -4,7 +4,7 @@ use Rattle.client_core.specs.declared.ask.Sight.TheVariants as insides
 use Rattle.session_text.specs.declared.line.Line.TheVariants as lines
 use Rattle.session_text.specs.declared.line.Refusal.TheVariants as refusals
 use Rattle.hosted_core.specs.Scene.{Scene}
-use Rattle.client_core.specs.Custody.{holds_by, held_by}
+use Rattle.custody_core.specs.Custody.{holds_by, held_by}
 use Rattle.client_core.specs.ToldInside.{IsWho}
 use Rattle.client_core.specs.People.{people_of}
 use Rattle.inside_core.specs.Adds.{crowd_of}

@@ -1,5 +1,5 @@
 use Rattle.std.proofs.Common.{subst, Result}
-use Rattle.board_core.specs.declared.answer.SubmitFault.{SubmitFault}
+use Rattle.guest_core.specs.declared.answer.SubmitFault.{SubmitFault}
 use Rattle.live_core.specs.declared.live.Taken.{Taken}
 use Rattle.client_core.specs.State.{peers_of}
 use Rattle.table_core.specs.Objects.{CallsAt}

@@ -12,10 +12,10 @@ use Rattle.table_core.proofs.table.Table.taken.Goals as goal
 
 pub returns-clause-brings : goal.returns-clause-brings
 returns-clause-brings c = λ object there.
-    taken_by (custodies_of c.args.self.now.custody) c.args.post.now c.tell_accepted.new.post c.all_ended.new.post c.args.self.now.objects.items c.args.self.now.clients c.open_called.new.clients (seen c.all_ended.new.self) c.args.place
+    taken_by (custodies_of c.args.self.now.custody) c.args.post.now c.tell_line.new.post c.all_ended.new.post c.args.self.now.objects.items c.args.self.now.clients c.open_called.new.clients (seen c.all_ended.new.self) c.args.place
     c.told_at-told.result c.args.seat c.args.taken.now object
     (c.told_at-told.ensures object (subst (λ (l : List Scene). slice_get l c.args.seat.object ≡ Some object) (sym c.deref.ensures.value) there))
-    c.in_ok-tell_accepted.ensures
+    c.in_ok-tell_line.ensures
     (c.open_called.ensures ∙ ap (λ (o : Opened). change (peers_of c.args.self.now.clients) c.args.place (opening o)) c.counted.ensures)
-    (subst (λ (l : List Ran). Brings (AllEnd c.args.seat.object object l) c.tell_accepted.new.post (state_of (custodies_of c.args.self.now.custody) c.args.self.now.objects.items c.open_called.new.clients) c.all_ended.new.post (seen c.all_ended.new.self))
+    (subst (λ (l : List Ran). Brings (AllEnd c.args.seat.object object l) c.tell_line.new.post (state_of (custodies_of c.args.self.now.custody) c.args.self.now.objects.items c.open_called.new.clients) c.all_ended.new.post (seen c.all_ended.new.self))
     c.deref-2.ensures.value (c.in_ok-all_ended.ensures.brings object there))

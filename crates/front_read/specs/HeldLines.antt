@@ -10,6 +10,8 @@ use Rattle.live_core.specs.Front.{Every, IsOperation, IsSession, IsLong}
 use Rattle.live_core.specs.Text.{call_words, rows}
 use Rattle.decl_core.specs.HoldForm.{HoldForm, reply_sorts}
 use Rattle.guest_core.specs.Held.{HeldCall, hold_of_op}
+use Rattle.value_core.specs.declared.datum.Datum.{Datum}
+use Rattle.front_read.specs.declared.hold_lines.HeldSo.{HeldSo}
 
 -- the operation whose calls are held so; a number that no operation has, where there is no such hold
 abbrev pub op_by : Option HoldForm → ℕ
@@ -39,3 +41,8 @@ pub record IsHeldLine (o : ObjectForm) (holds : List HoldForm) (h : HeldCall) : 
   pub operation : IsOperation o rule.op
   pub fit : map elem_of h.values ≡ (body_at o rule.op).params ++ reply_sorts (body_at o rule.op).result
   pub each : Every IsDatum h.values
+
+-- a call that is held so, with these values
+abbrev pub held_with : HeldSo → List Datum → HeldCall
+held_with so values =
+    record { number = so.number; session = so.session; rule = so.rule; values = values }

@@ -11,7 +11,7 @@ use Rattle.decl_core.specs.HoldForm.{HoldForm, EveryForm, RulesForm}
 use Rattle.guest_core.specs.Held.{HeldCall, Gives, MayUndo, begun}
 use Rattle.guest_core.specs.Places.{IsNewest}
 use Rattle.guest_core.specs.Undo.{IsUndoOf}
-use Rattle.recover_core.specs.HeldLines.{held_text}
+use Rattle.front_read.specs.HeldLines.{held_text}
 
 -- what an object says of clients that are gone and of time, and what is held of it, the oldest first
 pub record Custody : Type 0 where

@@ -2,9 +2,9 @@ use Rattle.std.proofs.Common.{◌<◌, length, arith}
 use Rattle.std.specs.Prelude.{codes}
 use Rattle.decl_core.specs.ObjectMap.{object_of}
 use Rattle.decl_core.specs.HoldMap.{holds_of}
-use Rattle.recover_core.specs.HeldLines.{held_words}
-use Rattle.recover_core.proofs.Adding.{rows_more}
-use Rattle.recover_core.proofs.hold_lines.push_all.Goals as goal
+use Rattle.front_read.specs.HeldLines.{held_words}
+use Rattle.front_read.proofs.Adding.{rows_more}
+use Rattle.front_read.proofs.hold_lines.push_all.Goals as goal
 
 pub loop-held-preserved : goal.loop-held-preserved
 loop-held-preserved c =

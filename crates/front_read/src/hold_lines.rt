@@ -5,8 +5,7 @@ ghost use Rattle.decl_core.specs.ObjectMap.{object_of};
 ghost use Rattle.word_core.specs.Words.{line_of};
 ghost use Rattle.front_read.specs.Rows.{row_words};
 ghost use Rattle.decl_core.specs.HoldMap.{holds_of};
-ghost use Rattle.recover_core.specs.HeldLines.{held_words, held_text, op_by};
-ghost use Rattle.recover_core.specs.HeldSo.{held_with};
+ghost use Rattle.front_read.specs.HeldLines.{held_words, held_text, held_with, op_by};
 ghost use Rattle.word_core.specs.Text.{operation_name};
 
 use decl_core::hold::Hold;
@@ -18,12 +17,15 @@ use value_core::datum::Datum;
 use word_core::line::push_data_line;
 use word_core::word::Written;
 
-// By which session a call is held, with which number, and by the hold at which place.
+/// How a call is held, beside its values.
 #[derive(Clone, Copy)]
-pub(crate) struct HeldSo {
-    pub(crate) session: u32,
-    pub(crate) number: u64,
-    pub(crate) rule: usize,
+pub struct HeldSo {
+    /// The session that holds it.
+    pub session: u32,
+    /// Its number.
+    pub number: u64,
+    /// The place of its hold among those of the object.
+    pub rule: usize,
 }
 
 // The operation of the hold at a place.
@@ -53,8 +55,9 @@ fn name_of(object: &Object, operation: OpId) -> &[u8]
     }
 }
 
-// Adds the line of a call that is held so.
-pub(crate) fn push_held_so(
+/// Adds `held sK N OP DATA ..`, the line of a call that is held so; without a name, where there is no such hold. The error
+/// is that memory was refused; how much then stands in `out` is not said.
+pub fn push_held_so(
     out: &mut Vec<u8>,
     object: &Object,
     holds: &[Hold],

@@ -1,6 +1,6 @@
 use Rattle.std.proofs.Common.{◌≡◌, ◌<◌, length, get_or, ◌∙◌, ap, subst}
 use Rattle.word_core.proofs.Places.{name_at}
-use Rattle.recover_core.proofs.hold_lines.name_of.Goals as goal
+use Rattle.front_read.proofs.hold_lines.name_of.Goals as goal
 
 pub returns-in-Some : goal.returns-in-Some
 returns-in-Some c =
