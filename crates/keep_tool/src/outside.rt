@@ -114,7 +114,7 @@ fn serving_of(asked: Keeping<'_>) -> Serving {
 
 /// The bounds of a server of so many objects.
 pub fn limits_of(asked: Keeping<'_>, journals: usize) -> LoopLimits
-    ensures places { result.places ≡ asked.at_once }
+    ensures places { result.places ≡ asked.entry.at_once }
     ensures journals { result.journals ≡ journals }
 {
     LoopLimits {
