@@ -4,9 +4,8 @@ ghost use Rattle.std.specs.Prelude.{◌≡◌, IfOk};
 ghost use Rattle.std.specs.Prelude.{Result};
 ghost use Rattle.std.specs.Arc.{arc_value};
 ghost use Rattle.serve_core.specs.Runs.{IsRun};
-ghost use Rattle.pathserve.specs.Ends.{serve_status, status_of_end};
+ghost use Rattle.serve_tool.specs.Ends.{serve_status, status_of_end};
 
-use crate::lack::{Unmet, Wanted, tell_lack};
 use answer_core::answer::{ACCEPTED, REFUSED};
 use answer_core::explanation::{Telling, explained};
 use answer_core::failure::Failure;
@@ -27,6 +26,7 @@ use std::sync::{Arc, Wait};
 use std::thread::Threads;
 use std::time::Clock;
 use text_core::LinesFault;
+use tool_core::lack::{Unmet, Wanted, tell_lack};
 
 // Numbers from this one on, which hands share.
 fn numbers_from<R: AllocGlobal>(rt: &R, first: u64) -> Result<Arc<Numbers>, AllocError>

@@ -1,7 +1,5 @@
 //! `pathserve try`: an object at a prompt.
 
-use crate::lack::Wanted;
-use crate::{source_at, telling_of, told, told_unread, written};
 use answer_core::answer::REFUSED;
 use answer_core::attempt::answer_try;
 use answer_core::explanation::{Telling, explained};
@@ -18,6 +16,9 @@ use path_tree::name::is_identifier;
 use script_core::prompt::Texts;
 use std::alloc::{AllocError, Global};
 use std::io::{self, IsTerminal};
+use tool_core::files::source_at;
+use tool_core::lack::Wanted;
+use tool_core::said::{telling_of, told, told_unread, written};
 
 // The first line of a script on an object of this name.
 fn head_of(alloc: Global, name: &[u8]) -> Result<Vec<u8>, AllocError> {
@@ -91,7 +92,7 @@ fn tell_line(
     name: Option<&str>,
     telling: Telling,
 ) -> Result<u8, Failure> {
-    let ended = written(rt, line, REFUSED);
+    let ended = written(line, REFUSED, &mut io::writer(rt));
     let only = match name {
         Some(name) => Some(name.as_bytes()),
         None => None,
@@ -159,7 +160,7 @@ fn answer_opened(
 }
 
 /// `pathserve try`, of the object of this name or the first one.
-pub(crate) fn run_try(
+pub fn run_try(
     rt: &HostRuntime,
     path: &str,
     name: Option<&str>,

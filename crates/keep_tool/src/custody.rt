@@ -1,6 +1,7 @@
 //! What is held of the objects of a server when it starts.
 
-use crate::keep::{LIMITS, NAMES};
+use crate::begin::{LIMITS, NAMES};
+use crate::lines::count_lines;
 use custody_core::all::AllHeld;
 use custody_core::holding::Holding;
 use decl_core::hold::Rules;
@@ -42,17 +43,6 @@ impl AllRules {
         }
         self.rules.remove(0)
     }
-}
-
-// How many lines there are.
-fn count_lines(lines: &[u8]) -> u64 {
-    let mut count: u64 = 0;
-    for byte in lines {
-        if *byte == b'\n' {
-            count = count.saturating_add(1);
-        }
-    }
-    count
 }
 
 // The fault of a journal without held lines, as it is of the journal that has so many behind others.

@@ -1,9 +1,11 @@
-//! What the program needs to read, and what standard error is told where it lacks that.
+//! What a command needs to read, and what standard error is told where it lacks that.
+
+ghost use Rattle.std.specs.Prelude.{◌≡◌};
+ghost use Rattle.answer_core.specs.declared.failure.Failure.TheVariants.{ReadFault};
 
 use answer_core::failure::Failure;
 use std::alloc::{AllocError, Global};
-use std::io;
-use std::io::{ErrorKind, Write};
+use std::io::{self, ErrorKind, Write};
 use text_core::reply::push_number;
 use text_core::write_whole;
 
@@ -56,7 +58,9 @@ impl Lacking {
     }
 
     /// The one of what is not there, or is no such thing.
-    pub fn at(need: Wanted, cause: ErrorKind) -> Lacking {
+    pub fn at(need: Wanted, cause: ErrorKind) -> Lacking
+        ensures { result.failure ≡ ReadFault }
+    {
         Lacking {
             failure: Failure::ReadFault,
             lack: Some(Unmet { need, cause }),

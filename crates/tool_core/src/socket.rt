@@ -1,5 +1,6 @@
 //! A socket at a path.
 
+use command_line::request::Address;
 use std::fs::{self, File, OpenOptions, Permissions, TryLockError};
 use std::io::{self, ErrorKind};
 use std::os::unix::fs::{FileTypeExt, MetadataExt, PermissionsExt};
@@ -81,4 +82,12 @@ pub fn socket_at(rt: &HostRuntime, path: &str) -> io::Result<(UnixListener, Sock
     fs::rename(rt, new.as_str(), path)?;
     let path = String::from_str(rt.alloc(), path)?;
     Ok((listener, Socket { path, file, lock }))
+}
+
+/// The path of a socket, where a server is to listen at one; else no text.
+pub fn path_of(address: Address<'_>) -> &str {
+    match address {
+        Address::Path(path) => path,
+        Address::Port(_) => "",
+    }
 }

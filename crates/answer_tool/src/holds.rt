@@ -1,4 +1,4 @@
-//! Sources whose objects have holds.
+//! Sources whose objects have holds, checked and run.
 
 use answer_core::answer::{ACCEPTED, REFUSED};
 use answer_core::explanation::{Telling, explained, explained_script};
@@ -6,26 +6,16 @@ use answer_core::failure::Failure;
 use check_core::head::read_head;
 use check_core::hold_report::held_report;
 use check_core::open::{Opened, open_script};
-use check_core::report::{CheckEnd, push_source_fault};
+use check_core::report::CheckEnd;
 use decl_core::analyse::Accepted;
 use decl_core::hold::{Hold, Rules};
 use decl_core::object::Object;
-use decl_read::fault::DeclFault;
-use explain_fault::rules::explain_held;
 use hold_read::read::Held;
 use script_core::hold_script::run_held_script;
 use script_core::script::ScriptEnd;
 use std::alloc::Global;
 use std::io::{Read, Write};
-use text_core::write_whole;
-
-// Writes what is answered, and gives the exit status.
-fn written<W: Write>(text: &[u8], status: u8, writer: &mut W) -> Result<u8, Failure> {
-    match write_whole(writer, text) {
-        Ok(()) => Ok(status),
-        Err(_) => Err(Failure::WriteFault),
-    }
-}
+use tool_core::said::written;
 
 // The exit status of a check that ended so.
 fn status_of(end: CheckEnd) -> u8 {
@@ -114,65 +104,4 @@ pub fn run_held<R: Read, W: Write, E: Write>(
         }
         Err(_) => Err(Failure::Memory),
     }
-}
-
-/// What a command answers of a source that has this fault in its holds: its line, and the exit status. `error` gets what
-/// is wrong, as far as that is to be told.
-///
-/// A failure is `WriteFault` or `Memory`.
-pub fn refuse_faulty<W: Write, E: Write>(
-    alloc: Global,
-    source: &[u8],
-    fault: DeclFault,
-    telling: Telling,
-    file: &str,
-    writer: &mut W,
-    error: &mut E,
-) -> Result<u8, Failure> {
-    let mut line = Vec::new(alloc);
-    push_source_fault(&mut line, fault)?;
-    let status = written(&line, REFUSED, writer)?;
-    match telling {
-        Telling::Whole => {
-            if let Ok(text) = explain_held(alloc, file.as_bytes(), source, fault) {
-                let _ = write_whole(error, &text);
-            }
-        }
-        Telling::Hint => {
-            let _ = write_whole(error, b"--explain tells more\n");
-        }
-        Telling::Nothing => {}
-    }
-    Ok(status)
-}
-
-// The name of the first object that has a hold, or calls something again and again.
-fn first_held(held: &Held) -> &[u8] {
-    for (count, rules) in held.rules.iter().enumerate() {
-        if !rules.holds.is_empty() || !rules.everies.is_empty() {
-            return match held.objects.get(count) {
-                Some(object) => object.name.as_bytes(),
-                None => b"",
-            };
-        }
-    }
-    b""
-}
-
-/// What a command answers of a source whose objects have holds where it does not follow them, and the exit status.
-///
-/// A failure is `WriteFault` or `Memory`.
-pub fn refuse_held<W: Write>(
-    alloc: Global,
-    held: &Held,
-    instead: &[u8],
-    writer: &mut W,
-) -> Result<u8, Failure> {
-    let mut line = Vec::new(alloc);
-    line.extend_from_slice(b"object ")?;
-    line.extend_from_slice(first_held(held))?;
-    line.extend_from_slice(b" has a hold or an `every`: ")?;
-    line.extend_from_slice(instead)?;
-    line.extend_from_slice(b"\n")?;
-    written(&line, REFUSED, writer)
 }

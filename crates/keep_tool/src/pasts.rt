@@ -5,7 +5,7 @@ ghost use Rattle.answer_core.specs.declared.failure.Failure.TheVariants.{Memory,
 ghost use Rattle.clap.specs.Values.{kind_of};
 ghost use Rattle.clap.specs.declared.error.kind.ErrorKind.TheVariants.{OutOfMemory};
 ghost use Rattle.command_line.specs.Forms.{Asks};
-ghost use Rattle.pathserve.specs.Ends.{IsUntold};
+ghost use Rattle.keep_tool.specs.Untold.{IsUntold};
 
 use answer_core::failure::Failure;
 use clap::Error;

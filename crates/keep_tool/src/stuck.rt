@@ -27,7 +27,7 @@ fn gets_stuck(alloc: Global, object: &Object) -> Result<bool, AllocError>
     }
 }
 
-/// `object NAME can get stuck: ..` for each of these objects of which that is known, in order. It fails only with memory.
+// `object NAME can get stuck: ..` for each of these objects of which that is known, in order. It fails only with memory.
 pub(crate) fn stuck_lines(alloc: Global, accepted: &[Accepted]) -> Result<Vec<u8>, AllocError> {
     let mut lines = Vec::new(alloc);
     for one in accepted {

@@ -1,0 +1,60 @@
+//! Where a server that stays listens.
+
+use crate::ending::say;
+use answer_core::failure::Failure;
+use command_line::request::{Address, Keeping};
+use mio::net::{TcpListener as PortListener, UnixListener as PathListener};
+use mio_core::stream::Listener as Ears;
+use std::alloc::{AllocError, Global};
+use std::io::{self, Write};
+use std::net::{Ipv4Addr, TcpListener};
+use tool_core::lack::{Lacking, Wanted};
+use tool_core::socket::{Socket, socket_at};
+
+// Where a server that keeps objects listens, and its socket, where that has a path.
+pub(crate) fn ears_at(
+    rt: &HostRuntime,
+    address: Address<'_>,
+) -> Result<(Ears, Option<Socket>), Lacking> {
+    match address {
+        Address::Port(port) => match port_at(rt, port) {
+            Ok(listener) => Ok((Ears::Port(listener), None)),
+            Err(error) => Err(Lacking::of(Wanted::Port(port), error)),
+        },
+        Address::Path(path) => match path_at(rt, path) {
+            Ok((listener, socket)) => Ok((Ears::Path(listener), Some(socket))),
+            Err(error) => Err(Lacking::of(Wanted::Socket, error)),
+        },
+    }
+}
+
+fn port_at(rt: &HostRuntime, port: u16) -> io::Result<PortListener> {
+    let listener = TcpListener::bind(rt, (Ipv4Addr::LOCALHOST, port))?;
+    listener.set_nonblocking(true)?;
+    Ok(PortListener::from_std(listener))
+}
+
+fn path_at(rt: &HostRuntime, path: &str) -> io::Result<(PathListener, Socket)> {
+    let (listener, socket) = socket_at(rt, path)?;
+    listener.set_nonblocking(true)?;
+    Ok((PathListener::from_std(listener), socket))
+}
+
+// The place where it listens.
+pub(crate) fn place_text(alloc: Global, asked: Keeping<'_>) -> Result<String, AllocError> {
+    match asked.address {
+        Address::Port(port) => format!(in alloc; "{port}"),
+        Address::Path(path) => format!(in alloc; "{path}"),
+    }
+}
+
+// `listening PLACE`.
+pub(crate) fn tell_place<W: Write>(
+    alloc: Global,
+    asked: Keeping<'_>,
+    writer: &mut W,
+) -> Result<(), Failure> {
+    let place = place_text(alloc, asked)?;
+    let line = format!(in alloc; "listening {place}\n")?;
+    say(writer, line.as_bytes())
+}

@@ -1,0 +1,185 @@
+//! What is outside of the objects of a server that stays.
+
+ghost use Rattle.std.specs.Prelude.{◌≡◌, None, Some};
+ghost use Rattle.command_line.specs.declared.watching.LogForm.TheVariants.{None as NoLog, Text as TextLog, Json as JsonLog};
+ghost use Rattle.keep_log.specs.declared.line.LineForm.TheVariants.{Text, Json};
+
+use crate::ears::{place_text, tell_place};
+use crate::status::StatusFile;
+use answer_core::failure::Failure;
+use command_line::request::{Keeping, Sync};
+use command_line::watching::{LogForm, Watching};
+use hosted_core::hosted::MOST_LINES;
+use inside_core::numbers::{Server, Stored};
+use keep_log::line::LineForm;
+use keep_log::log::Log;
+use keep_log::logged::Logged;
+use keep_log::shown::Showing;
+use keep_loop::Limits as LoopLimits;
+use mio_core::clock::Pace;
+use mio_core::journals::Journals;
+use mio_core::stream::Listener;
+use mio_core::traces::epoch_of;
+use mio_core::wires::{Serving, Wires};
+use std::alloc::{AllocError, Global};
+use std::io::Write;
+use std::rt::Stderr;
+
+// Behind a front a journal has room for so many bytes.
+const ROOM: usize = MOST_LINES;
+
+// So many bytes are a megabyte.
+const MEGABYTE: u64 = 1_000_000;
+
+// So often, in milliseconds, objects are told the time, and lines are done that wait for their client to read.
+const TICK: u64 = 20;
+
+// How often what no answer waits for is stored, in milliseconds; 0, never, where each answer waits.
+fn pace_of(sync: Sync) -> u64 {
+    match sync {
+        Sync::Always => 0,
+        Sync::Millis(millis) => u64::from(millis),
+    }
+}
+
+/// The form of a log, where one is asked for.
+pub fn form_of(log: LogForm) -> Option<LineForm>
+    ensures none { log ≡ NoLog → result ≡ None }
+    ensures text { log ≡ TextLog → result ≡ Some Text }
+    ensures json { log ≡ JsonLog → result ≡ Some Json }
+{
+    match log {
+        LogForm::None => None,
+        LogForm::Text => Some(LineForm::Text),
+        LogForm::Json => Some(LineForm::Json),
+    }
+}
+
+// The names of objects, as bytes.
+fn names_of(alloc: Global, names: &[String]) -> Result<Vec<Vec<u8>>, AllocError> {
+    let mut all = Vec::with_capacity(alloc, names.len())?;
+    for name in names {
+        all.push(name.as_bytes().to_vec(alloc)?)?;
+    }
+    Ok(all)
+}
+
+// What is told of the journals of objects at a start.
+fn journals_of(
+    alloc: Global,
+    names: &[String],
+    fronts: &[Vec<u8>],
+) -> Result<Vec<Stored>, AllocError> {
+    let mut all = Vec::with_capacity(alloc, names.len())?;
+    for at in 0..names.len() {
+        let front: &[u8] = match fronts.get(at) {
+            Some(front) => front,
+            None => &[],
+        };
+        all.push(Stored {
+            name: names[at].as_bytes().to_vec(alloc)?,
+            epoch: epoch_of(front).unwrap_or(0),
+            bytes: front.len() as u64,
+            syncs: 0,
+            synced: 0,
+        })?;
+    }
+    Ok(all)
+}
+
+// The numbers of a server that starts at this time.
+fn server_of(asked: Keeping<'_>, watching: Watching, start: u64) -> Server {
+    Server {
+        looked: start,
+        start,
+        every: u64::from(watching.status),
+        connections: 0,
+        total: 0,
+        limit: asked.at_once as u64,
+        memory: 0,
+    }
+}
+
+// What serves the connections of a server: how long it waits, and for what it stops.
+fn serving_of(asked: Keeping<'_>) -> Serving {
+    Serving {
+        places: asked.at_once,
+        pace: Pace {
+            tick: TICK,
+            sync: pace_of(asked.sync),
+        },
+        stops_with_input: asked.stops,
+    }
+}
+
+/// The bounds of a server of so many objects.
+pub fn limits_of(asked: Keeping<'_>, journals: usize) -> LoopLimits
+    ensures places { result.places ≡ asked.entry.at_once }
+    ensures journals { result.journals ≡ journals }
+{
+    LoopLimits {
+        places: asked.at_once,
+        journals,
+        waits: asked.sync == Sync::Always,
+    }
+}
+
+/// What is outside of the objects of a server.
+pub type AllOutside = Showing<
+    Logged<Wires<HostRuntime, Stderr>, HostRuntime, Stderr>,
+    StatusFile<Stderr>,
+>;
+
+// What is outside of the objects of a server that starts: its connections and its journals, which are logged and shown.
+fn outside_of(
+    rt: &HostRuntime,
+    names: &[String],
+    fronts: &[Vec<u8>],
+    asked: Keeping<'_>,
+    watching: Watching,
+    listener: Listener,
+    start: u64,
+) -> Result<AllOutside, Failure> {
+    let alloc = rt.alloc();
+    let traces = u64::from(asked.traces).saturating_mul(MEGABYTE);
+    let begun = Journals::begin(*rt, asked.folder, names, fronts, ROOM, traces);
+    let Some(journals) = begun else {
+        return Err(Failure::WriteFault);
+    };
+    let form = form_of(watching.log);
+    let told = names_of(alloc, names)?;
+    let stored = journals_of(alloc, names, fronts)?;
+    let file = StatusFile::new(rt, asked.folder, Log::new(alloc, form, *rt, rt.stderr()))?;
+    let wires = Wires::open(rt, *rt, listener, journals, serving_of(asked), rt.stderr())?;
+    let logged = Logged::new(wires, Log::new(alloc, form, *rt, rt.stderr()), told);
+    let server = server_of(asked, watching, start);
+    Ok(Showing::new(alloc, logged, file, server, stored)?)
+}
+
+/// What is outside of so many objects of a server that starts at this time: its connections and its journals, which are
+/// logged and shown. `writer` gets the line that tells where it listens, `log` that it has started.
+///
+/// A failure is `WriteFault` where a journal, or the line, could not be written, `ReadFault` where the system fails
+/// otherwise, or `Memory`.
+pub fn begin_outside<W: Write, L: Write>(
+    rt: &HostRuntime,
+    names: &[String],
+    fronts: &[Vec<u8>],
+    asked: Keeping<'_>,
+    watching: Watching,
+    listener: Listener,
+    start: u64,
+    writer: &mut W,
+    log: &mut Log<HostRuntime, L>,
+) -> Result<AllOutside, Failure> {
+    let alloc = rt.alloc();
+    let outside = outside_of(rt, names, fronts, asked, watching, listener, start)?;
+    tell_place(alloc, asked, writer)?;
+    let place = place_text(alloc, asked)?;
+    log.started(
+        names.len() as u64,
+        asked.folder.as_bytes(),
+        place.as_bytes(),
+    );
+    Ok(outside)
+}
