@@ -9,7 +9,7 @@ use Rattle.command_line.proofs.request.pasts_of.Goals as goal
 pub returns-in_err-matches-clause-refused : goal.returns-in_err-matches-clause-refused
 returns-in_err-matches-clause-refused c =
     let words : List Text = map (λ w. w.now) c.args.words.now in
-    passed_up c.from_residual-in_err-matches.result c.in_err-matches.field-0.0 _ c.from_residual-in_err-matches.ensures.1
+    passed_up c.from_residual.result c.in_err-matches.field-0.0 _ c.from_residual.ensures.1
     (λ q asks. refused words c.in_err-matches.field-0.0 q c.in_err-matches.ensures.refused asks)
 
 pub returns-clause-told : goal.returns-clause-told
