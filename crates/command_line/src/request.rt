@@ -15,8 +15,8 @@ ghost use Rattle.command_line.specs.Forms.{keep as keep_verb, explain_of, sync_o
 ghost use Rattle.command_line.specs.Forms.{IsAddressOf, IsSyncOf, Shows, Text, Topic, kind_for};
 ghost use Rattle.command_line.specs.Commands.{Holds, HoldsExplain, IsMatched, app_for, faults, flag_rule, past_in, program};
 ghost use Rattle.command_line.specs.Commands.{at_once_rule, past_rule, required_rule, optional_rule, sessions_rule};
-ghost use Rattle.command_line.specs.Commands.{sync_rule};
-ghost use Rattle.command_line.specs.Making.{AddsCommand, AddsExplain, AddsRule, IsMade, IsMadeAs, program_top};
+ghost use Rattle.command_line.specs.Commands.{program_top, sync_rule};
+ghost use Rattle.command_line.specs.Making.{AddsCommand, AddsExplain, AddsRule, IsMade, IsMadeAs};
 ghost use Rattle.command_line.specs.Commands.{traces_rule};
 
 use crate::help;
