@@ -1,7 +1,6 @@
 -- What a parse of a command line gives, and when it fails.
 use Rattle.std.proofs.Common.{◌≡◌, ◌∙◌, inl, inr, true, List, [], ◌∷◌, Result, Ok, Err, ap, subst, sym}
-use Rattle.std.specs.Prelude.{IsErrAnd}
-use Rattle.clap.specs.declared.error.kind.ErrorKind.{ErrorKind}
+use Rattle.std.specs.Prelude.{IfErr, IsErrAnd}
 use Rattle.clap.specs.Kinds.{HasKind, IsAmong, Kinds, or_else}
 use Rattle.clap.specs.Faults.{fault_of, is_simple_and_free}
 use Rattle.clap.specs.Simple.{HasMatchesOf, app_of, subcommand_of}
@@ -35,41 +34,42 @@ asked_from words m f has = record {
 
 -- of a command that is that of the program
 module _ (words : List Text) (command : Command) (is : app_of command ≡ program) where
-  none_of : (is_simple_and_free (app_of command) ≡ true → fault_of (app_of command) words ≡ []) → fault_of program words ≡ []
+  pub none_of : (is_simple_and_free (app_of command) ≡ true → fault_of (app_of command) words ≡ []) → fault_of program words ≡ []
   none_of kinds = subst (λ a. fault_of a words ≡ []) is (kinds (ap is_simple_and_free is ∙ simple_and_free))
 
-  pub asked : (m : ArgMatches) → (is_simple_and_free (app_of command) ≡ true → fault_of (app_of command) words ≡ []) → HasMatchesOf (app_of command) words m → Asked words m
-  asked m kinds has = asked_from words m (line_sound words (none_of kinds)) (subst (λ a. HasMatchesOf a words m) is has)
+  pub has_of : (m : ArgMatches) → HasMatchesOf (app_of command) words m → HasMatchesOf program words m
+  has_of m has = subst (λ a. HasMatchesOf a words m) is has
 
   -- the kinds of an error of the parser are those of the words
   pub kinds_of : (e : Error) → (is_simple_and_free (app_of command) ≡ true → HasKind (fault_of (app_of command) words) e) → HasKind (fault_of program words) e
   kinds_of e kinds = subst (λ a. HasKind (fault_of a words) e) is (kinds (ap is_simple_and_free is ∙ simple_and_free))
 
-  pub none_here : (is_simple_and_free (app_of command) ≡ true → fault_of (app_of command) words ≡ []) → fault_of program words ≡ []
-  none_here kinds = none_of kinds
+module _ (words : List Text) where
+  pub asked : (m : ArgMatches) → fault_of program words ≡ [] → HasMatchesOf program words m → Asked words m
+  asked m none has = asked_from words m (line_sound words none) has
 
   -- the matches are those of the words that ask for something
-  pub matched_by : (m : ArgMatches) (q : Request) → HasMatchesOf (app_of command) words m → Asks words q → (v : Verb) × (g : Given) × IsMatched v g m × Makes v g q
+  pub matched_by : (m : ArgMatches) (q : Request) → HasMatchesOf program words m → Asks words q → (v : Verb) × (g : Given) × IsMatched v g m × Makes v g q
   matched_by m q has asks =
       let f = finds words q asks in
-      let mine = subst (λ a. HasMatchesOf a words m) is has in
-      (f.verb, f.given, (f.rows, (mine simple).1 ∙ f.found, f.holds), f.makes)
+      (f.verb, f.given, (f.rows, (has simple).1 ∙ f.found, f.holds), f.makes)
 
   -- the matches are those of what the words ask for
-  pub asks_matched : (m : ArgMatches) (q : Request) → HasMatchesOf (app_of command) words m → (a : Asks words q) → IsMatched a.verb a.given m
-  asks_matched m q has a =
-      let mine = subst (λ a. HasMatchesOf a words m) is has in (
-        rows_after (rules a.verb) [] a.rest,
-        (mine simple).1 ∙ (ap (subcommand_of program) a.are ∙ found_is a.verb a.rest),
-        level_holds a.verb a.rest a.given a.gives (full_from a.verb a.given q a.makes),
-      )
+  pub asks_matched : (m : ArgMatches) (q : Request) → HasMatchesOf program words m → (a : Asks words q) → IsMatched a.verb a.given m
+  asks_matched m q has a = (
+    rows_after (rules a.verb) [] a.rest,
+    (has simple).1 ∙ (ap (subcommand_of program) a.are ∙ found_is a.verb a.rest),
+    level_holds a.verb a.rest a.given a.gives (full_from a.verb a.given q a.makes),
+  )
 
-  pub refused : (e : Error) (q : Request) → (is_simple_and_free (app_of command) ≡ true → HasKind (fault_of (app_of command) words) e) → Asks words q → kind_of e ≡ OutOfMemory
-  refused e q kinds asks = go (subst (λ a. HasKind (fault_of a words) e) is (kinds (ap is_simple_and_free is ∙ simple_and_free)))
-    where
-      go : HasKind (fault_of program words) e → kind_of e ≡ OutOfMemory
-      go (inl memory) = memory
-      go (inr among) = absurd (subst (λ ks. IsAmong (kind_of e) ks) (line_completes words q asks) among)
+  pub refused : (e : Error) (q : Request) → HasKind (fault_of program words) e → Asks words q → kind_of e ≡ OutOfMemory
+  refused e q (inl memory) asks = memory
+  refused e q (inr among) asks = absurd (subst (λ ks. IsAmong (kind_of e) ks) (line_completes words q asks) among)
+
+-- what holds of an error in turn
+pub if_err_then : {T E : Type 0} (r : Result T E) (P Q : E → Type 0) → ((e : E) → P e → Q e) → IfErr r P → IfErr r Q
+if_err_then (Ok x) P Q then_holds h = h
+if_err_then (Err e) P Q then_holds h = then_holds e h
 
 -- what is among the first kinds is among them, or else among others
 pub first_kinds : (ks more : Kinds) (e : Error) → HasKind ks e → HasKind (or_else ks more) e
@@ -79,9 +79,6 @@ first_kinds (k ∷ ks) more e has = has
 
 pub other_kinds : (ks more : Kinds) (e : Error) → ks ≡ [] → HasKind more e → HasKind (or_else ks more) e
 other_kinds ks more e none has = subst (λ x. HasKind (or_else x more) e) (sym none) has
-
-pub only_kind : (k : ErrorKind) (e : Error) → kind_of e ≡ k → HasKind (k ∷ []) e
-only_kind k e is = inr (inl is)
 
 -- `?` passes an error up as it is
 pub passed_and : {T : Type 0} (r : Result T Error) (e : Error) (P : Error → Type 0) → IsErrAnd r (λ y. y ≡ e) → P e → IsErrAnd r P

@@ -1,5 +1,5 @@
 -- The options that take a value: which subcommand has which, and what they may say.
-use Rattle.std.proofs.Common.{◌≡◌, ◌++◌, Bool, true, false, List, [], ◌∷◌, Some, None, codes}
+use Rattle.std.proofs.Common.{◌≡◌, ◌++◌, Bool, true, false, [], ◌∷◌, Some, None, codes}
 use Rattle.std.specs.Prelude.{⊤}
 use Rattle.clap.specs.Walk.{Rule, Text}
 use Rattle.command_line.specs.Forms.{Verb, paths, check, run, audit, attempt, serve, keep, Given, IsNumber, has_sessions, has_stop, has_stuck, has_keeping}

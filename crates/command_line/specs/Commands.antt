@@ -88,10 +88,15 @@ with_rules a (r ∷ rs) = with_rules (with_rule a r) rs
 abbrev pub app_for : Verb → App
 app_for v = with_rules (new_app (name_of v)) (own_rules v)
 
+-- the program without its subcommands
+abbrev pub program_top : App
+program_top =
+    on_top (λ s. record s { subcommand_required = true; has_version = true; propagate_version = true })
+    (new_app (codes "pathserve"))
+
 abbrev pub program : App
 program = with_subcommand (with_subcommand (with_subcommand (with_subcommand (with_subcommand (with_subcommand (with_subcommand
-    (on_top (λ s. record s { subcommand_required = true; has_version = true; propagate_version = true })
-    (new_app (codes "pathserve")))
+    program_top
     (app_for paths).top) (app_for check).top) (app_for run).top) (app_for audit).top) (app_for attempt).top)
     (app_for serve).top)
     (app_for keep).top

@@ -1,5 +1,6 @@
 pub mod Forms
 pub mod Commands
 pub mod Laws
+pub mod Making
 pub mod Past
 pub mod Watching

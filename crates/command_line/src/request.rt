@@ -1,9 +1,9 @@
 //! The command line.
 
-ghost use Rattle.std.specs.Prelude.{◌≡◌, ◌⊎◌, false, map, codes, IfOk, IfErr, IsErrAnd, IfSome, None, Some};
+ghost use Rattle.std.specs.Prelude.{◌≡◌, ◌⊎◌, ◌∷◌, [], false, map, codes, IfOk, IfErr, IsErrAnd, IfSome, None, Some};
+ghost use Rattle.clap.specs.Faults.{fault_of};
 ghost use Rattle.clap.specs.Matches.{first_value, found_of, one_text};
-ghost use Rattle.clap.specs.Simple.{app_of};
-ghost use Rattle.clap.specs.declared.builder.command.Command.TheViews.{out-Command};
+ghost use Rattle.clap.specs.Simple.{App, HasMatchesOf, app_of, new_app, with_subcommand};
 ghost use Rattle.clap.specs.declared.error.kind.ErrorKind.TheVariants.{OutOfMemory};
 ghost use Rattle.clap.specs.Walk.{rows_of, rule_of};
 ghost use Rattle.clap.specs.Kinds.{HasKind};
@@ -15,7 +15,8 @@ ghost use Rattle.command_line.specs.Forms.{keep as keep_verb, explain_of, sync_o
 ghost use Rattle.command_line.specs.Forms.{IsAddressOf, IsSyncOf, Shows, Text, Topic, kind_for};
 ghost use Rattle.command_line.specs.Commands.{Holds, HoldsExplain, IsMatched, app_for, faults, flag_rule, past_in, program};
 ghost use Rattle.command_line.specs.Commands.{at_once_rule, past_rule, required_rule, optional_rule, sessions_rule};
-ghost use Rattle.command_line.specs.Commands.{sync_rule};
+ghost use Rattle.command_line.specs.Commands.{program_top, sync_rule};
+ghost use Rattle.command_line.specs.Making.{AddsCommand, AddsExplain, AddsRule, IsMade, IsMadeAs};
 ghost use Rattle.command_line.specs.Commands.{traces_rule};
 
 use crate::help;
@@ -161,109 +162,15 @@ fn optional<'a>(alloc: Global, name: &'a str, help: &'a str) -> Arg<'a>
     Arg::new(alloc, name).help(help)
 }
 
-// The flag `--explain`.
-fn explain_flag<'a>(alloc: Global, help: &'a str) -> Arg<'a>
-    ensures rule { rule_of result ≡ flag_rule (codes "explain") }
+// A flag.
+fn flag<'a>(alloc: Global, name: &'a str, help: &'a str) -> Arg<'a>
+    ensures rule { rule_of result ≡ flag_rule name.entry.now }
     ensures local { result.global ≡ false }
 {
-    Arg::new(alloc, "explain")
-        .long("explain")
+    Arg::new(alloc, name)
+        .long(name)
         .action(ArgAction::SetTrue)
         .help(help)
-}
-
-// The flag `--no-explain`.
-fn silence_flag<'a>(alloc: Global) -> Arg<'a>
-    ensures rule { rule_of result ≡ flag_rule (codes "no-explain") }
-    ensures local { result.global ≡ false }
-{
-    Arg::new(alloc, "no-explain")
-        .long("no-explain")
-        .action(ArgAction::SetTrue)
-        .help(help::SILENCE)
-}
-
-// The flag `--stop-with-input`.
-fn stop_flag<'a>(alloc: Global) -> Arg<'a>
-    ensures rule { rule_of result ≡ flag_rule (codes "stop-with-input") }
-    ensures local { result.global ≡ false }
-{
-    Arg::new(alloc, "stop-with-input")
-        .long("stop-with-input")
-        .action(ArgAction::SetTrue)
-        .help(help::SERVE_STOP)
-}
-
-// The flag `--stuck`.
-fn stuck_flag<'a>(alloc: Global) -> Arg<'a>
-    ensures rule { rule_of result ≡ flag_rule (codes "stuck") }
-    ensures local { result.global ≡ false }
-{
-    Arg::new(alloc, "stuck")
-        .long("stuck")
-        .action(ArgAction::SetTrue)
-        .help(help::CHECK_STUCK)
-}
-
-// `pathserve paths`.
-fn paths_command<'a>(alloc: Global) -> Command<'a>
-    ensures { (app_of result ≡ app_for paths) × ((out-Command result).has_globals ≡ false) }
-{
-    Command::new(alloc, "paths")
-        .about(help::PATHS)
-        .after_help(help::PATHS_MORE)
-}
-
-// `pathserve check`.
-fn check_command<'a>(alloc: Global) -> Result<Command<'a>, AllocError>
-    ensures { IfOk result (λ c. (app_of c ≡ app_for check_verb) × ((out-Command c).has_globals ≡ false)) }
-{
-    Command::new(alloc, "check")
-        .about(help::CHECK)
-        .after_help(help::CHECK_MORE)
-        .arg(required(alloc, "FILE", help::CHECK_FILE))?
-        .arg(stuck_flag(alloc))?
-        .arg(explain_flag(alloc, help::EXPLAIN))?
-        .arg(silence_flag(alloc))
-}
-
-// `pathserve run`.
-fn run_command<'a>(alloc: Global) -> Result<Command<'a>, AllocError>
-    ensures { IfOk result (λ c. (app_of c ≡ app_for run_verb) × ((out-Command c).has_globals ≡ false)) }
-{
-    Command::new(alloc, "run")
-        .about(help::RUN)
-        .after_help(help::RUN_MORE)
-        .arg(required(alloc, "FILE", help::RUN_FILE))?
-        .arg(required(alloc, "SCRIPT", help::RUN_SCRIPT))?
-        .arg(explain_flag(alloc, help::RUN_EXPLAIN))?
-        .arg(silence_flag(alloc))
-}
-
-// `pathserve audit`.
-fn audit_command<'a>(alloc: Global) -> Result<Command<'a>, AllocError>
-    ensures { IfOk result (λ c. (app_of c ≡ app_for audit_verb) × ((out-Command c).has_globals ≡ false)) }
-{
-    Command::new(alloc, "audit")
-        .about(help::AUDIT)
-        .after_help(help::AUDIT_MORE)
-        .arg(required(alloc, "FILE", help::AUDIT_FILE))?
-        .arg(required(alloc, "TRACE", help::AUDIT_TRACE))?
-        .arg(explain_flag(alloc, help::AUDIT_EXPLAIN))?
-        .arg(silence_flag(alloc))
-}
-
-// `pathserve try`.
-fn try_command<'a>(alloc: Global) -> Result<Command<'a>, AllocError>
-    ensures { IfOk result (λ c. (app_of c ≡ app_for try_verb) × ((out-Command c).has_globals ≡ false)) }
-{
-    Command::new(alloc, "try")
-        .about(help::TRY)
-        .after_help(help::TRY_MORE)
-        .arg(required(alloc, "FILE", help::RUN_FILE))?
-        .arg(optional(alloc, "NAME", help::TRY_NAME))?
-        .arg(explain_flag(alloc, help::TRY_EXPLAIN))?
-        .arg(silence_flag(alloc))
 }
 
 // The option `--sessions`.
@@ -277,23 +184,6 @@ fn sessions_option<'a>(alloc: Global) -> Arg<'a>
         .default_value(SESSIONS)
         .value_parser(ValueParser::unsigned(1, MOST_SESSIONS))
         .help(help::SERVE_SESSIONS)
-}
-
-// `pathserve serve`.
-fn serve_command<'a>(alloc: Global) -> Result<Command<'a>, AllocError>
-    ensures { IfOk result (λ c. (app_of c ≡ app_for serve_verb) × ((out-Command c).has_globals ≡ false)) }
-{
-    Command::new(alloc, "serve")
-        .about(help::SERVE)
-        .after_help(help::SERVE_MORE)
-        .override_usage(help::SERVE_USAGE)
-        .arg(required(alloc, "FILE", help::SERVE_FILE))?
-        .arg(required(alloc, "DIR", help::SERVE_DIR))?
-        .arg(required(alloc, "PLACE", help::SERVE_PLACE))?
-        .arg(sessions_option(alloc))?
-        .arg(stop_flag(alloc))?
-        .arg(explain_flag(alloc, help::EXPLAIN))?
-        .arg(silence_flag(alloc))
 }
 
 // The option `--at-once`.
@@ -346,51 +236,184 @@ fn past_option<'a>(alloc: Global) -> Arg<'a>
         .help(help::KEEP_PAST)
 }
 
-// `pathserve keep`.
-fn keep_command<'a>(alloc: Global) -> Result<Command<'a>, AllocError>
-    ensures { IfOk result (λ c. (app_of c ≡ app_for keep_verb) × ((out-Command c).has_globals ≡ false)) }
+// A command with its name and its texts, and no argument.
+fn titled<'a>(alloc: Global, name: &'a str, about: &'a str, more: &'a str) -> Command<'a>
+    ensures { IsMade result (new_app name.entry.now) }
 {
-    Command::new(alloc, "keep")
-        .about(help::KEEP)
-        .after_help(help::KEEP_MORE)
-        .override_usage(help::KEEP_USAGE)
-        .arg(required(alloc, "FILE", help::SERVE_FILE))?
-        .arg(required(alloc, "DIR", help::KEEP_DIR))?
-        .arg(required(alloc, "PLACE", help::SERVE_PLACE))?
-        .arg(at_once_option(alloc))?
-        .arg(sync_option(alloc))?
-        .arg(traces_option(alloc))?
-        .arg(past_option(alloc))?
-        .arg(stop_flag(alloc))?
-        .arg(explain_flag(alloc, help::EXPLAIN))?
-        .arg(silence_flag(alloc))
+    Command::new(alloc, name).about(about).after_help(more)
 }
 
-// A subcommand, which has the name of the program where it tells its version.
-fn named<'a>(command: Command<'a>) -> Result<Command<'a>, AllocError>
-    ensures { IfOk result (λ c. (app_of c ≡ app_of command.entry)
-        × ((out-Command c).has_globals ≡ (out-Command command.entry).has_globals)) }
+// A command that was made, with one more argument: so no owner lives across a `?`.
+fn with_argument<'a>(
+    made: Result<Command<'a>, AllocError>,
+    argument: Arg<'a>,
+) -> Result<Command<'a>, AllocError>
+    ensures { IfOk result (λ c. AddsRule made.entry argument.entry c) }
 {
-    command.display_name(help::NAME)
+    match made {
+        Ok(command) => command.arg(argument),
+        Err(error) => Err(error),
+    }
+}
+
+// A command that was made, with the flags `--explain` and `--no-explain`.
+fn with_explain<'a>(
+    alloc: Global,
+    made: Result<Command<'a>, AllocError>,
+    help: &'a str,
+) -> Result<Command<'a>, AllocError>
+    ensures { IfOk result (λ c. AddsExplain made.entry c) }
+{
+    let explained = with_argument(made, flag(alloc, "explain", help));
+    with_argument(explained, flag(alloc, "no-explain", help::SILENCE))
+}
+
+// `pathserve paths`.
+fn paths_command<'a>(alloc: Global) -> Result<Command<'a>, AllocError>
+    ensures { IfOk result (λ c. IsMade c (app_for paths)) }
+{
+    Ok(titled(alloc, "paths", help::PATHS, help::PATHS_MORE))
+}
+
+// `pathserve check`.
+fn check_command<'a>(alloc: Global) -> Result<Command<'a>, AllocError>
+    ensures { IfOk result (λ c. IsMade c (app_for check_verb)) }
+{
+    let one = with_argument(
+        Ok(titled(alloc, "check", help::CHECK, help::CHECK_MORE)),
+        required(alloc, "FILE", help::CHECK_FILE),
+    );
+    let two = with_argument(one, flag(alloc, "stuck", help::CHECK_STUCK));
+    with_explain(alloc, two, help::EXPLAIN)
+}
+
+// `pathserve run`.
+fn run_command<'a>(alloc: Global) -> Result<Command<'a>, AllocError>
+    ensures { IfOk result (λ c. IsMade c (app_for run_verb)) }
+{
+    let one = with_argument(
+        Ok(titled(alloc, "run", help::RUN, help::RUN_MORE)),
+        required(alloc, "FILE", help::RUN_FILE),
+    );
+    let two = with_argument(one, required(alloc, "SCRIPT", help::RUN_SCRIPT));
+    with_explain(alloc, two, help::RUN_EXPLAIN)
+}
+
+// `pathserve audit`.
+fn audit_command<'a>(alloc: Global) -> Result<Command<'a>, AllocError>
+    ensures { IfOk result (λ c. IsMade c (app_for audit_verb)) }
+{
+    let one = with_argument(
+        Ok(titled(alloc, "audit", help::AUDIT, help::AUDIT_MORE)),
+        required(alloc, "FILE", help::AUDIT_FILE),
+    );
+    let two = with_argument(one, required(alloc, "TRACE", help::AUDIT_TRACE));
+    with_explain(alloc, two, help::AUDIT_EXPLAIN)
+}
+
+// `pathserve try`.
+fn try_command<'a>(alloc: Global) -> Result<Command<'a>, AllocError>
+    ensures { IfOk result (λ c. IsMade c (app_for try_verb)) }
+{
+    let one = with_argument(
+        Ok(titled(alloc, "try", help::TRY, help::TRY_MORE)),
+        required(alloc, "FILE", help::RUN_FILE),
+    );
+    let two = with_argument(one, optional(alloc, "NAME", help::TRY_NAME));
+    with_explain(alloc, two, help::TRY_EXPLAIN)
+}
+
+// `pathserve serve`.
+fn serve_command<'a>(alloc: Global) -> Result<Command<'a>, AllocError>
+    ensures { IfOk result (λ c. IsMade c (app_for serve_verb)) }
+{
+    let one = with_argument(
+        Ok(titled(alloc, "serve", help::SERVE, help::SERVE_MORE).override_usage(help::SERVE_USAGE)),
+        required(alloc, "FILE", help::SERVE_FILE),
+    );
+    let two = with_argument(one, required(alloc, "DIR", help::SERVE_DIR));
+    let three = with_argument(two, required(alloc, "PLACE", help::SERVE_PLACE));
+    let four = with_argument(three, sessions_option(alloc));
+    let five = with_argument(four, flag(alloc, "stop-with-input", help::SERVE_STOP));
+    with_explain(alloc, five, help::EXPLAIN)
+}
+
+// `pathserve keep`.
+fn keep_command<'a>(alloc: Global) -> Result<Command<'a>, AllocError>
+    ensures { IfOk result (λ c. IsMade c (app_for keep_verb)) }
+{
+    let one = with_argument(
+        Ok(titled(alloc, "keep", help::KEEP, help::KEEP_MORE).override_usage(help::KEEP_USAGE)),
+        required(alloc, "FILE", help::SERVE_FILE),
+    );
+    let two = with_argument(one, required(alloc, "DIR", help::KEEP_DIR));
+    let three = with_argument(two, required(alloc, "PLACE", help::SERVE_PLACE));
+    let four = with_argument(three, at_once_option(alloc));
+    let five = with_argument(four, sync_option(alloc));
+    let six = with_argument(five, traces_option(alloc));
+    let seven = with_argument(six, past_option(alloc));
+    let eight = with_argument(seven, flag(alloc, "stop-with-input", help::SERVE_STOP));
+    with_explain(alloc, eight, help::EXPLAIN)
+}
+
+// A subcommand that was made, which has the name of the program where it tells its version.
+fn named<'a>(made: Result<Command<'a>, AllocError>) -> Result<Command<'a>, AllocError>
+    ensures { IfOk result (λ c. IsMadeAs made.entry c) }
+{
+    match made {
+        Ok(command) => command.display_name(help::NAME),
+        Err(error) => Err(error),
+    }
+}
+
+// A command with one more subcommand, where that was made.
+fn joined<'a>(
+    command: Command<'a>,
+    below: Result<Command<'a>, AllocError>,
+) -> Result<Command<'a>, AllocError>
+    ensures { IfOk result (λ c. (a b : App) → app_of command.entry ≡ a → IfOk below.entry (λ s. IsMade s b) →
+        app_of c ≡ with_subcommand a b.top) }
+{
+    match below {
+        Ok(added) => command.subcommand(added),
+        Err(error) => Err(error),
+    }
+}
+
+// A command that was made, with one more subcommand.
+fn with_command<'a>(
+    made: Result<Command<'a>, AllocError>,
+    below: Result<Command<'a>, AllocError>,
+) -> Result<Command<'a>, AllocError>
+    ensures { IfOk result (λ c. AddsCommand made.entry below.entry c) }
+{
+    match made {
+        Ok(command) => joined(command, named(below)),
+        Err(error) => Err(error),
+    }
+}
+
+// The program, without its subcommands.
+fn program_alone<'a>(alloc: Global) -> Command<'a>
+    ensures { app_of result ≡ program_top }
+{
+    titled(alloc, help::NAME, help::PROGRAM, help::PROGRAM_MORE)
+        .version(help::VERSION)
+        .propagate_version(true)
+        .subcommand_required(true)
 }
 
 // The commands of the program.
 fn command<'a>(alloc: Global) -> Result<Command<'a>, AllocError>
     ensures { IfOk result (λ c. app_of c ≡ program) }
 {
-    Command::new(alloc, help::NAME)
-        .version(help::VERSION)
-        .propagate_version(true)
-        .about(help::PROGRAM)
-        .after_help(help::PROGRAM_MORE)
-        .subcommand_required(true)
-        .subcommand(named(paths_command(alloc))?)?
-        .subcommand(named(check_command(alloc)?)?)?
-        .subcommand(named(run_command(alloc)?)?)?
-        .subcommand(named(audit_command(alloc)?)?)?
-        .subcommand(named(try_command(alloc)?)?)?
-        .subcommand(named(serve_command(alloc)?)?)?
-        .subcommand(named(keep_command(alloc)?)?)
+    let one = with_command(Ok(program_alone(alloc)), paths_command(alloc));
+    let two = with_command(one, check_command(alloc));
+    let three = with_command(two, run_command(alloc));
+    let four = with_command(three, audit_command(alloc));
+    let five = with_command(four, try_command(alloc));
+    let six = with_command(five, serve_command(alloc));
+    with_command(six, keep_command(alloc))
 }
 
 // The word under this name.
@@ -657,13 +680,14 @@ fn matched_request<'a>(matches: &ArgMatches<'a>) -> Result<Request<'a>, Odd<'a>>
 // The error of a word that is no value of this argument of a subcommand, which should be so.
 fn no_value(
     alloc: Global,
-    mut command: Command<'_>,
+    made: Result<Command<'_>, AllocError>,
     word: &str,
     name: &str,
     form: &str,
 ) -> Result<Error, AllocError>
     ensures { IfOk result (λ e. kind_of e ≡ ErrorKind.ValueValidation) }
 {
+    let mut command = made?;
     let text = format!(in alloc; "invalid value '{word}' for '{name}': {form}")?;
     command.error(ErrorKind::ValueValidation, text.as_str())
 }
@@ -672,16 +696,20 @@ fn no_value(
 pub fn keep_error(alloc: Global, word: &str, name: &str, form: &str) -> Result<Error, AllocError>
     ensures { IfOk result (λ e. kind_of e ≡ ErrorKind.ValueValidation) }
 {
-    let command = keep_command(alloc)?;
-    no_value(alloc, command, word, name, form)
+    no_value(alloc, keep_command(alloc), word, name, form)
 }
 
 /// The error of a value of `--past` that should be so.
 pub fn past_error(alloc: Global, word: &str, form: &str) -> Result<Error, AllocError>
     ensures { IfOk result (λ e. kind_of e ≡ ErrorKind.ValueValidation) }
 {
-    let command = keep_command(alloc)?;
-    no_value(alloc, command, word, "--past <OBJECT:OPERATION:K>", form)
+    no_value(
+        alloc,
+        keep_command(alloc),
+        word,
+        "--past <OBJECT:OPERATION:K>",
+        form,
+    )
 }
 
 // The error of a word that is not what it should be.
@@ -691,26 +719,47 @@ fn odd_error(alloc: Global, odd: Odd<'_>) -> Result<Error, AllocError>
     match odd {
         Odd::ServePlace(word) => no_value(
             alloc,
-            serve_command(alloc)?,
+            serve_command(alloc),
             word,
             "<PLACE>",
             help::PLACE_IS,
         ),
         Odd::KeepPlace(word) => no_value(
             alloc,
-            keep_command(alloc)?,
+            keep_command(alloc),
             word,
             "<PLACE>",
             help::PLACE_IS,
         ),
         Odd::Sync(word) => no_value(
             alloc,
-            keep_command(alloc)?,
+            keep_command(alloc),
             word,
             "--sync <WORD>",
             help::SYNC_IS,
         ),
     }
+}
+
+// The error of a word that is not what it should be, or that memory was refused.
+fn odd_answer(alloc: Global, odd: Odd<'_>) -> Error
+    ensures { HasKind (ErrorKind.ValueValidation ∷ []) result }
+{
+    match odd_error(alloc, odd) {
+        Ok(error) => error,
+        Err(error) => Error::from(error),
+    }
+}
+
+// What the parser finds in these words.
+fn parsed<'a>(alloc: Global, words: &'a [&'a str]) -> Result<ArgMatches<'a>, Error>
+    ensures found { IfOk result (λ m. (fault_of program (map (λ w. w.now) words.now) ≡ [])
+        × HasMatchesOf program (map (λ w. w.now) words.now) m) }
+    ensures refused { IfErr result (λ e. HasKind (fault_of program (map (λ w. w.now) words.now)) e) }
+{
+    let program = command(alloc)?;
+    let matches = program.try_get_matches_from(words)?;
+    Ok(matches)
 }
 
 /// What these words, the first of which names the program, ask for.
@@ -727,10 +776,10 @@ pub fn request_of<'a>(alloc: Global, words: &'a [&'a str]) -> Result<Request<'a>
     ensures shown { (t : Topic) → Shows (map (λ w. w.now) words.now) t →
         IsErrAnd result (λ e. (kind_of e ≡ OutOfMemory) ⊎ (kind_of e ≡ kind_for t)) }
 {
-    let matches = command(alloc)?.try_get_matches_from(words)?;
+    let matches = parsed(alloc, words)?;
     match matched_request(&matches) {
         Ok(request) => Ok(request),
-        Err(odd) => Err(odd_error(alloc, odd)?),
+        Err(odd) => Err(odd_answer(alloc, odd)),
     }
 }
 
@@ -744,6 +793,18 @@ fn pasts_in<'a>(alloc: Global, keep: &ArgMatches<'a>) -> Result<Vec<&'a str>, Al
     }
 }
 
+// The values of `--past` in what was found in words of `keep`, and none in others.
+fn pasts_found<'a>(alloc: Global, matches: &ArgMatches<'a>) -> Result<Vec<&'a str>, Error>
+    ensures told { IfOk result (λ pasts. (g : Given) → IsMatched keep_verb g matches.now →
+        map (λ w. w.now) pasts.items ≡ g.past) }
+    ensures refused { IfErr result (λ e. kind_of e ≡ OutOfMemory) }
+{
+    match matches.subcommand_matches("keep") {
+        Some(keep) => Ok(pasts_in(alloc, keep)?),
+        None => Ok(Vec::new(alloc)),
+    }
+}
+
 /// The values of `--past` that these words, which ask for something, give `keep`, in order. The errors are those of
 /// [`request_of`], but for words that are looked at behind the parser.
 pub fn pasts_of<'a>(alloc: Global, words: &'a [&'a str]) -> Result<Vec<&'a str>, Error>
@@ -752,9 +813,6 @@ pub fn pasts_of<'a>(alloc: Global, words: &'a [&'a str]) -> Result<Vec<&'a str>,
     ensures refused { IfErr result (λ e. (q : Request) → Asks (map (λ w. w.now) words.now) q →
         kind_of e ≡ OutOfMemory) }
 {
-    let matches = command(alloc)?.try_get_matches_from(words)?;
-    match matches.subcommand_matches("keep") {
-        Some(keep) => Ok(pasts_in(alloc, keep)?),
-        None => Ok(Vec::new(alloc)),
-    }
+    let matches = parsed(alloc, words)?;
+    pasts_found(alloc, &matches)
 }

@@ -412,10 +412,11 @@ pub fn taken_apart<'a>(alloc: Global, words: &'a [&'a str]) -> Result<Apart<'a>,
         let found = gathered(alloc, words)?;
         return Ok(found);
     }
+    let others = words.to_vec(alloc)?;
     Ok(Apart {
         status: Vec::new(alloc),
         log: Vec::new(alloc),
         away: Vec::new(alloc),
-        words: words.to_vec(alloc)?,
+        words: others,
     })
 }

@@ -1,10 +1,9 @@
-use Rattle.std.proofs.Common.{◌≡◌, ◌∙◌, List, [], Some, None, map, option_map, ap, sym, codes}
+use Rattle.std.proofs.Common.{◌≡◌, ◌∙◌, [], Some, None, map, ap, codes}
 use Rattle.std.specs.Prelude.{unwrap_or}
 use Rattle.std.proofs.lemmas.Result.{IfOk-weaker}
 use Rattle.clap.specs.Matches.{found_of}
 use Rattle.clap.specs.Walk.{all_of, rows_of}
 use Rattle.clap.proofs.WalkLemmas.{raw_values-rows}
-use Rattle.command_line.specs.Forms.{Text}
 use Rattle.command_line.proofs.request.pasts_in.Goals as goal
 
 pub returns-in-Some : goal.returns-in-Some

@@ -1,18 +1,11 @@
-use Rattle.std.proofs.Common.{◌∙◌, ap, codes}
-use Rattle.std.proofs.lemmas.Result.{IfOk-weaker}
-use Rattle.clap.specs.Simple.{app_of_fields, new_app}
-use Rattle.clap.specs.declared.builder.command.Command.{Command}
-use Rattle.clap.specs.declared.builder.command.Command.TheOpen.{Command-F}
-use Rattle.command_line.proofs.Making.{IsMade, with_arg}
+use Rattle.std.proofs.Common.{Ok, codes}
+use Rattle.clap.specs.Simple.{new_app}
+use Rattle.command_line.specs.Commands.{optional_rule, required_rule}
+use Rattle.command_line.proofs.Making.{and_explain, and_rule}
 use Rattle.command_line.proofs.request.try_command.Goals as goal
 
 pub returns : goal.returns
 returns c =
-    let zero : IsMade c.after_help.result (new_app (codes "try")) = (
-      ap app_of_fields c.after_help.ensures ∙ ap app_of_fields c.about.ensures ∙ c.new.ensures.app,
-      ap (λ (f : Command-F Command). f.has_globals) c.after_help.ensures ∙ ap (λ (f : Command-F Command). f.has_globals) c.about.ensures ∙ c.new.ensures.local,
-    ) in
-    let one = with_arg _ c.in_ok-arg.field-0 _ _ _ c.in_ok-arg.ensures c.required.ensures.local c.required.ensures.rule zero in
-    let two = with_arg _ c.in_ok-arg-2.field-0 _ _ _ c.in_ok-arg-2.ensures c.optional.ensures.local c.optional.ensures.rule one in
-    let three = with_arg _ c.in_ok-arg-3.field-0 _ _ _ c.in_ok-arg-3.ensures c.explain_flag.ensures.local c.explain_flag.ensures.rule two in
-    IfOk-weaker c.arg-4.result _ _ (λ r h. with_arg _ r _ _ _ h c.silence_flag.ensures.local c.silence_flag.ensures.rule three) c.arg-4.ensures
+    let one = and_rule (Ok c.titled.result) c.with_argument-one.result (new_app (codes "try")) c.required.result (required_rule (codes "FILE")) c.with_argument-one.ensures c.titled.ensures c.required.ensures.local c.required.ensures.rule in
+    let two = and_rule c.with_argument-one.result c.with_argument-two.result _ c.optional.result (optional_rule (codes "NAME")) c.with_argument-two.ensures one c.optional.ensures.local c.optional.ensures.rule in
+    and_explain c.with_argument-two.result c.with_explain.result _ c.with_explain.ensures two
