@@ -64,23 +64,18 @@ pub struct Shy {
     pub room: usize,
 }
 
-impl Shy {
-    // Takes at most so many bytes.
-    fn take(&mut self, count: usize) -> io::Result<usize> {
-        let count = count.min(self.room);
-        if count == 0 {
-            return Err(io::Error::from(ErrorKind::BrokenPipe));
-        }
-        self.room -= count;
-        Ok(count)
-    }
-}
-
 impl Write for Shy {
     fn write(&mut self, buf: &[u8]) -> io::Result<usize> {
         self.writes = self.writes.saturating_add(1);
         match self.mood {
-            Mood::Takes(most) => self.take(buf.len().min(most)),
+            Mood::Takes(most) => {
+                let count = buf.len().min(most).min(self.room);
+                if count == 0 {
+                    return Err(io::Error::from(ErrorKind::BrokenPipe));
+                }
+                self.room -= count;
+                Ok(count)
+            }
             Mood::TakesNone => Ok(0),
             Mood::BrokenEachSecond if self.writes % 2 == 0 => Ok(buf.len()),
             _ => Err(io::Error::from(ErrorKind::Interrupted)),
