@@ -3,22 +3,18 @@
 ghost use Rattle.std.specs.Prelude.{◌≡◌, ◌++◌, [], false, OnOk, OnErr};
 ghost use Rattle.std.specs.Bool.{OnFalse};
 ghost use Rattle.session_core.specs.declared.note.Note.{Note};
-ghost use Rattle.session_text.specs.Answers.{said_of, said_text};
-ghost use Rattle.session_text.specs.Lines.{ended_text};
+ghost use Rattle.session_text.specs.Answers.{said_of};
 ghost use Rattle.session_core.specs.Says.{MaySay};
 ghost use Rattle.session_core.specs.Written.{note_of, IsHeld, IsSilent, Adds, HandsOver};
 
 use crate::note::{Note, add_note};
 use crate::room::make_room_for;
 use crate::stage::{Stage, behind};
-use apply_core::reply::Reply;
 use session_text::line::{AnyLine, push_line};
 use std::alloc::{AllocError, Global};
 use std::marker::Model;
 use std::mem;
 use text_core::limits::MOST_TEXT_BYTES;
-use word_core::line::push_line as push_words_line;
-use word_core::word::Written;
 
 /// Room for the longest line that is written of a call, in bytes, twice over.
 const LINE_ROOM: usize = 4096;
@@ -54,40 +50,6 @@ impl Model for Held {
     ghost invariant = { λ h. IsHeld h.text.items h.notes.items h.first h.at };
 }
 
-// Adds the last line of a call that has a receipt. What it replied is written from where it lies: as an ending it would
-// be copied, and it has room for a kilobyte.
-fn push_last(out: &mut Vec<u8>, number: u64, reply: &Reply) -> Result<(), AllocError>
-    ensures { OnOk result (out.new.items ≡ out.old.items ++ ended_text number reply.now) }
-{
-    match reply {
-        Reply::Done(None) => push_words_line(
-            out,
-            &[Written::Bare(b"done"), Written::Integer(number)],
-        ),
-        Reply::Done(Some(datum)) => push_words_line(
-            out,
-            &[
-                Written::Bare(b"done"),
-                Written::Integer(number),
-                Written::Datum(datum),
-            ],
-        ),
-        _ => push_line(out, AnyLine::Ended(number, reply)),
-    }
-}
-
-// Adds a line.
-fn push_any(out: &mut Vec<u8>, line: AnyLine<'_>) -> Result<(), AllocError>
-    ensures { OnOk result (out.new.items ≡ out.old.items ++ said_text (said_of line.entry)) }
-{
-    match line {
-        AnyLine::Ended(number, reply) => push_last(out, number, reply),
-        AnyLine::Opened(_, _) => push_line(out, line),
-        AnyLine::Repeated(_, _) => push_line(out, line),
-        AnyLine::Told(_) => push_line(out, line),
-    }
-}
-
 // Notes a line, where it is the last one of a call that has a receipt.
 fn add_note_of(
     alloc: Global,
@@ -119,7 +81,7 @@ fn add_line(
     ensures { Adds held.old.items held.new.items notes.old.items notes.new.items (said_of line.entry) result }
 {
     text.clear();
-    if push_any(text, line).is_err() {
+    if push_line(text, line).is_err() {
         return false;
     }
     let before = held.len();

@@ -236,17 +236,38 @@ fn push_opened(out: &mut Vec<u8>, name: &Name, next: Option<u64>) -> Result<(), 
     }
 }
 
-fn push_ended(out: &mut Vec<u8>, number: u64, reply: &Reply) -> Result<(), AllocError>
+fn push_ending(out: &mut Vec<u8>, number: u64, reply: &Reply) -> Result<(), AllocError>
     ensures { OnOk result (out.new.items ≡ out.old.items ++ lines.ended_text number reply.now) }
 {
     push_finish(out, number, &reply_ending(reply))
+}
+
+// A value is written from where it lies: as an ending it would be copied, and it has room for a kilobyte.
+fn push_ended(out: &mut Vec<u8>, number: u64, reply: &Reply) -> Result<(), AllocError>
+    ensures { OnOk result (out.new.items ≡ out.old.items ++ lines.ended_text number reply.now) }
+{
+    match reply {
+        Reply::Done(None) => push_words_line(
+            out,
+            &[Written::Bare(b"done"), Written::Integer(number)],
+        ),
+        Reply::Done(Some(datum)) => push_words_line(
+            out,
+            &[
+                Written::Bare(b"done"),
+                Written::Integer(number),
+                Written::Datum(datum),
+            ],
+        ),
+        _ => push_ending(out, number, reply),
+    }
 }
 
 fn push_repeated(out: &mut Vec<u8>, number: u64, reply: &Reply) -> Result<(), AllocError>
     ensures { OnOk result (out.new.items ≡ out.old.items ++ lines.repeated_text number reply.now) }
 {
     out.extend_from_slice(b"repeat ")?;
-    push_finish(out, number, &reply_ending(reply))
+    push_ended(out, number, reply)
 }
 
 /// Adds a line to `out`. The error is that memory was refused; how much of the line then stands in `out` is not said.
