@@ -525,15 +525,15 @@ class Tree:
             for item in (it.strip() for it in (one or several).split(",")) if crate in below and crate not in met else ():
                 for path in self.functions[crate, item]:
                     text = path.read_text(encoding="utf-8")
-                    clause = re.search(rf"^pub fn {item}\b[^{{}}]*?\n    ensures (?:\w+ )?\{{ ", text, re.M)
+                    # With its attributes, so that what is put before it does not get them.
+                    clause = re.search(rf"^(?:#\[.*\n)*pub fn {item}\b[^{{}}]*?\n    ensures (?:\w+ )?\{{ ", text, re.M)
                     if clause and text.count(clause[0]) == 1:
                         met.setdefault(crate, (item, path, clause[0]))
         for crate, (item, path, asked) in list(met.items())[:MOST_CHANGES]:
             file = str(path.relative_to(TOP / "crates"))
             yield f"{name}: a clause of {crate}::{item}", file, asked, f"{asked}(1 ≡ 1) × ", name, ""
-            head = asked.partition("\n")[0]
-            yield f"{name}: a comment of {crate}::{item}", file, head, f"// It says more. {{\n{head}", "", name
-            yield f"{name}: a new function beside {crate}::{item}", file, head, f"pub fn brand_new_one() {{}}\n\n{head}", "", name
+            yield f"{name}: a comment of {crate}::{item}", file, asked, f"// It says more. {{\n{asked}", "", name
+            yield f"{name}: a new function beside {crate}::{item}", file, asked, f"pub fn brand_new_one() {{}}\n\n{asked}", "", name
         edit = repository.files(TOP / "crates" / name / EDITS)[0]
         first = edit.read_text(encoding="utf-8").partition("\n")[0]
         yield f"{name}: one of its edits", str(edit.relative_to(TOP / "crates")), f"{first}\n", f"{first} \n", name, ""
