@@ -37,13 +37,13 @@ fn a_word_is_written_alone(rt: HostRuntime) {
     assert!(rt; is_pushed && out.as_slice() == b"failed".as_slice());
 }
 
-// No case can show it: no explanation looks at the last token but one any more.
+// No case can show it: no explanation looks at the last token but one any more. The last one is the end mark.
 #[test]
 fn the_last_token_but_one_is_seen(rt: HostRuntime) {
     match lex(rt.alloc(), b"then else") {
         Ok(tokens) => {
-            let is_seen = ends_before_last(&tokens, Symbol::Then);
-            assert!(rt; is_seen && !ends_before_last(&tokens, Symbol::Else));
+            let is_seen = ends_before_last(&tokens, Symbol::Else);
+            assert!(rt; is_seen && !ends_before_last(&tokens, Symbol::Then));
         }
         Err(_) => panic!(rt; "no tokens"),
     }
