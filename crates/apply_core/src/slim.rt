@@ -174,11 +174,6 @@ impl Slims {
         are(&self.all, all)
     }
 
-    /// Where their memory is from.
-    pub fn alloc(&self) -> Global {
-        *self.all.allocator()
-    }
-
     /// The datum at a place, from 0.
     pub fn get(&self, place: usize) -> Option<Datum>
         ensures { result ≡ slice_get self.now place }

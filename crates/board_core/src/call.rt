@@ -6,7 +6,6 @@ ghost use Rattle.std.specs.Arc.{arc_value};
 use apply_core::slim::Slims;
 use decl_core::object::Operation;
 use path_tree::node::OpId;
-use std::alloc::Global;
 use std::marker::Model;
 use std::sync::Arc;
 
@@ -76,10 +75,5 @@ impl Call {
         ensures { result.now ≡ self.now.arguments }
     {
         &self.args
-    }
-
-    // Where its memory is from.
-    pub(crate) fn alloc(&self) -> Global {
-        self.args.alloc()
     }
 }

@@ -8,7 +8,6 @@ ghost use Rattle.board_core.specs.Outcomes.{IsEntryOf};
 
 use crate::call::Call;
 use crate::receipt::NotedOutcome;
-use crate::same::is_none;
 use apply_core::reply::Reply;
 use apply_core::short::Short;
 use apply_core::slim::Slims;
@@ -90,8 +89,8 @@ impl Entry {
     {
         match (self.new_pins(), noted.new_pins()) {
             (Some(news), Some(others)) => news.is_same(others),
-            (Some(news), None) => is_none(self.call.alloc(), news),
-            (None, Some(others)) => is_none(self.call.alloc(), others),
+            (Some(news), None) => news.is_empty(),
+            (None, Some(others)) => others.is_empty(),
             (None, None) => true,
         }
     }

@@ -32,4 +32,3 @@ pub mod open_call;
 pub mod pick;
 pub mod queue;
 pub mod receipt;
-mod same;

@@ -57,14 +57,6 @@ pub fn ends(tokens: &[Token], symbol: Symbol) -> bool {
     }
 }
 
-/// Whether the last but one of some tokens is this symbol.
-pub fn ends_before_last(tokens: &[Token], symbol: Symbol) -> bool {
-    match tokens {
-        [.., token, _] => is_symbol(token, symbol),
-        _ => false,
-    }
-}
-
 /// The tokens from the one of this number on.
 pub fn tokens_from(tokens: &[Token], count: usize) -> &[Token] {
     if count < tokens.len() {

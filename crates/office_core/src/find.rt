@@ -2,17 +2,15 @@
 
 ghost use Rattle.std.specs.Prelude.{◌≡◌, ◌↔◌, ◌+◌, IsTrue, IfSome, IfNone, length, slice_get, Some};
 ghost use Rattle.decl_core.specs.ObjectMap.{operation_of};
-ghost use Rattle.board_core.specs.declared.receipt.Receipt.{Receipt as AReceipt};
 ghost use Rattle.board_core.specs.Lists.{Every};
 ghost use Rattle.office_core.specs.Submissions.{IsCallOf, IsOf};
 ghost use Rattle.office_core.specs.Slips.{Told, StandsIn};
-ghost use Rattle.office_core.specs.Closing.{Stands, Misses, place_of_receipt, place_told};
+ghost use Rattle.office_core.specs.Closing.{Misses, place_told};
 
 use crate::seat::Submitted;
 use crate::slip::Slip;
 use board_core::call::Call;
 use board_core::entry::Entry;
-use board_core::receipt::Receipt;
 use decl_core::same::same_declaration;
 use desk_core::desk::Desk;
 
@@ -34,32 +32,6 @@ pub(crate) fn is_of(desk: &Desk, submitted: &Submitted) -> bool
         None => false,
         Some(call) => is_call_of(call, submitted),
     }
-}
-
-// Whether a receipt tells of the entry at its place.
-fn stands(history: &[Entry], receipt: &Receipt) -> bool
-    ensures { IsTrue result ↔ Stands history.now receipt.now }
-{
-    if receipt.place == 0 {
-        return false;
-    }
-    match history.get(receipt.place - 1) {
-        None => false,
-        Some(entry) => entry.is_entry_of(&receipt.noted),
-    }
-}
-
-// The index and the place of the first receipt that tells of no entry at its place.
-pub(crate) fn first_mismatch(history: &[Entry], receipts: &[Receipt]) -> Option<(usize, usize)>
-    ensures none { IfNone result (Every (Stands history.now) receipts.now) }
-    ensures some { IfSome result (λ k. Misses AReceipt (Stands history.now) place_of_receipt receipts.now k.0 k.1) }
-{
-    for k in 0..receipts.len() {
-        if !stands(history, &receipts[k]) {
-            return Some((k, receipts[k].place));
-        }
-    }
-    None
 }
 
 // The index and the place of the first slip that tells of no entry at its place.

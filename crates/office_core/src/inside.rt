@@ -10,18 +10,17 @@ ghost use Rattle.std.specs.Prelude.{◌⊎◌};
 ghost use Rattle.office_core.specs.Insides.{KeepsSeats, Submits};
 ghost use Rattle.office_core.specs.Submissions.{Asks, IsOf, Tells, Tries};
 ghost use Rattle.office_core.specs.ClientSeats.{IsFresh};
-ghost use Rattle.office_core.specs.Seats.{Receives, ReceivesInPlace, Completes, CompletesInPlace, fault_with};
-ghost use Rattle.office_core.specs.Closing.{Closes, ClosesBySlips, IsIdle, AreSeatsOf, IsOpen};
+ghost use Rattle.office_core.specs.Seats.{ReceivesInPlace, CompletesInPlace};
+ghost use Rattle.office_core.specs.Closing.{ClosesBySlips, IsIdle, AreSeatsOf, IsOpen};
 
 use crate::client_seat::Seat;
 use crate::clients::Clients;
-use crate::find::{first_mismatch, first_mismatched_slip, is_of};
-use crate::seat::{CompleteFault, NotTaken, Submitted, Tried};
+use crate::find::{first_mismatched_slip, is_of};
+use crate::seat::{NotTaken, Submitted, Tried};
 use crate::seats::are_seats;
 use crate::slip::Slip;
 use crate::turns::{Pace, Turns};
 use board_core::answer::{Collected, Finished};
-use board_core::receipt::Receipt;
 use decl_core::analyse::Accepted;
 use desk_core::desk::Desk;
 use guest_core::answer::{Cancelled, SubmitFault};
@@ -101,20 +100,6 @@ pub struct Closed {
 // Takes apart a submission that has been answered.
 fn spend(submitted: Submitted) {
     let Submitted { number: _, call: _ } = submitted;
-}
-
-// Why an outcome was not taken, with the outcome, which is handed back.
-pub(crate) fn with_outcome(why: NotTaken, outcome: Outcome) -> CompleteFault
-    ensures { result ≡ fault_with why outcome }
-{
-    match why {
-        NotTaken::Front { seen, found } => CompleteFault::Front {
-            seen,
-            found,
-            outcome,
-        },
-        NotTaken::Stranger => CompleteFault::Stranger(outcome),
-    }
 }
 
 impl Inside {
@@ -223,23 +208,6 @@ impl Inside {
         }
     }
 
-    /// Takes the outcome of a call that runs here, as the desk's `finish` does: the seat has then seen the place of
-    /// its entry, and counts one receipt more. It takes no memory.
-    ///
-    /// The errors, in this order, hand the outcome back and change nothing: the place that it would get is not past
-    /// the greatest that the seat has seen (`Front`), or no running call has it, or it was handed in before
-    /// (`Stranger`).
-    pub fn complete(&mut self, seat: &mut Seat, outcome: Outcome) -> Result<Receipt, CompleteFault>
-        ensures seat { Receives seat.old outcome result seat.new }
-        ensures inside { Completes self.old seat.old outcome result self.new }
-    {
-        let mut outcome = outcome;
-        match self.complete_in_place(seat, &mut outcome) {
-            Ok(finished) => Ok(finished.receipt(outcome)),
-            Err(why) => Err(with_outcome(why, outcome)),
-        }
-    }
-
     /// Takes the outcome of a call that runs here, and leaves it where it lies, as the desk's `finish_in_place` does:
     /// the seat has then seen the place of its entry, and counts one receipt more. It takes no memory.
     ///
@@ -315,7 +283,7 @@ impl Inside {
     }
 
     // What keeps the inside open with these seats, whatever receipts there are.
-    fn missing(&self, seats: &[Seat]) -> Option<CloseFault>
+    pub(crate) fn missing(&self, seats: &[Seat]) -> Option<CloseFault>
         ensures some { IfSome result (IsOpen self.now seats.now) }
         ensures none { IfNone result (IsIdle self.now.board × AreSeatsOf self.now seats.now) }
     {
@@ -329,7 +297,7 @@ impl Inside {
     }
 
     // What is left of an inside that is closed.
-    fn closed(self) -> Closed
+    pub(crate) fn closed(self) -> Closed
         ensures { result.desk ≡ self.board }
     {
         let Inside {
@@ -339,31 +307,6 @@ impl Inside {
             turns: _,
         } = self;
         Closed { desk }
-    }
-
-    /// Ends the work: where no call waits or runs, the seats, with those that are parked here, are those of the
-    /// sessions given out, each once, their counts add up to the history's length, and each receipt tells of the entry
-    /// at its place. It takes no memory.
-    ///
-    /// The errors hand inside and seats back, with the first cause of [`CloseFault`] that applies.
-    pub fn close(self, seats: Vec<Seat>, receipts: &[Receipt]) -> Result<Closed, CloseRefused>
-        ensures { Closes self seats.items receipts.now result }
-    {
-        if let Some(why) = self.missing(&seats) {
-            return Err(CloseRefused {
-                inside: self,
-                seats,
-                why,
-            });
-        }
-        if let Some((receipt, place)) = first_mismatch(self.desk.history(), receipts) {
-            return Err(CloseRefused {
-                inside: self,
-                seats,
-                why: CloseFault::Mismatch { receipt, place },
-            });
-        }
-        Ok(self.closed())
     }
 
     /// Ends the work by slips, each of which tells what a receipt told: where no call waits or runs, the seats, with

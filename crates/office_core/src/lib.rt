@@ -19,6 +19,7 @@
 //! submitted later.
 #![tactic(auto)]
 
+pub mod by_receipts;
 pub mod client_seat;
 pub mod clients;
 mod find;

@@ -4,18 +4,17 @@ ghost use Rattle.std.specs.Prelude.{◌≡◌, ◌<◌, ◌≤◌, ◌+◌, IfEr
 ghost use Rattle.office_core.specs.Insides.{InsideView};
 ghost use Rattle.office_core.specs.declared.seat.Submitted.{Submitted as Ask};
 ghost use Rattle.office_core.specs.Submissions.{Asks, IsStartOf, Tells};
-ghost use Rattle.office_core.specs.Seats.{Receives, ReceivesInPlace, CompletedIn};
-ghost use Rattle.office_core.specs.Closing.{Closes, ClosesBySlips};
+ghost use Rattle.office_core.specs.Seats.{ReceivesInPlace, CompletedIn};
+ghost use Rattle.office_core.specs.Closing.{ClosesBySlips};
 
 use crate::client_seat::Seat;
-use crate::inside::{CloseRefused, Closed, Inside, SeatsFull, with_outcome};
+use crate::inside::{CloseRefused, Closed, Inside, SeatsFull};
 use crate::late::Late;
-use crate::seat::{CompleteFault, NotTaken, Started, Submitted, Tried};
+use crate::seat::{NotTaken, Started, Submitted, Tried};
 use crate::slip::Slip;
 use crate::turns::Pace;
 use board_core::answer::Finished;
 use board_core::event::TraceEvent;
-use board_core::receipt::Receipt;
 use desk_core::desk::Desk;
 use guest_core::answer::{Cancelled, SubmitFault};
 use run_core::outcome::Outcome;
@@ -62,7 +61,7 @@ const BEDS: usize = 64;
 #[derive(Drop)]
 pub struct Office {
     // The inside lies elsewhere: who looks for the lock writes where the lock lies.
-    inside: Mutex<Box<Inside>>,
+    pub(crate) inside: Mutex<Box<Inside>>,
     beds: Vec<Condvar>,
     // Where those sleep whose call is not yet submitted.
     door: Condvar,
@@ -233,21 +232,6 @@ impl Office {
         self.enter(rt).seat()
     }
 
-    /// Submits a call of this seat's session, as [`Inside::submit`].
-    pub fn submit<R: Wait>(
-        &self,
-        rt: &R,
-        seat: &mut Seat,
-        op: &str,
-        args: &[Datum],
-    ) -> Result<Submitted, SubmitFault>
-        ensures asks { IfOk result (λ s. Asks op.now args.now s) }
-        ensures seat { seat.new ≡ seat.old }
-    {
-        // The only call that a submission may start is its own, for which nobody waits yet.
-        self.enter(rt).submit(seat, op, args)
-    }
-
     /// Submits a call of this seat's session, and looks under the same lock whether it has started. It answers the
     /// number of the call, and what the look tells. A fault is one of `submit`.
     ///
@@ -292,13 +276,6 @@ impl Office {
         Some(submit_and_look(&mut guard, seat, op, args))
     }
 
-    /// Looks whether a submitted call has started or was cancelled, as [`Inside::try_start`]. It does not wait for that.
-    pub fn try_start<R: Wait>(&self, rt: &R, submitted: Submitted) -> Tried
-        ensures { Tells submitted result }
-    {
-        self.enter(rt).try_start(submitted)
-    }
-
     /// Looks whether a submitted call has started or was cancelled, as [`Inside::try_start`]. Where the call waits, it
     /// waits for it, at most so long, and looks once more.
     pub fn try_start_within<R: Wait>(&self, rt: &R, submitted: Submitted, most: Duration) -> Tried
@@ -335,22 +312,6 @@ impl Office {
             }
         }
         unreachable!()
-    }
-
-    /// Takes the outcome of a call that runs here, as [`Inside::complete`].
-    pub fn complete<R: Wait>(
-        &self,
-        rt: &R,
-        seat: &mut Seat,
-        outcome: Outcome,
-    ) -> Result<Receipt, CompleteFault>
-        ensures seat { Receives seat.old outcome result seat.new }
-    {
-        let mut outcome = outcome;
-        match self.complete_in_place(rt, seat, &mut outcome) {
-            Ok(finished) => Ok(finished.receipt(outcome)),
-            Err(why) => Err(with_outcome(why, outcome)),
-        }
     }
 
     /// Takes the outcome of a call that runs here, and leaves it where it lies, as [`Inside::complete_in_place`].
@@ -405,14 +366,6 @@ impl Office {
         let beds = started(&mut inside, before) | 1u64 << bed_of(session);
         drop(inside);
         self.wake(beds);
-    }
-
-    /// Takes the inside out of the lock and closes it, as [`Inside::close`].
-    pub fn close(self, seats: Vec<Seat>, receipts: &[Receipt]) -> Result<Closed, CloseRefused>
-        ensures { (r : InsideView) × Closes r seats.items receipts.now result }
-    {
-        let inside = Box::into_inner(self.inside.into_inner());
-        inside.close(seats, receipts)
     }
 
     /// Takes the inside out of the lock and closes it by slips, as [`Inside::close_by_slips`].

@@ -7,11 +7,9 @@ use apply_core::reply::Reply;
 use apply_core::short::Short;
 use apply_core::slim::Slims;
 use board_core::entry::Entry;
-use decl_core::id::MOST_PARTS;
 use decl_core::object::Operation;
 use decl_core::same::same_declaration;
 use page_core::part_pins::PartPins;
-use std::alloc::Global;
 use std::marker::Model;
 use std::sync::Arc;
 
@@ -49,13 +47,6 @@ impl Model for Slip {
       reply = s.reply;
       news = if_done s.reply s.news;
     } };
-}
-
-// Whether there are no pins. It takes no memory.
-fn is_none(alloc: Global, pins: &PartPins) -> bool
-    ensures { IsTrue result ↔ (pins.now ≡ []) }
-{
-    pins.is_same(&PartPins::from_counts([0; MOST_PARTS], Vec::new(alloc)))
 }
 
 impl Slip {
@@ -105,8 +96,8 @@ impl Slip {
     {
         match (entry.new_pins(), self.new_pins()) {
             (Some(news), Some(others)) => news.is_same(others),
-            (Some(news), None) => is_none(self.args.alloc(), news),
-            (None, Some(others)) => is_none(self.args.alloc(), others),
+            (Some(news), None) => news.is_empty(),
+            (None, Some(others)) => others.is_empty(),
             (None, None) => true,
         }
     }

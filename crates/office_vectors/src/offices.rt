@@ -3,8 +3,8 @@
 use crate::make::{office_of, seat_of, ticket_of};
 use board_core::receipt::Receipt;
 use device_core::memory::MemHand;
+use office_core::by_receipts::Resubmitted;
 use office_core::inside::CloseFault;
-use office_core::keyed::Resubmitted;
 use office_core::named::{NameFault, ParkFault};
 use office_core::office::Office;
 use office_core::seat::{CompleteFault, Seat, Tried};

@@ -2,6 +2,7 @@
 use Rattle.std.specs.Prelude.{◌≡◌, ◌≢◌, ℕ, ◌+◌, List, [], ◌∷◌, ◌++◌, length}
 use Rattle.device_core.specs.declared.hand.Stamp.{Stamp}
 use Rattle.page_core.specs.declared.plan.PageWrite.{PageWrite}
+use Rattle.page_core.specs.declared.plan.Planned.{Planned}
 use Rattle.page_core.specs.Bytes.{AreCutBy, split_by}
 use Rattle.page_core.specs.Cut.{lengths}
 
@@ -40,3 +41,9 @@ pub record IsPlan (size : ℕ) (olds : List Stamp) (before after : List ℕ) (st
   pub writes_are : writes_after ≡ writes ++ more_writes
   pub gone_are : gone_after ≡ gone ++ more_gone
   pub plans : Plans (length stamps) olds (split_by (lengths olds) before) pages more_stamps more_writes more_gone
+
+-- the same of what is planned, before and after
+unfoldable pub AddsPlan : ℕ → List Stamp → List ℕ → List ℕ → Planned → Planned → Type 0
+AddsPlan size olds before after was now =
+    IsPlan size olds before after was.stamps.items now.stamps.items was.writes.items now.writes.items was.gone.items
+    now.gone.items

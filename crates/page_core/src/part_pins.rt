@@ -183,6 +183,14 @@ impl PartPins {
         }
     }
 
+    /// Whether there are no pins. It takes no memory.
+    pub fn is_empty(&self) -> bool
+        ensures { IsTrue result ↔ (self.now ≡ []) }
+    {
+        let none = Vec::new(*self.stamps.allocator());
+        self.is_same(&PartPins::from_counts([0; MOST_PARTS], none))
+    }
+
     /// Whether both are the same pins. It takes no memory.
     pub fn is_same(&self, other: &PartPins) -> bool
         ensures { IsTrue result ↔ (self.now ≡ other.now) }

@@ -3,7 +3,7 @@
 ghost use Rattle.std.specs.Prelude.{◌≡◌, ◌↔◌, ◌+◌, ◌<◌, ◌++◌, ◌∷◌, [], IsTrue, OnOk, length, min, take, drop};
 ghost use Rattle.device_core.specs.declared.hand.Stamp.{Stamp as AStamp};
 ghost use Rattle.page_core.specs.declared.plan.PageWrite.{PageWrite as AWrite};
-ghost use Rattle.page_core.specs.Plans.{IsPlan};
+ghost use Rattle.page_core.specs.Plans.{AddsPlan};
 
 use crate::file_bytes::FileBytes;
 use device_core::hand::Stamp;
@@ -109,8 +109,7 @@ pub fn plan_part(
     planned: &mut Planned,
 ) -> Result<(), AllocError>
     requires size { 0 < size }
-    ensures { OnOk result (IsPlan size old.now before.now after.now planned.old.stamps.items planned.new.stamps.items
-        planned.old.writes.items planned.new.writes.items planned.old.gone.items planned.new.gone.items) }
+    ensures { OnOk result (AddsPlan size old.now before.now after.now planned.old planned.new) }
 {
     if after.is_empty() {
         return add_all(&mut planned.gone, old);

@@ -5,10 +5,7 @@ use apply_core::reply::Reply;
 use check_core::report::CheckFault;
 use decl_core::analyse::{Accepted, Refusal, analyse};
 use decl_core::certificate::check_certificate;
-use note_core::tokens::ends_before_last;
 use path_count::counters::compile;
-use path_tree::lex::lex;
-use path_tree::token::Symbol;
 use std::alloc::Global;
 use std::process::Abort;
 use value_core::datum::Datum;
@@ -35,18 +32,6 @@ fn a_word_is_written_alone(rt: HostRuntime) {
     let mut out = Vec::new(rt.alloc());
     let is_pushed = push_word(&mut out, &Word::Bare(b"failed")).is_ok();
     assert!(rt; is_pushed && out.as_slice() == b"failed".as_slice());
-}
-
-// No case can show it: no explanation looks at the last token but one any more. The last one is the end mark.
-#[test]
-fn the_last_token_but_one_is_seen(rt: HostRuntime) {
-    match lex(rt.alloc(), b"then else") {
-        Ok(tokens) => {
-            let is_seen = ends_before_last(&tokens, Symbol::Else);
-            assert!(rt; is_seen && !ends_before_last(&tokens, Symbol::Then));
-        }
-        Err(_) => panic!(rt; "no tokens"),
-    }
 }
 
 // No case can show it: the numbers and names of faults that programs tell in words of their own.

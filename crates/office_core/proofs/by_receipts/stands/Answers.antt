@@ -4,7 +4,7 @@ use Rattle.std.proofs.lemmas.Option.{slice_get_read}
 use Rattle.board_core.specs.Calls.{Noted}
 use Rattle.board_core.specs.Outcomes.{IsEntryOf}
 use Rattle.office_core.proofs.SlipFound.{is_there}
-use Rattle.office_core.proofs.find.stands.Goals as goal
+use Rattle.office_core.proofs.by_receipts.stands.Goals as goal
 
 pub returns-in-Some : goal.returns-in-Some
 returns-in-Some c =

@@ -4,7 +4,7 @@ use Rattle.board_core.specs.declared.receipt.Receipt.{Receipt}
 use Rattle.board_core.proofs.Traces.{true_false}
 use Rattle.board_core.proofs.Fronts.{Every-more}
 use Rattle.office_core.specs.Closing.{Stands}
-use Rattle.office_core.proofs.find.first_mismatch.Goals as goal
+use Rattle.office_core.proofs.by_receipts.first_mismatch.Goals as goal
 
 pub returns-then-not-stands-clause-some : goal.returns-then-not-stands-clause-some
 returns-then-not-stands-clause-some c =
