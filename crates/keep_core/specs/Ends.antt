@@ -20,6 +20,7 @@ use Rattle.office_core.specs.Receipts.{HaveSlips}
 use Rattle.keep_core.specs.declared.close.Became.{Became}
 use Rattle.keep_core.specs.declared.opening.Opening.{Opening}
 use Rattle.keep_core.specs.declared.trouble.Trouble.{Trouble}
+use Rattle.keep_core.specs.Moments.{Moment}
 use Rattle.keep_core.specs.Troubles.{first_of}
 use Rattle.keep_core.specs.Opening.{BeganWith, values_of}
 use Rattle.keep_core.specs.Lines.{AreSaid, IsOfClosing, damaged_lines, entries_lines, refused_line}
@@ -48,6 +49,12 @@ pub record KeepsDesk (agrees : Assignment → Type 0) (parts_were parts_are trac
   pub traces : Traces b.object.name (trace_of b opening) traces_were traces_are became.traced between after
   pub keeps : IsTrue keeps_all → IsTrue kept_all × IsTrue became.saved × IsTrue became.traced
   pub held : CanBeTold b
+
+-- the same of two moments
+abbrev pub KeepsIn : Moment → Moment → Board → List Contents → Bool → Became → Type 0
+KeepsIn before after b opening closes became =
+    KeepsDesk after.files before.parts after.parts before.traces after.traces b opening closes became before.trouble
+    after.trouble before.keeps_all after.keeps_all before.written after.written
 
 -- An object at the end: its name, what its parts opened with, the seats and slips that its sessions left, the board of
 -- its desk, what became of it, and the places of its parts that are damaged.
@@ -123,6 +130,12 @@ pub record IsEnding (agrees : Assignment → Type 0) (parts_were parts_are trace
       traces_are
   pub keeps : IsTrue keeps_all → IsTrue kept_all × IsTrue e.became.saved × IsTrue e.became.traced
 
+-- the same of two moments
+abbrev pub IsEndingIn : Moment → Moment → Ended → Type 0
+IsEndingIn before after e =
+    IsEnding after.files before.parts after.parts before.traces after.traces e before.trouble after.trouble
+    before.keeps_all after.keeps_all before.written after.written
+
 -- an object at its end, by what is known of it where its board was ended
 abbrev pub ended_of : List ℕ → Opening → List Seat → List Told → Board → Became → List ℕ → Ended
 ended_of name opening seats slips b became damaged = record {
@@ -147,3 +160,9 @@ pub record EndsDesk (agrees : Assignment → Type 0) (parts_were parts_are trace
   pub ends : (seats : List Seat) (slips : List Told) → IsAtEnd (ended_of name opening seats slips b became damaged) →
       IsEnding agrees parts_were parts_are traces_were traces_are
       (ended_of name opening seats slips b became damaged) before after kept_all keeps_all old new
+
+-- the same of two moments
+abbrev pub EndsIn : Moment → Moment → List ℕ → Opening → Board → Bool → Type 0
+EndsIn before after name opening b closes =
+    EndsDesk after.files before.parts after.parts before.traces after.traces name opening b closes before.trouble
+    after.trouble before.keeps_all after.keeps_all before.written after.written

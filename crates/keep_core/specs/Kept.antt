@@ -16,6 +16,7 @@ use Rattle.page_core.specs.declared.save.SaveFault.TheVariants as save
 use Rattle.page_core.specs.Saved.{IsFetched, IsDamagedPin}
 use Rattle.board_core.specs.Lists.{Every, Among}
 use Rattle.keep_core.specs.declared.trouble.Trouble.{Trouble}
+use Rattle.keep_core.specs.Moments.{Moment}
 use Rattle.keep_core.specs.Troubles.{first_of}
 use Rattle.keep_core.specs.Lines.{AreSaid, IsOfClosing, damaged_lines}
 
@@ -73,6 +74,12 @@ pub record Saves (agrees : Assignment → Type 0) (object : Object) (pins : List
   pub loud : met ≡ None → damaged ≡ [] → IsTrue all
   pub stored : (papers : Papers) → are papers →
       (base : Papers) × were base × AreStored agrees object pins first end all base papers
+
+-- the same of two moments
+abbrev pub SavesIn : Moment → Moment → Object → List (List Stamp) → ℕ → ℕ → Bool → Type 0
+SavesIn before after object pins first end all =
+    Saves after.files object pins first end before.parts after.parts all before.trouble after.trouble before.written
+    after.written
 
 -- the fault of a write to a folder
 abbrev pub fault_by : HandFault → LinesFault

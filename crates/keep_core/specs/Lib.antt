@@ -3,6 +3,7 @@ pub mod Kept
 pub mod Laws
 pub mod Lines
 pub mod Marks
+pub mod Moments
 pub mod Opening
 pub mod Troubles
 pub mod First

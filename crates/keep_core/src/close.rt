@@ -10,9 +10,10 @@ ghost use Rattle.word_core.specs.Text.{trace_text as text_of};
 ghost use Rattle.page_core.specs.Saved.{MaySave, StoreLeaves};
 ghost use Rattle.board_core.specs.Sound.{IsSound};
 ghost use Rattle.desk_core.specs.Told.{lines_told};
-ghost use Rattle.keep_core.specs.Ends.{kept_in, KeepsDesk, HasAll, EndsDesk, Ended, IsOf, IsEnding};
+ghost use Rattle.keep_core.specs.Ends.{kept_in, KeepsIn, HasAll, EndsIn, Ended, IsOf, IsEndingIn};
+ghost use Rattle.keep_core.specs.Moments.{moment_of};
 ghost use Rattle.keep_core.specs.Opening.{values_of};
-ghost use Rattle.keep_core.specs.Kept.{fault_by, Notes, Saves, StoresText, Traces};
+ghost use Rattle.keep_core.specs.Kept.{fault_by, Notes, SavesIn, StoresText, Traces};
 ghost use Rattle.keep_core.specs.Lines.{IsWritten, AreTold, entries_line, entries_lines, refused_line, damaged_line};
 ghost use Rattle.keep_core.specs.Lines.{files_text, unsaved_text, unsaved_line, untraced_line};
 
@@ -380,9 +381,8 @@ impl<S: Shelf + Drop, T: Shelf + Drop, H: Hand + Drop> Closing<S, T, H> {
     ) -> bool
         requires pinned { length pins.now ≡ length object.now.parts.items }
         requires within { place < length object.now.parts.items }
-        ensures saves { Saves (H.agrees self.new.hand) object.now pins.now place (place + 1) (S.holds self.old.parts)
-            (S.holds self.new.parts) result self.old.trouble self.new.trouble (W.contents writer.old)
-            (W.contents writer.new) }
+        ensures saves { SavesIn (moment_of S.holds T.holds H.agrees self.old (W.contents writer.old))
+            (moment_of S.holds T.holds H.agrees self.new (W.contents writer.new)) object.now pins.now place (place + 1) result }
         ensures files { (a : Assignment) → H.agrees self.new.hand a → H.agrees self.old.hand a }
         ensures traces { self.new.traces ≡ self.old.traces }
         ensures kept { self.new.keeps_all ≡ self.old.keeps_all }
@@ -424,9 +424,9 @@ impl<S: Shelf + Drop, T: Shelf + Drop, H: Hand + Drop> Closing<S, T, H> {
         error: &mut E,
     ) -> bool
         requires { length pins.now ≡ length object.now.parts.items }
-        ensures saves { Saves (H.agrees self.new.hand) object.now pins.now first (length object.now.parts.items)
-            (S.holds self.old.parts) (S.holds self.new.parts) result self.old.trouble self.new.trouble
-            (W.contents writer.old) (W.contents writer.new) }
+        ensures saves { SavesIn (moment_of S.holds T.holds H.agrees self.old (W.contents writer.old))
+            (moment_of S.holds T.holds H.agrees self.new (W.contents writer.new)) object.now pins.now first
+            (length object.now.parts.items) result }
         ensures files { (a : Assignment) → H.agrees self.new.hand a → H.agrees self.old.hand a }
         ensures traces { self.new.traces ≡ self.old.traces }
         ensures kept { self.new.keeps_all ≡ self.old.keeps_all }
@@ -443,9 +443,9 @@ impl<S: Shelf + Drop, T: Shelf + Drop, H: Hand + Drop> Closing<S, T, H> {
     // keeps no other one from being saved, and neither does memory that was refused once. It answers whether all are
     // saved.
     fn save_all<W: Write, E: Write>(&mut self, desk: &Desk, writer: &mut W, error: &mut E) -> bool
-        ensures saves { Saves (H.agrees self.new.hand) desk.now.object desk.now.pins 0
-            (length desk.now.object.parts.items) (S.holds self.old.parts) (S.holds self.new.parts) result
-            self.old.trouble self.new.trouble (W.contents writer.old) (W.contents writer.new) }
+        ensures saves { SavesIn (moment_of S.holds T.holds H.agrees self.old (W.contents writer.old))
+            (moment_of S.holds T.holds H.agrees self.new (W.contents writer.new)) desk.now.object desk.now.pins 0
+            (length desk.now.object.parts.items) result }
         ensures files { (a : Assignment) → H.agrees self.new.hand a → H.agrees self.old.hand a }
         ensures traces { self.new.traces ≡ self.old.traces }
         ensures kept { self.new.keeps_all ≡ self.old.keeps_all }
@@ -472,10 +472,9 @@ impl<S: Shelf + Drop, T: Shelf + Drop, H: Hand + Drop> Closing<S, T, H> {
         writer: &mut W,
         error: &mut E,
     ) -> Became
-        ensures kept { KeepsDesk (H.agrees self.new.hand) (S.holds self.old.parts) (S.holds self.new.parts)
-            (T.holds self.old.traces) (T.holds self.new.traces) desk.now (values_of opening.now) closed result
-            self.old.trouble self.new.trouble self.old.keeps_all self.new.keeps_all (W.contents writer.old)
-            (W.contents writer.new) }
+        ensures kept { KeepsIn (moment_of S.holds T.holds H.agrees self.old (W.contents writer.old))
+            (moment_of S.holds T.holds H.agrees self.new (W.contents writer.new)) desk.now (values_of opening.now) closed
+            result }
         ensures files { (a : Assignment) → H.agrees self.new.hand a → H.agrees self.old.hand a }
     {
         // Called for its contract alone: lines can tell of the board.
@@ -508,9 +507,8 @@ impl<S: Shelf + Drop, T: Shelf + Drop, H: Hand + Drop> Closing<S, T, H> {
         writer: &mut W,
         error: &mut E,
     )
-        ensures ends { EndsDesk (H.agrees self.new.hand) (S.holds self.old.parts) (S.holds self.new.parts)
-            (T.holds self.old.traces) (T.holds self.new.traces) name.now opening.now desk.now true self.old.trouble
-            self.new.trouble self.old.keeps_all self.new.keeps_all (W.contents writer.old) (W.contents writer.new) }
+        ensures ends { EndsIn (moment_of S.holds T.holds H.agrees self.old (W.contents writer.old))
+            (moment_of S.holds T.holds H.agrees self.new (W.contents writer.new)) name.now opening.now desk.now true }
         ensures files { (a : Assignment) → H.agrees self.new.hand a → H.agrees self.old.hand a }
     {
         let became = self.keep(desk, opening, true, writer, error);
@@ -528,9 +526,8 @@ impl<S: Shelf + Drop, T: Shelf + Drop, H: Hand + Drop> Closing<S, T, H> {
         writer: &mut W,
         error: &mut E,
     )
-        ensures ends { EndsDesk (H.agrees self.new.hand) (S.holds self.old.parts) (S.holds self.new.parts)
-            (T.holds self.old.traces) (T.holds self.new.traces) name.now opening.now desk.now false self.old.trouble
-            self.new.trouble self.old.keeps_all self.new.keeps_all (W.contents writer.old) (W.contents writer.new) }
+        ensures ends { EndsIn (moment_of S.holds T.holds H.agrees self.old (W.contents writer.old))
+            (moment_of S.holds T.holds H.agrees self.new (W.contents writer.new)) name.now opening.now desk.now false }
         ensures files { (a : Assignment) → H.agrees self.new.hand a → H.agrees self.old.hand a }
     {
         self.trouble.refuse();
@@ -546,9 +543,8 @@ impl<S: Shelf + Drop, T: Shelf + Drop, H: Hand + Drop> Closing<S, T, H> {
     /// the same.
     pub fn close_one<W: Write, E: Write>(&mut self, ending: Ending, writer: &mut W, error: &mut E)
         ensures ended { (e : Ended) × IsOf ending.name ending.opening ending.seats.items ending.receipts.items e
-            × IsEnding (H.agrees self.new.hand) (S.holds self.old.parts) (S.holds self.new.parts)
-            (T.holds self.old.traces) (T.holds self.new.traces) e self.old.trouble self.new.trouble self.old.keeps_all
-            self.new.keeps_all (W.contents writer.old) (W.contents writer.new) }
+            × IsEndingIn (moment_of S.holds T.holds H.agrees self.old (W.contents writer.old))
+            (moment_of S.holds T.holds H.agrees self.new (W.contents writer.new)) e }
         ensures files { (a : Assignment) → H.agrees self.new.hand a → H.agrees self.old.hand a }
     {
         let Ending {

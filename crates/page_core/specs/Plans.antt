@@ -43,7 +43,7 @@ pub record IsPlan (size : ℕ) (olds : List Stamp) (before after : List ℕ) (st
   pub plans : Plans (length stamps) olds (split_by (lengths olds) before) pages more_stamps more_writes more_gone
 
 -- the same of what is planned, before and after
-unfoldable pub AddsPlan : ℕ → List Stamp → List ℕ → List ℕ → Planned → Planned → Type 0
+abbrev pub AddsPlan : ℕ → List Stamp → List ℕ → List ℕ → Planned → Planned → Type 0
 AddsPlan size olds before after was now =
     IsPlan size olds before after was.stamps.items now.stamps.items was.writes.items now.writes.items was.gone.items
     now.gone.items

@@ -2,6 +2,7 @@
 use Rattle.std.specs.Prelude.{◌≡◌, ℕ, ◌+◌, ◌<◌, ◌≤◌, List, [], ◌∷◌, ◌++◌, length, Some, slice_get}
 use Rattle.device_core.specs.declared.hand.Stamp.{Stamp}
 use Rattle.page_core.specs.declared.plan.PageWrite.{PageWrite}
+use Rattle.page_core.specs.declared.plan.Planned.{Planned}
 use Rattle.page_core.specs.Bytes.{AreCutBy}
 use Rattle.page_core.specs.Cut.{IsPageSize}
 use Rattle.page_core.specs.Plans.{IsPlan}
@@ -56,6 +57,12 @@ pub record IsPlannedChange (pins : List PartPin) (read : List (List ℕ)) (chang
   pub some : 0 < length plan.pages
   pub counted : count ≡ length plan.pages
 
+-- the same of what is planned, before and after
+abbrev pub IsPlannedIn : List PartPin → List (List ℕ) → Change → ℕ → Planned → Planned → Type 0
+IsPlannedIn pins read change count was now =
+    IsPlannedChange pins read change count was.stamps.items now.stamps.items was.writes.items now.writes.items
+    was.gone.items now.gone.items
+
 -- what was added to three rows is the plan of changes from this part on
 pub record ArePlansFrom (pins : List PartPin) (read : List (List ℕ)) (from : ℕ) (changes : List Change)
     (counts : List ℕ) (stamps stamps_after : List Stamp) (writes writes_after : List PageWrite)
@@ -69,6 +76,12 @@ pub record ArePlansFrom (pins : List PartPin) (read : List (List ℕ)) (from : �
   pub writes_are : writes_after ≡ writes ++ more_writes
   pub gone_are : gone_after ≡ gone ++ more_gone
   pub plans : ArePlanned (length stamps) parts more_stamps more_writes more_gone
+
+-- the same of what is planned, before and after
+abbrev pub ArePlansIn : List PartPin → List (List ℕ) → ℕ → List Change → List ℕ → Planned → Planned → Type 0
+ArePlansIn pins read from changes counts was now =
+    ArePlansFrom pins read from changes counts was.stamps.items now.stamps.items was.writes.items now.writes.items
+    was.gone.items now.gone.items
 
 -- What a call has renewed, when all that was planned is sealed: its new pins are the lists of the
 -- plan, and these files go.

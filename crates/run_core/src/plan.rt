@@ -10,7 +10,7 @@ ghost use Rattle.run_core.specs.Written.{WritesInOrder, parts_changed};
 ghost use Rattle.page_core.specs.declared.plan.PageWrite.{PageWrite as AWrite};
 ghost use Rattle.page_core.specs.Cut.{IsPageSize, together};
 ghost use Rattle.page_core.specs.PartPins.{pin_at};
-ghost use Rattle.run_core.specs.CallPlanned.{IsPlanned, IsPlannedChange, ArePlansFrom, AreShort};
+ghost use Rattle.run_core.specs.CallPlanned.{IsPlanned, IsPlannedIn, ArePlansIn, AreShort};
 ghost use Rattle.run_core.specs.Changed.{AreWithin, AreKnown};
 
 use crate::judge::Change;
@@ -82,9 +82,8 @@ fn plan_change(
 ) -> Result<u8, AllocError>
     requires pinned { pin_at before.pins.now change.now.part ≢ None }
     requires read { change.now.part < length before.read.now }
-    ensures { IfOk result (λ count. IsPlannedChange before.entry.pins.now before.entry.read.now change.now count
-        planned.old.stamps.items planned.new.stamps.items planned.old.writes.items planned.new.writes.items
-        planned.old.gone.items planned.new.gone.items) }
+    ensures { IfOk result (λ count. IsPlannedIn before.entry.pins.now before.entry.read.now change.now count
+        planned.old planned.new) }
 {
     let after = change.bytes.as_slice();
     let Some(size) = cut_size(after) else {
@@ -114,9 +113,8 @@ fn plan_from(
     requires known { AreKnown before.pins.now (length before.read.now) changes.now }
     requires none { together counts.old ≡ 0 }
     requires few { part + length counts.old ≤ 16 }
-    ensures planned { OnOk result (ArePlansFrom before.entry.pins.now before.entry.read.now part changes.now counts.new
-        planned.old.stamps.items planned.new.stamps.items planned.old.writes.items planned.new.writes.items
-        planned.old.gone.items planned.new.gone.items) }
+    ensures planned { OnOk result (ArePlansIn before.entry.pins.now before.entry.read.now part changes.now counts.new
+        planned.old planned.new) }
     ensures many { length counts.new ≡ length counts.old }
 {
     let Some((count, others)) = counts.split_first_mut() else {

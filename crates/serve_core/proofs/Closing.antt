@@ -22,7 +22,7 @@ use Rattle.keep_core.proofs.Keeping.{first_nothing}
 use Rattle.keep_core.proofs.KeepEnding.{not_refused}
 use Rattle.serve_core.specs.Backed.{AreBacked}
 use Rattle.serve_core.specs.Closes.{names_of, openings_of, slips_of, AreBackedAll, lines_all, refused_all, AreStoredAll, AreTracedAll, IsWhole, AreEndings, Closes}
-use Rattle.serve_core.specs.Moments.{Moment}
+use Rattle.keep_core.specs.Moments.{Moment}
 
 every_one : {X : Type 0} (P : X → Type 0) (xs : List X) (y : X) → Every P xs → P y → Every P (xs ++ y ∷ [])
 every_one P [] y all one = (one, tt)

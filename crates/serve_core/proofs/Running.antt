@@ -28,7 +28,7 @@ use Rattle.serve_core.specs.declared.serve.ServeEnd.TheVariants.{Whole, Refused,
 use Rattle.serve_core.specs.Ends.{IsEndOf}
 use Rattle.serve_core.specs.Backed.{AreBacked}
 use Rattle.serve_core.specs.Gathers.{none_of, IsGathered}
-use Rattle.serve_core.specs.Moments.{Moment}
+use Rattle.keep_core.specs.Moments.{Moment}
 use Rattle.serve_core.specs.Opened.{AreLoadedAll, ArePinnedAll}
 use Rattle.serve_core.specs.Closes.{openings_of, slips_of, AreBackedAll, IsFromOpening, IsLegalBy, lines_all, entries_all, refused_all, IsWhole}
 use Rattle.serve_core.specs.Runs.{listening_line, fault_of_end, GathersAndCloses, AreServed, AreNotServed, IsDamagedLine, IsFirstDamagedLine, IsNotOpenedOf, IsLineOf, IsUnservedBy, IsRunOf, IsRunIn, IsRefusedBy, IsEndBehind}

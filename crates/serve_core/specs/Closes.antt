@@ -16,7 +16,7 @@ use Rattle.keep_core.specs.Lines.{AreSaid, IsOfClosing, entries_line}
 use Rattle.keep_core.specs.Kept.{AreStored, stored_times, once}
 use Rattle.keep_core.specs.Ends.{Ended, IsAtEnd, IsKept, lines_of, refused_after, trace_of}
 use Rattle.serve_core.specs.Backed.{AreBacked, AreBackedBy}
-use Rattle.serve_core.specs.Moments.{Moment}
+use Rattle.keep_core.specs.Moments.{Moment}
 
 -- the names of objects that have ended
 abbrev pub names_of : List Ended → List (List ℕ)

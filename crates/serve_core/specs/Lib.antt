@@ -1,5 +1,4 @@
 pub mod Backed
-pub mod Moments
 pub mod Handled
 pub mod Ends
 pub mod Opened

@@ -26,7 +26,7 @@ use Rattle.serve_core.specs.declared.serve.ServeEnd.{ServeEnd}
 use Rattle.serve_core.specs.declared.serve.ServeEnd.TheVariants.{Whole, Refused, Unopened}
 use Rattle.serve_core.specs.Ends.{IsEndOf}
 use Rattle.serve_core.specs.Gathers.{none_of, IsGathered}
-use Rattle.serve_core.specs.Moments.{Moment, with_trouble}
+use Rattle.keep_core.specs.Moments.{Moment, with_trouble}
 use Rattle.serve_core.specs.Opened.{AreLoadedAll, ArePinnedAll}
 use Rattle.serve_core.specs.Closes.{names_of, openings_of, slips_of, lines_all, entries_all, refused_all, IsWhole}
 use Rattle.serve_core.specs.Closes.{AreStoredAll, AreTracedAll, IsFromOpening, IsLegalBy, Closes}

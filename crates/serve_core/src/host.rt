@@ -8,7 +8,7 @@ ghost use Rattle.serve_core.specs.Backed.{AreBacked};
 ghost use Rattle.serve_core.specs.Gathers.{slips_in, none_of, IsGathered};
 ghost use Rattle.serve_core.specs.Ends.{IsEndOf};
 ghost use Rattle.serve_core.specs.Closes.{Closes};
-ghost use Rattle.serve_core.specs.Moments.{moment_of};
+ghost use Rattle.keep_core.specs.Moments.{moment_of};
 ghost use Rattle.serve_core.specs.Runs.{named_in, listening_line, GathersAndCloses, IsRunIn};
 ghost use Rattle.serve_core.specs.Runs.{AreNotServed, IsLineOf};
 

@@ -6,7 +6,7 @@ ghost use Rattle.std.specs.Arc.{arc_value};
 ghost use Rattle.page_core.specs.Numbers.{AreBetween};
 ghost use Rattle.page_core.specs.Deeds.{RemovesAll};
 ghost use Rattle.serve_core.specs.Handled.{IsHandled};
-ghost use Rattle.serve_core.specs.Moments.{moment_of};
+ghost use Rattle.keep_core.specs.Moments.{moment_of};
 ghost use Rattle.serve_core.specs.Runs.{IsRunOf, IsRunIn, IsRefusedBy, IsRun, IsEndBehind};
 ghost use Rattle.serve_core.specs.Tidies.{TidiesValues};
 
