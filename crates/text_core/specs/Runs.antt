@@ -1,6 +1,7 @@
 -- Runs of a machine over lines.
 use Rattle.std.specs.Prelude.{◌≡◌, ℕ, ◌+◌, Bool, true, false, List, [], ◌∷◌, ◌++◌, length, All, ◌==◌}
 use Rattle.std.specs.Str.Lines.{lines}
+use Rattle.text_core.specs.declared.engine.Pending.{Pending}
 
 -- from a state, the line of this number gives this text, goes on (true) or stops, and leaves a state
 abbrev pub Gives : Type 0 → Type 1
@@ -36,6 +37,11 @@ Fed gives old number text false answers new next held =
     (before : List (List ℕ)) × (line : List ℕ)
     × ((more : List ℕ) → (after : List (List ℕ)) × (lines (text ++ more) ≡ before ++ line ∷ after))
     × Stops gives old number before line answers new × (next ≡ number + length before)
+
+-- the same of what is pending, before and after a piece
+abbrev pub Feeds : {S : Type 0} → Gives S → S → Pending → List ℕ → Bool → List ℕ → S → Pending → Type 0
+Feeds gives old was piece goes answers new now =
+    Fed gives old was.number (was.held.items ++ piece) goes answers new now.number now.held.items
 
 -- what the end of the text does: what is held is the last line, if it is any
 abbrev pub Finished : {S : Type 0} → Gives S → S → ℕ → List ℕ → Bool → List ℕ → S → Type 0

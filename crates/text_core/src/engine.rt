@@ -73,7 +73,7 @@ struct Pending {
 }
 
 impl Pending {
-    ghost use Rattle.text_core.specs.Runs.{Fed, Finished};
+    ghost use Rattle.text_core.specs.Runs.{Feeds, Finished};
 
     // Answers each line that is whole with this piece, up to one that stops the run.
     fn feed<M: Machine>(&mut self, machine: &mut M, piece: &[u8]) -> Result<bool, AllocError>
@@ -82,8 +82,7 @@ impl Pending {
         ensures held { result ≡ Ok true → NoLineFeed self.new.held.items }
         ensures room { OnOk result (self.new.number ≤ self.old.number + length piece.now) }
         ensures fed { IfOk result (λ goes. (answers : List ℕ) × (self.new.out.items ≡ self.old.out.items ++ answers)
-            × Fed M.gives machine.old self.old.number (self.old.held.items ++ piece.now) goes answers machine.new
-            self.new.number self.new.held.items) }
+            × Feeds M.gives machine.old self.old piece.now goes answers machine.new self.new) }
     {
         let mut rest = piece;
         while let Some((front, back)) = split_line(rest) {
