@@ -1,13 +1,14 @@
-"""Looks whether crates.txt and the folders of crates/ agree, whether each crate names what it is said to stand on, and
-whether each type has a name of its own.
+"""Looks whether crates.txt and the folders of crates/ agree, whether each crate names what it is said to stand on,
+whether each type has a name of its own, and whether each clause is short.
 
 usage: gate/try_crates
 
 Each crate has a line, and a folder with its root file; each word behind the colon of a line stands as a word in a file of
 that crate's src/, specs/ or proofs/. A name of a struct, an enum, a trait or a type in src/ stands once in the
 repository. gate/type_names.txt has those that do not, each with its crates, one that has it twice told twice. That list
-may only shrink: what is not in it fails, and so does what is in it and is so no more. Then small repositories are
-looked at in which this is not so.
+may only shrink: what is not in it fails, and so does what is in it and is so no more. What a clause of a function says
+has at most eight arguments: more of them are the parts of a state, which has a name. Then small repositories are looked
+at in which this is not so.
 
 The last line is `try_crates: N passed, M failed`; the exit status is 0 where M is 0 and N is not.
 """
@@ -24,6 +25,11 @@ WORD = re.compile(r"\w+")
 ROOTS = ("src/lib.rt", "src/main.rt")
 TYPE = re.compile(r"^(?:pub(?:\([\w ]+\))? )?(?:struct|enum|trait|type|union) (\w+)", re.M)
 NAMES = "gate/type_names.txt"
+CLAUSE = re.compile(r"\b(?:ensures|requires)\b[*]?[^{;\n]*\{")
+# The signs of clauses that stand between two applications, and brackets.
+SIGN = re.compile(r"(?:λ[^.]*\. )|[()\[\]{};]|[^\s()\[\]{};]+")
+BETWEEN = frozenset("≡ ≢ × ⊎ ↔ → ∷ ++ + - * / ^ == && || < ≤ > ≥ = : , ; if then else in ∸ λ".split())
+MOST = 8
 
 
 def words_in(folder):
@@ -69,10 +75,49 @@ def faults_of_type(name, found, told):
     return said + [f"{name} names a type of {it} no more: take {it} out of its line in {NAMES}" for it in sorted(gone.elements())]
 
 
+def clauses_in(source):
+    """The clauses of functions in a source, each with the line at which it begins."""
+    for found in CLAUSE.finditer(source):
+        depth, end = 1, found.end()
+        while depth and end < len(source):
+            depth += {"{": 1, "}": -1}.get(source[end], 0)
+            end += 1
+        yield source.count("\n", 0, found.start()) + 1, source[found.end() : end - 1]
+
+
+def widths_of(clause):
+    """What is applied in a clause, each with the number of its arguments. What stands in brackets is one of them."""
+    stack, found = [[]], []
+    for sign in [*SIGN.findall(clause), ")"]:
+        if sign in BETWEEN or sign in tuple(")]};") or sign.startswith("λ"):
+            found += [(stack[-1][0], len(stack[-1]) - 1)] if stack[-1] else []
+            stack[-1] = []
+        if sign in tuple(")]}") and len(stack) > 1:
+            stack.pop()
+            stack[-1].append("()")
+        elif sign in tuple("([{"):
+            stack.append([])
+        elif not (sign in BETWEEN or sign in tuple(")]};") or sign.startswith("λ")):
+            stack[-1].append(sign)
+    return found
+
+
+def faults_of_clauses(top, crate):
+    """Which clauses of the functions of a crate have something of too many arguments."""
+    for file in (it for it in repository.files(top / "crates" / crate / "src") if it.suffix == ".rt"):
+        for line, clause in clauses_in(file.read_text(encoding="utf-8")):
+            for name, width in widths_of(clause):
+                if width > MOST:
+                    place = file.relative_to(top / "crates")
+                    yield f"{place}:{line}: {name} has {width} arguments, and may have {MOST}: give a state a name"
+
+
 def faults_in(top):
     """What is wrong with the crates of the repository at this folder and its types, by their names."""
     lines = repository.crates(top)
     said = {name: faults_of(name, line, top / "crates" / name) for name, line in lines.items()}
+    for name in lines:
+        said[f"the clauses of {name}"] = list(faults_of_clauses(top, name))
     for it in sorted((top / "crates").iterdir()):
         # What was built of a crate may outlive it.
         if it.is_dir() and it.name not in lines and any(at.name != "out" for at in it.iterdir()):
@@ -90,6 +135,16 @@ TYPES = {
     "low/src/more.rt": "pub(crate) enum Row<'a> {}\n    type Item = Row;\n",
     "top/src/main.rt": "use low::one;\ntrait Row {}\npub struct Path(u8);\nfn rows() {}\n",
 }
+CLAUSES = {
+    "low/src/lib.rt": """pub fn one(rows: &[u8])
+    requires few { Are (length rows.now) 1 2 3 4 5 6 7 }
+    ensures { IfOk result (λ r. Are r 1 2 3 4 5 6 (7 ∷ []) 8) × (
+        Are 1 2 3 4 5 (record { a = 6; b = 7; }) 8 9 ≡ none) }
+{
+    two(1, 2, 3, 4, 5, 6, 7, 8, 9)
+}
+""",
+}
 SPOILT = (
     ("nothing", FILES, "low:\ntop: low std\n", []),
     ("a crate that is not named", FILES, "low:\ntop: low std regex\n", ["crates.txt has top stand on regex, which top never names"]),
@@ -101,6 +156,8 @@ SPOILT = (
      ["crates.txt has top_vectors, and there is no crates/top_vectors with src/lib.rt or src/main.rt"]),
     ("a line that is missing", FILES, "top: low std\n", ["crates.txt has no line for crates/low"]),
     ("what was built of a crate that is gone", {**FILES, "gone/out/log": ""}, "low:\ntop: low\n", []),
+    ("a clause that is long", {**FILES, **CLAUSES}, "low:\ntop: low\n",
+     ["low/src/lib.rt:3: Are has 9 arguments, and may have 8: give a state a name"]),
     *(
         (what, {**FILES, **TYPES, f"../{NAMES}": told}, "low:\ntop: low\n", wanted)
         for what, told, wanted in (

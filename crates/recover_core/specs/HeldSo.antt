@@ -70,3 +70,15 @@ TakesBy o holds line session number name values old false new =
     ((op r : ℕ) → operation_in o name ≡ Some op → hold_of_op holds op ≡ Some r → IsHeldBy o op values →
     line ≡ words_text (row_words (codes "held") (held_words o holds) (held_so session number r values)) → ⊥)
     × (new ≡ old)
+
+-- a line that says what is held, and what its words say
+pub record HeldLine : Type 0 where
+  pub line : List ℕ
+  pub session : ℕ
+  pub number : ℕ
+  pub name : List ℕ
+  pub values : List Datum
+
+-- the same, by such a line
+abbrev pub TakesLine : ObjectForm → List HoldForm → HeldLine → List HeldCall → Bool → List HeldCall → Type 0
+TakesLine o holds l old taken new = TakesBy o holds l.line l.session l.number l.name l.values old taken new

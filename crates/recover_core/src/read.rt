@@ -12,7 +12,7 @@ ghost use Rattle.front_read.specs.Calls.{operation_in};
 ghost use Rattle.decl_core.specs.HoldForm.{reply_sorts};
 ghost use Rattle.decl_core.specs.HoldMap.{holds_of};
 ghost use Rattle.front_read.specs.HeldLines.{held_with};
-ghost use Rattle.recover_core.specs.HeldSo.{held_head as held_head_in, head_view, FindsRule, TakesBy, TakesHeld, TakesSo};
+ghost use Rattle.recover_core.specs.HeldSo.{held_head as held_head_in, head_view, FindsRule, TakesHeld, TakesLine, TakesSo};
 
 use crate::number::{behind_verb, long_first, object_has_names, session_first};
 use decl_core::hold::Hold;
@@ -186,8 +186,13 @@ fn take_by(
     values: &[Datum],
     all: &mut Holds,
 ) -> Result<bool, AllocError>
-    ensures { IfOk result (λ taken. TakesBy (object_of object.now) (holds_of holds.now) line.now session number name.now values.now
-        all.old taken all.new) }
+    ensures { IfOk result (λ taken. TakesLine (object_of object.now) (holds_of holds.now) (record {
+      line = line.now;
+      session = session;
+      number = number;
+      name = name.now;
+      values = values.now;
+    }) all.old taken all.new) }
 {
     are_data(values);
     match rule_for(object, holds, name, values) {
