@@ -4,9 +4,9 @@ ghost use Rattle.std.specs.Prelude.{◌≡◌, ◌+◌, ◌*◌, ◌≤◌, [], 
 ghost use Rattle.std.specs.Arc.{arc_value};
 ghost use Rattle.page_core.specs.PartPins.{pins_in, room_in, count_pages};
 ghost use Rattle.apply_core.specs.Fits.{ArgumentsFit};
-ghost use Rattle.run_core.specs.Calls.{HasPins, call_of};
-ghost use Rattle.run_core.specs.Tickets.{ticket_call};
-ghost use Rattle.run_core.specs.Outcomes.{if_done};
+ghost use Rattle.call_core.specs.Calls.{HasPins, call_of};
+ghost use Rattle.call_core.specs.Tickets.{ticket_call};
+ghost use Rattle.call_core.specs.Outcomes.{if_done};
 ghost use Rattle.board_core.specs.Calls.{noted_of};
 ghost use Rattle.board_core.specs.Board.{read_pins};
 
@@ -15,6 +15,7 @@ use crate::entry::Entry;
 use apply_core::reply::Reply;
 use apply_core::short::Short;
 use apply_core::slim::Slims;
+use call_core::ticket::Ticket;
 use decl_core::footprint::{is_in, reads};
 use decl_core::id::MOST_PARTS;
 use decl_core::object::Operation;
@@ -23,7 +24,6 @@ use page_core::page_list::PageList;
 use page_core::part_pins::PartPins;
 use page_core::pins::Pins;
 use path_tree::node::OpId;
-use run_core::ticket::Ticket;
 use std::alloc::{AllocError, Global};
 use std::marker::Model;
 use std::mem;

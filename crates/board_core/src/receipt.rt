@@ -2,13 +2,13 @@
 
 ghost use Rattle.std.specs.Prelude.{◌≡◌, [], IfSome, IfNone};
 ghost use Rattle.std.specs.Arc.{arc_value};
-ghost use Rattle.run_core.specs.Outcomes.{outcome_call, outcome_reply, outcome_pins};
+ghost use Rattle.call_core.specs.Outcomes.{outcome_call, outcome_reply, outcome_pins};
 
 use apply_core::reply::Reply;
+use call_core::outcome::Outcome;
 use decl_core::object::Operation;
 use device_core::hand::Stamp;
 use page_core::part_pins::PartPins;
-use run_core::outcome::Outcome;
 use std::sync::Arc;
 use value_core::datum::Datum;
 

@@ -23,8 +23,8 @@ use crate::seat::{CompleteFault, NotTaken, Submitted, Tried};
 use board_core::answer::Kept;
 use board_core::entry::Entry;
 use board_core::receipt::Receipt;
+use call_core::outcome::Outcome;
 use guest_core::answer::{KeyedFault, SubmitFault};
-use run_core::outcome::Outcome;
 use std::sync::Wait;
 use value_core::datum::Datum;
 

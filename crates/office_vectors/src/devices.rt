@@ -15,7 +15,7 @@ use page_core::save::{SaveFault, save_parts};
 use run_core::at_once::run_at_once;
 use run_core::perform::perform;
 use run_core::run::Run;
-use run_core::ticket::Ticket;
+use call_core::ticket::Ticket;
 use std::alloc::Global;
 use std::process::Abort;
 use value_core::datum::Datum;

@@ -10,7 +10,7 @@ use office_core::office::Office;
 use office_core::seat::{Seat, Started, Submitted};
 use page_core::open::open_parts;
 use page_core::pins::Pins;
-use run_core::ticket::Ticket;
+use call_core::ticket::Ticket;
 use std::alloc::Global;
 use std::process::Abort;
 use std::sync::Wait;

@@ -5,16 +5,12 @@ use Rattle.std.proofs.lemmas.Bool.{eqb-true}
 use Rattle.decl_core.specs.Form.{Statements}
 use Rattle.decl_core.specs.Touched.{Writes}
 use Rattle.device_core.specs.declared.hand.Stamp.{Stamp}
-use Rattle.apply_core.specs.declared.reply.Reply.{Reply}
-use Rattle.apply_core.specs.declared.reply.Reply.TheVariants.{Done, Refused, Failed}
 use Rattle.page_core.specs.declared.plan.PageWrite.{PageWrite}
 use Rattle.page_core.specs.Laws.{PartRenewal}
 use Rattle.page_core.specs.PartPins.{PartPin, pin_at, pins_by}
 use Rattle.run_core.specs.declared.judge.Change.{Change}
 use Rattle.run_core.specs.Written.{WritesInOrder, parts_changed}
-use Rattle.run_core.proofs.Touching.{surely, written_or_not}
 use Rattle.run_core.specs.CallPlanned.{AreRenewals, no_part, same, renewed, IsPlanned}
-use Rattle.run_core.specs.Outcomes.{if_done}
 
 -- there is none
 pub none_has : (pins : List PartPin) (p : ℕ) → pins ≡ [] → pin_at pins p ≢ None → ⊥
@@ -50,13 +46,3 @@ planned_writes all pins read p from low changes parts counts row (renewed change
 pub plan_writes : (all : Statements) (pins : List PartPin) (read : List (List ℕ)) (changes : List Change) (counts : List ℕ) (stamps row : List Stamp) (writes : List PageWrite) (gone : List Stamp) (p : ℕ) → IsPlanned pins read changes counts stamps writes gone → WritesInOrder all 0 (parts_changed changes)
     → pin_at (pins_by 0 counts row) p ≢ None → Writes all p
 plan_writes all pins read changes counts stamps row writes gone p plan order some = planned_writes all pins read p 0 0 changes plan.parts counts row plan.renewals order some
-
--- what is not otherwise than written is written
-pub surely_written : (all : Statements) (p : ℕ) → ((Writes all p → ⊥) → ⊥) → Writes all p
-surely_written all p h = surely (written_or_not all p) h
-
--- a part that has a new pin where the body was done has one of the lists
-pub done_has : (reply : Reply) (news : List PartPin) (p : ℕ) → pin_at (if_done reply news) p ≢ None → pin_at news p ≢ None
-done_has (Done reply) news p some = some
-done_has (Refused word) news p some = absurd (some refl)
-done_has (Failed failure) news p some = absurd (some refl)

@@ -13,7 +13,6 @@ pub mod Writing
 pub mod WritingAll
 pub mod Changes
 pub mod DecodedParts
-pub mod Touching
 pub mod Completing
 pub mod Deciding
 pub mod Stopping

@@ -97,7 +97,3 @@ pub record AreNewPins (pins : List PartPin) (read : List (List ℕ)) (changes : 
 -- counts of pages: each part has at most 8
 abbrev pub AreShort : List ℕ → Type 0
 AreShort counts = (k count : ℕ) → slice_get counts k ≡ Some count → count ≤ 8
-
--- each part that has a pin has from 1 to 8 pages
-abbrev pub AreSized : List PartPin → Type 0
-AreSized pins = (p : ℕ) (pages : List Stamp) → pin_at pins p ≡ Some pages → (0 < length pages) × (length pages ≤ 8)

@@ -1,6 +1,5 @@
 pub mod AtOnce
 pub mod Calling
-pub mod Outcomes
 pub mod Phases
 pub mod Runs
 pub mod Steps
@@ -12,14 +11,11 @@ pub mod Wholes
 pub mod Judged
 pub mod Grown
 pub mod Planned
-pub mod Calls
 pub mod Changed
 pub mod Laws
 pub mod CallPlanned
 pub mod Read
 pub mod Tasks
-pub mod Tickets
-pub mod Truths
 pub mod Seen
 pub mod Placed
 pub mod SeenLaws

@@ -3,7 +3,7 @@
 ghost use Rattle.std.specs.Prelude.{◌≡◌, ◌≢◌, ◌≤◌, ◌↔◌, ℕ, IsTrue, None};
 ghost use Rattle.std.specs.Int.{bit_at};
 ghost use Rattle.page_core.specs.PartPins.{pin_at};
-ghost use Rattle.run_core.specs.Calls.{HasPins};
+ghost use Rattle.call_core.specs.Calls.{HasPins};
 
 use decl_core::footprint::{is_in, reads};
 use decl_core::id::MOST_PARTS;

@@ -12,7 +12,8 @@ ghost use Rattle.apply_core.specs.Pages.{page_of as in_page};
 ghost use Rattle.apply_core.specs.Fits.{ArgumentsFit};
 ghost use Rattle.known_core.specs.Wanted.{AreMasksFor};
 ghost use Rattle.known_core.specs.declared.act.Stop.TheVariants as stops;
-ghost use Rattle.run_core.specs.Given.{AreSpelled, IsDamaged, AreChanges};
+ghost use Rattle.call_core.specs.Given.{AreSpelled, IsDamaged};
+ghost use Rattle.run_core.specs.Given.{AreChanges};
 ghost use Rattle.run_core.specs.Verdicts.{ReadAs, Rising, AreBits, ReadsNone, HasReads, IsPart, IsChangeOf, IsStep};
 ghost use Rattle.run_core.specs.Verdicts.{MayLeave};
 

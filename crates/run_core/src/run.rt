@@ -8,7 +8,7 @@ ghost use Rattle.device_core.specs.declared.hand.Stamp.{Stamp};
 ghost use Rattle.device_core.specs.Device.{Assignment, IsFree, Failed as DeviceFailed};
 ghost use Rattle.apply_core.specs.declared.reply.Failure.TheVariants as failures;
 ghost use Rattle.apply_core.specs.declared.reply.Reply.TheVariants as replies;
-ghost use Rattle.run_core.specs.Truths.{IsTrueOf, PinsAreWhole};
+ghost use Rattle.call_core.specs.Truths.{IsTrueOf, PinsAreWhole};
 ghost use Rattle.run_core.specs.Tasks.{task_call};
 ghost use Rattle.run_core.specs.Steps.{Starts, Follows, FailsWith, AreServed, PinsServed, ReadsItsPart, place_in};
 ghost use Rattle.run_core.specs.Steps.{need_at};
@@ -19,15 +19,15 @@ ghost use Rattle.page_core.specs.PartPins.{pin_at};
 use crate::advance::advance;
 use crate::conclude::conclude;
 use crate::ending::{nothing, outcome_of};
-use crate::outcome::Outcome;
 use crate::phase::{Phase, Read, let_go};
 use crate::seen::Seen;
 use crate::seen_laws::{all_is_seen, next_is_seen, none_is_seen};
 use crate::step::StepAnswer;
 use crate::task::Task;
-use crate::ticket::Ticket;
 use apply_core::need::Need;
 use apply_core::reply::{Failure, Reply};
+use call_core::outcome::Outcome;
+use call_core::ticket::Ticket;
 use device_core::hand::Hand;
 use std::alloc::Global;
 use std::mem;
@@ -76,9 +76,9 @@ fn first_phase(alloc: Global, task: &Task) -> Phase
 }
 
 impl Run {
-    ghost use Rattle.run_core.specs.Tickets.{ticket_call};
-    ghost use Rattle.run_core.specs.Outcomes.{outcome_call, outcome_reply, outcome_sealed, outcome_news, outcome_gone};
-    ghost use Rattle.run_core.specs.Outcomes.{outcome_pins, IsFresh};
+    ghost use Rattle.call_core.specs.Tickets.{ticket_call};
+    ghost use Rattle.call_core.specs.Outcomes.{outcome_call, outcome_reply, outcome_sealed, outcome_news, outcome_gone};
+    ghost use Rattle.call_core.specs.Outcomes.{outcome_pins, IsFresh};
     ghost use Rattle.apply_core.specs.declared.need.Need.TheVariants as needs;
     ghost use Rattle.run_core.specs.Runs.{run_call, run_ending, run_sealed, run_pen, run_place, run_work, RunMakes};
     ghost use Rattle.run_core.specs.Runs.{PenHolds, SoFar};

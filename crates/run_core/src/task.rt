@@ -8,7 +8,7 @@ ghost use Rattle.decl_core.specs.Touched.{Reads};
 ghost use Rattle.apply_core.specs.Fits.{ArgumentsFit};
 ghost use Rattle.page_core.specs.PartPins.{pin_at};
 
-use crate::ticket::Ticket;
+use call_core::ticket::Ticket;
 use decl_core::footprint::{is_in, reads};
 use decl_core::id::MOST_PARTS;
 use decl_core::object::Operation;
@@ -70,19 +70,14 @@ pub fn pages_of(pins: &PartPins, part: usize) -> &[Stamp]
 
 impl Task {
     ghost use Rattle.run_core.specs.Tasks.{task_call};
-    ghost use Rattle.run_core.specs.Tickets.{ticket_call};
-    ghost use Rattle.run_core.specs.Calls.{IsNext, ReadsNone};
+    ghost use Rattle.call_core.specs.Tickets.{ticket_call};
+    ghost use Rattle.call_core.specs.Calls.{IsNext, ReadsNone};
 
     /// The call of a ticket. It takes no memory.
     pub fn new(ticket: Ticket) -> Task
         ensures { task_call result ≡ ticket_call ticket }
     {
-        let Ticket {
-            number,
-            operation,
-            args,
-            pins,
-        } = ticket;
+        let (number, operation, args, pins) = ticket.into_parts();
         let reads = reads(&operation);
         Task {
             number,

@@ -14,7 +14,7 @@ use Rattle.text_core.specs.Runs.{Runs}
 use Rattle.apply_core.specs.declared.reply.Failure.TheVariants as failures
 use Rattle.apply_core.specs.declared.reply.Reply.{Reply}
 use Rattle.apply_core.specs.declared.reply.Reply.TheVariants as replies
-use Rattle.run_core.specs.Calls.{Call}
+use Rattle.call_core.specs.Calls.{Call}
 use Rattle.apply_core.specs.History.{IsLegal, IsReplyOn, left_by, leads_to}
 use Rattle.apply_core.specs.HistoryLaws.{LegalByOne, LeadsByOne}
 use Rattle.board_core.specs.declared.event.TraceEvent.{TraceEvent}

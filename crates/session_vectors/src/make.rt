@@ -14,7 +14,7 @@ use page_core::page_list::PageList;
 use page_core::pins::Pins;
 use path_tree::name::Name;
 use run_core::at_once::run_at_once;
-use run_core::ticket::Ticket;
+use call_core::ticket::Ticket;
 use session_core::end::SessionEnd;
 use session_core::order::Named;
 use session_core::serve::{Connection, serve_session};

@@ -1,7 +1,7 @@
 use Rattle.std.specs.Arc.{arc_value}
 use Rattle.decl_core.specs.Bodies.{body_of}
-use Rattle.run_core.proofs.Inside.{surely_written, done_has}
-use Rattle.run_core.proofs.outcome.Outcome.new_pins.Goals as goal
+use Rattle.call_core.proofs.Inside.{surely_written, done_has}
+use Rattle.call_core.proofs.outcome.Outcome.new_pins.Goals as goal
 
 pub returns-in-Done-clause-inside : goal.returns-in-Done-clause-inside
 returns-in-Done-clause-inside c = λ p has.

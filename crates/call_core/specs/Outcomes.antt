@@ -5,8 +5,8 @@ use Rattle.device_core.specs.declared.hand.Stamp.{Stamp}
 use Rattle.apply_core.specs.declared.reply.Reply.{Reply}
 use Rattle.apply_core.specs.declared.reply.Reply.TheVariants.{Done, Refused, Failed}
 use Rattle.page_core.specs.PartPins.{PartPin}
-use Rattle.run_core.specs.Calls.{Call, call_of}
-use Rattle.run_core.specs.declared.outcome.Outcome.{Outcome}
+use Rattle.call_core.specs.Calls.{Call, call_of}
+use Rattle.call_core.specs.declared.outcome.Outcome.{Outcome}
 
 abbrev pub outcome_call : Outcome → Call
 outcome_call o = call_of o.number (arc_value o.operation) o.args.items o.pins

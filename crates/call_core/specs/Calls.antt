@@ -1,9 +1,10 @@
 -- What a call is, and which pins it needs.
-use Rattle.std.specs.Prelude.{◌≢◌, ℕ, ◌<◌, ◌≤◌, List, None}
+use Rattle.std.specs.Prelude.{◌≡◌, ◌≢◌, ℕ, ◌<◌, ◌≤◌, List, None, Some, length}
 use Rattle.value_core.specs.declared.datum.Datum.{Datum}
 use Rattle.decl_core.specs.declared.object.Operation.{Operation}
 use Rattle.decl_core.specs.Bodies.{body_of}
 use Rattle.decl_core.specs.Touched.{Reads}
+use Rattle.device_core.specs.declared.hand.Stamp.{Stamp}
 use Rattle.page_core.specs.PartPins.{PartPin, pin_at}
 
 -- a call: its number, its operation, its arguments, and the pins of the parts that it reads
@@ -31,3 +32,7 @@ pub record IsNext (call : Call) (from part : ℕ) : Type 0 where
   pub behind : from ≤ part
   pub first : (q : ℕ) → Reads (body_of call.operation).statements q → from ≤ q → q < part → ⊥
   pub pinned : pin_at call.pins part ≢ None
+
+-- each part that has a pin has from 1 to 8 pages
+abbrev pub AreSized : List PartPin → Type 0
+AreSized pins = (p : ℕ) (pages : List Stamp) → pin_at pins p ≡ Some pages → (0 < length pages) × (length pages ≤ 8)

@@ -3,7 +3,7 @@
 ghost use Rattle.std.specs.Prelude.{◌≡◌};
 ghost use Rattle.std.specs.Arc.{arc_value};
 ghost use Rattle.apply_core.specs.Fits.{ArgumentsFit};
-ghost use Rattle.run_core.specs.Calls.{HasPins};
+ghost use Rattle.call_core.specs.Calls.{HasPins};
 
 use decl_core::object::Operation;
 use page_core::part_pins::PartPins;
@@ -12,10 +12,10 @@ use value_core::datum::Datum;
 
 /// A call of an operation that was admitted, with the pins that it reads. It has to be spent, by a run.
 pub struct Ticket {
-    pub(crate) number: u32,
-    pub(crate) operation: Arc<Operation>,
-    pub(crate) args: Vec<Datum>,
-    pub(crate) pins: PartPins,
+    number: u32,
+    operation: Arc<Operation>,
+    args: Vec<Datum>,
+    pins: PartPins,
     // the arguments are as many as the parameters, each of its sort
     ghost fits: { ArgumentsFit (arc_value operation) args.items },
     // each part that the operation reads has a pin
@@ -23,8 +23,8 @@ pub struct Ticket {
 }
 
 impl Ticket {
-    ghost use Rattle.run_core.specs.Tickets.{ticket_call};
-    ghost use Rattle.run_core.specs.Calls.{call_of};
+    ghost use Rattle.call_core.specs.Tickets.{ticket_call};
+    ghost use Rattle.call_core.specs.Calls.{call_of};
 
     /// The call of this number. The arguments have to fit the operation's parameters, and each part that it
     /// reads has to have a pin. It takes no memory.
@@ -39,5 +39,20 @@ impl Ticket {
             args,
             pins,
         }
+    }
+
+    /// Its number, its operation, its arguments and its pins.
+    pub fn into_parts(self) -> (u32, Arc<Operation>, Vec<Datum>, PartPins)
+        ensures call { call_of result.0 (arc_value result.1) result.2.items result.3 ≡ ticket_call self }
+        ensures fits { ArgumentsFit (arc_value result.1) result.2.items }
+        ensures pinned { HasPins (arc_value result.1) result.3 }
+    {
+        let Ticket {
+            number,
+            operation,
+            args,
+            pins,
+        } = self;
+        (number, operation, args, pins)
     }
 }

@@ -12,8 +12,8 @@ use Rattle.apply_core.specs.declared.reply.Reply.TheVariants.{Done, Refused, Fai
 use Rattle.apply_core.specs.Fits.{IsNamed}
 use Rattle.page_core.specs.Bytes.{list_bytes, AreWhole}
 use Rattle.page_core.specs.PartPins.{PartPin, pin_at}
-use Rattle.run_core.specs.Given.{IsDone, IsRefused, IsDamaged}
-use Rattle.run_core.specs.Calls.{Call}
+use Rattle.call_core.specs.Given.{IsDone, IsRefused, IsDamaged}
+use Rattle.call_core.specs.Calls.{Call}
 
 -- these are the bytes under the pin of this part
 abbrev pub PinHolds : Assignment → List PartPin → ℕ → List ℕ → Type 0

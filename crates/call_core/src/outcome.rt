@@ -5,8 +5,9 @@ ghost use Rattle.std.specs.Arc.{arc_value};
 ghost use Rattle.decl_core.specs.Bodies.{body_of};
 ghost use Rattle.decl_core.specs.Touched.{Writes};
 ghost use Rattle.page_core.specs.PartPins.{pin_at};
-ghost use Rattle.run_core.specs.CallPlanned.{AreSized};
+ghost use Rattle.call_core.specs.Calls.{AreSized};
 
+use crate::ticket::Ticket;
 use apply_core::reply::Reply;
 use decl_core::id::MOST_PARTS;
 use decl_core::object::Operation;
@@ -19,19 +20,19 @@ use value_core::datum::Datum;
 /// How a run of a call ended. A run alone makes one.
 #[derive(Drop)]
 pub struct Outcome {
-    pub(crate) number: u32,
-    pub(crate) operation: Arc<Operation>,
-    pub(crate) args: Vec<Datum>,
-    pub(crate) pins: PartPins,
-    pub(crate) reply: Reply,
+    number: u32,
+    operation: Arc<Operation>,
+    args: Vec<Datum>,
+    pins: PartPins,
+    reply: Reply,
     // the new page lists of the parts that the body changed
-    pub(crate) news: PartPins,
+    news: PartPins,
     // the new page lists once more, for the entry, until they are taken
-    pub(crate) entry: PartPins,
+    entry: PartPins,
     // the files of the old lists that are not in these, in order
-    pub(crate) gone: Vec<Stamp>,
+    gone: Vec<Stamp>,
     // the files that the run sealed, in order
-    pub(crate) sealed: Vec<Stamp>,
+    sealed: Vec<Stamp>,
     // each of its new page lists has from 1 to 8 pages
     ghost sized: { AreSized news },
     // its new page lists are of parts that the operation writes
@@ -39,8 +40,44 @@ pub struct Outcome {
 }
 
 impl Outcome {
-    ghost use Rattle.run_core.specs.Outcomes.{outcome_call, outcome_reply, outcome_news, outcome_sealed, outcome_pins};
-    ghost use Rattle.run_core.specs.Outcomes.{outcome_free, outcome_entry, IsFresh, TellsSame};
+    ghost use Rattle.call_core.specs.Outcomes.{outcome_call, outcome_reply, outcome_news, outcome_sealed, outcome_pins};
+    ghost use Rattle.call_core.specs.Outcomes.{outcome_free, outcome_entry, outcome_gone, IsFresh, TellsSame};
+    ghost use Rattle.call_core.specs.Tickets.{ticket_call};
+
+    /// How the call of a ticket ended: its reply, the new page lists of the parts that its body changed, these once more
+    /// for the entry, the files of the old lists that are not in the new ones, and the files that the run sealed. It takes
+    /// no memory.
+    pub fn of(
+        ticket: Ticket,
+        reply: Reply,
+        news: PartPins,
+        entry: PartPins,
+        gone: Vec<Stamp>,
+        sealed: Vec<Stamp>,
+    ) -> Outcome
+        requires sized { AreSized news }
+        requires inside { (p : ℕ) → pin_at news p ≢ None →
+            (Writes (body_of (ticket_call ticket).operation).statements p → ⊥) → ⊥ }
+        ensures call { outcome_call result ≡ ticket_call ticket }
+        ensures reply { outcome_reply result ≡ reply }
+        ensures news { outcome_news result ≡ news }
+        ensures entry { outcome_entry result ≡ entry }
+        ensures gone { outcome_gone result ≡ gone.items }
+        ensures sealed { outcome_sealed result ≡ sealed.items }
+    {
+        let (number, operation, args, pins) = ticket.into_parts();
+        Outcome {
+            number,
+            operation,
+            args,
+            pins,
+            reply,
+            news,
+            entry,
+            gone,
+            sealed,
+        }
+    }
 
     /// The number of the call.
     pub fn number(&self) -> u32
