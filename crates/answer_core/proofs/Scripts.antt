@@ -10,8 +10,8 @@ use Rattle.text_core.proofs.Known.{Appends-none}
 use Rattle.check_core.specs.Named.{IsHead}
 use Rattle.check_core.specs.Opening.{IsReady, IsTold}
 use Rattle.check_core.proofs.Heads.{told_alike, ready_alike}
-use Rattle.script_core.specs.Run.{IsScript, IsFront}
-use Rattle.script_core.specs.declared.script.ScriptEnd.{ScriptEnd}
+use Rattle.world_core.specs.Run.{IsScript, IsFront}
+use Rattle.world_core.specs.declared.script.ScriptEnd.{ScriptEnd}
 use Rattle.text_core.specs.declared.machine.LinesFault.{LinesFault}
 use Rattle.text_core.specs.declared.machine.LinesFault.TheVariants as faults
 use Rattle.answer_core.specs.declared.failure.Failure.{Failure}

@@ -3,8 +3,8 @@ use Rattle.std.specs.Prelude.{ℕ, List, [], take}
 use Rattle.decl_core.specs.declared.object.Object.{Object}
 use Rattle.decl_core.specs.ObjectMap.{object_of}
 use Rattle.check_core.specs.Opening.{IsReady, IsTold}
-use Rattle.script_core.specs.Run.{IsScript, IsFront}
-use Rattle.script_core.specs.declared.script.ScriptEnd.{ScriptEnd}
+use Rattle.world_core.specs.Run.{IsScript, IsFront}
+use Rattle.world_core.specs.declared.script.ScriptEnd.{ScriptEnd}
 use Rattle.answer_core.specs.Status.{script_status}
 
 -- the exit status, and all that is written

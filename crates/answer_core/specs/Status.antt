@@ -16,8 +16,8 @@ use Rattle.check_core.specs.declared.report.CheckFault.{CheckFault}
 use Rattle.check_core.specs.declared.report.CheckFault.TheVariants as check_faults
 use Rattle.check_core.specs.declared.report.CheckEnd.{CheckEnd}
 use Rattle.check_core.specs.declared.report.CheckEnd.TheVariants as check_ends
-use Rattle.script_core.specs.declared.script.ScriptEnd.{ScriptEnd}
-use Rattle.script_core.specs.declared.script.ScriptEnd.TheVariants as script_ends
+use Rattle.world_core.specs.declared.script.ScriptEnd.{ScriptEnd}
+use Rattle.world_core.specs.declared.script.ScriptEnd.TheVariants as script_ends
 
 -- `paths`: 0 where each line was answered, 1 where one ended the run
 abbrev pub paths_status : LinesEnd → ℕ

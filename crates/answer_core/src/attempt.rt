@@ -2,16 +2,16 @@
 
 ghost use Rattle.std.specs.Prelude.{◌≡◌, ℕ, List, IfOk, IfErr, IfSome};
 ghost use Rattle.std.specs.Io.KnownBytes.{Appends};
-ghost use Rattle.script_core.specs.Tries.{texts_in};
-ghost use Rattle.script_core.specs.PromptRun.{IsTried, IsTriedFront};
+ghost use Rattle.world_core.specs.Tries.{texts_in};
+ghost use Rattle.world_core.specs.PromptRun.{IsTried, IsTriedFront};
 ghost use Rattle.answer_core.specs.Status.{IsFault};
 
 use crate::answer::ACCEPTED;
 use crate::failure::Failure;
 use decl_core::analyse::Accepted;
-use script_core::prompt::{Texts, run_prompt};
 use std::alloc::Global;
 use std::io::{Read, Write};
+use world_core::prompt::{Texts, run_prompt};
 
 /// `pathserve try`: answers lines over a new world of an object, and gives the exit status: 0, whatever they were
 /// answered.

@@ -2,8 +2,8 @@
 
 ghost use Rattle.std.specs.Prelude.{◌≡◌, ◌++◌, ℕ, List, IfOk, IfErr, IfSome, take};
 ghost use Rattle.std.specs.Io.KnownBytes.{Appends};
-ghost use Rattle.script_core.specs.Run.{IsScript, IsFront};
-ghost use Rattle.script_core.specs.declared.script.ScriptEnd.{ScriptEnd as End};
+ghost use Rattle.world_core.specs.Run.{IsScript, IsFront};
+ghost use Rattle.world_core.specs.declared.script.ScriptEnd.{ScriptEnd as End};
 ghost use Rattle.answer_core.specs.Status.{script_status, IsFault};
 ghost use Rattle.answer_core.specs.ScriptRun.{IsScriptRun, IsScriptFront};
 
@@ -13,10 +13,10 @@ use crate::failure::Failure;
 use check_core::head::read_head;
 use check_core::open::{Opened, open_script};
 use decl_core::analyse::Accepted;
-use script_core::script::{ScriptEnd, run_script};
 use std::alloc::Global;
 use std::io::{Read, Write};
 use text_core::write_whole;
+use world_core::script::{ScriptEnd, run_script};
 
 fn status_of_script(end: ScriptEnd) -> u8
     ensures { result ≡ script_status end }

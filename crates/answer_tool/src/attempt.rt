@@ -13,12 +13,12 @@ use explain_trace::listed::listed;
 use explain_trace::prompt::{Asking, Manner};
 use note_core::kept::Kept;
 use path_tree::name::is_identifier;
-use script_core::prompt::Texts;
 use std::alloc::{AllocError, Global};
 use std::io::{self, IsTerminal};
 use tool_core::files::source_at;
 use tool_core::lack::Wanted;
 use tool_core::said::{telling_of, told, told_unread, written};
+use world_core::prompt::Texts;
 
 // The first line of a script on an object of this name.
 fn head_of(alloc: Global, name: &[u8]) -> Result<Vec<u8>, AllocError> {

@@ -11,11 +11,11 @@ use decl_core::analyse::Accepted;
 use decl_core::hold::{Hold, Rules};
 use decl_core::object::Object;
 use hold_read::read::Held;
-use script_core::hold_script::run_held_script;
-use script_core::script::ScriptEnd;
 use std::alloc::Global;
 use std::io::{Read, Write};
 use tool_core::said::written;
+use world_core::hold_script::run_held_script;
+use world_core::script::ScriptEnd;
 
 // The exit status of a check that ended so.
 fn status_of(end: CheckEnd) -> u8 {

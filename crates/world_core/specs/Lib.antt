@@ -11,3 +11,14 @@ pub mod RunLaws
 pub mod Asked
 pub mod Counted
 pub mod Told
+pub mod Does
+pub mod Writes
+pub mod Run
+pub mod Serial
+pub mod ScriptLaws
+pub mod Tries
+pub mod PromptRun
+pub mod HoldDoes
+pub mod HoldAsked
+pub mod HoldWrites
+pub mod HoldRun

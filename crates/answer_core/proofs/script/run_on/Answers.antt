@@ -1,7 +1,7 @@
 use Rattle.std.proofs.Common.{◌≡◌, ℕ, List}
 use Rattle.std.specs.Io.KnownBytes.{Appends}
-use Rattle.script_core.specs.Run.{IsScript}
-use Rattle.script_core.specs.declared.script.ScriptEnd.{ScriptEnd}
+use Rattle.world_core.specs.Run.{IsScript}
+use Rattle.world_core.specs.declared.script.ScriptEnd.{ScriptEnd}
 use Rattle.answer_core.specs.Status.{script_status}
 use Rattle.answer_core.proofs.Scripts.{chained}
 use Rattle.answer_core.proofs.script.run_on.Goals as goal

@@ -1,5 +1,0 @@
-use Rattle.told_law.proofs.Tracing.{steps_tell_asked}
-use Rattle.told_law.proofs.asked_laws.steps_tell_asked.Goals as goal
-
-pub returns : goal.returns
-returns c = steps_tell_asked

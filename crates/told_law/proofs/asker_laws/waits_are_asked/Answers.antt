@@ -1,5 +1,0 @@
-use Rattle.told_law.proofs.Runs.{waits_are_asked}
-use Rattle.told_law.proofs.asker_laws.waits_are_asked.Goals as goal
-
-pub returns : goal.returns
-returns c = waits_are_asked

@@ -1,5 +1,0 @@
-use Rattle.told_law.proofs.Crashed.{crash_leaves_held}
-use Rattle.told_law.proofs.hold_laws.crash_leaves_held.Goals as goal
-
-pub returns : goal.returns
-returns c = crash_leaves_held

@@ -1,5 +1,0 @@
-use Rattle.told_law.proofs.Newest.{due_gives_newest}
-use Rattle.told_law.proofs.hold_laws.due_gives_newest.Goals as goal
-
-pub returns : goal.returns
-returns c = due_gives_newest

@@ -1,5 +1,0 @@
-use Rattle.told_law.proofs.Playing.{next_leaves_held}
-use Rattle.told_law.proofs.hold_laws.next_leaves_held.Goals as goal
-
-pub returns : goal.returns
-returns c = next_leaves_held

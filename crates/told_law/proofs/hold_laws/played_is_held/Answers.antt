@@ -1,5 +1,0 @@
-use Rattle.told_law.proofs.Playing.{played_is_held}
-use Rattle.told_law.proofs.hold_laws.played_is_held.Goals as goal
-
-pub returns : goal.returns
-returns c = played_is_held

@@ -1,5 +1,0 @@
-use Rattle.told_law.proofs.Apart.{read_are_apart}
-use Rattle.told_law.proofs.hold_laws.read_are_apart.Goals as goal
-
-pub returns : goal.returns
-returns c = read_are_apart

@@ -1,5 +1,0 @@
-use Rattle.told_law.proofs.HoldTurning.{turns_hold}
-use Rattle.told_law.proofs.hold_laws.turns_hold.Goals as goal
-
-pub returns : goal.returns
-returns c = turns_hold

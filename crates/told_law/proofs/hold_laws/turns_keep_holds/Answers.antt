@@ -1,5 +1,0 @@
-use Rattle.told_law.proofs.HoldTurning.{turns_keep_holds}
-use Rattle.told_law.proofs.hold_laws.turns_keep_holds.Goals as goal
-
-pub returns : goal.returns
-returns c = turns_keep_holds

@@ -1,5 +1,0 @@
-use Rattle.told_law.proofs.Starting.{behind_stands}
-use Rattle.told_law.proofs.kept_laws.behind_stands.Goals as goal
-
-pub returns : goal.returns
-returns c = behind_stands

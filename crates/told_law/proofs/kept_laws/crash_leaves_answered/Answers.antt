@@ -1,5 +1,0 @@
-use Rattle.told_law.proofs.KeptGoing.{crash_leaves_answered}
-use Rattle.told_law.proofs.kept_laws.crash_leaves_answered.Goals as goal
-
-pub returns : goal.returns
-returns c = crash_leaves_answered

@@ -1,5 +1,0 @@
-use Rattle.told_law.proofs.Living.{crash_leaves_one_history}
-use Rattle.told_law.proofs.kept_laws.crash_leaves_one_history.Goals as goal
-
-pub returns : goal.returns
-returns c = crash_leaves_one_history

@@ -1,5 +1,0 @@
-use Rattle.told_law.proofs.Starting.{first_stands}
-use Rattle.told_law.proofs.kept_laws.first_stands.Goals as goal
-
-pub returns : goal.returns
-returns c = first_stands

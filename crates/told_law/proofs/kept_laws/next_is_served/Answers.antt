@@ -1,5 +1,0 @@
-use Rattle.told_law.proofs.KeptGoing.{next_is_served}
-use Rattle.told_law.proofs.kept_laws.next_is_served.Goals as goal
-
-pub returns : goal.returns
-returns c = next_is_served

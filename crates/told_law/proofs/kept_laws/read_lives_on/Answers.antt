@@ -1,5 +1,0 @@
-use Rattle.told_law.proofs.Living.{read_lives_on}
-use Rattle.told_law.proofs.kept_laws.read_lives_on.Goals as goal
-
-pub returns : goal.returns
-returns c = read_lives_on

@@ -1,5 +1,0 @@
-use Rattle.told_law.proofs.KeptGoing.{runs_are_steps}
-use Rattle.told_law.proofs.kept_laws.runs_are_steps.Goals as goal
-
-pub returns : goal.returns
-returns c = runs_are_steps

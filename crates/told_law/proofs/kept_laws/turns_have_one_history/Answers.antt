@@ -1,5 +1,0 @@
-use Rattle.told_law.proofs.Living.{turns_have_one_history}
-use Rattle.told_law.proofs.kept_laws.turns_have_one_history.Goals as goal
-
-pub returns : goal.returns
-returns c = turns_have_one_history

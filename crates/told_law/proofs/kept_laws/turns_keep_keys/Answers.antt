@@ -1,5 +1,0 @@
-use Rattle.told_law.proofs.Keying.{turns_keep_keys}
-use Rattle.told_law.proofs.kept_laws.turns_keep_keys.Goals as goal
-
-pub returns : goal.returns
-returns c = turns_keep_keys

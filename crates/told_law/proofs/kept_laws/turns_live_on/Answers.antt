@@ -1,5 +1,0 @@
-use Rattle.told_law.proofs.Living.{turns_live_on}
-use Rattle.told_law.proofs.kept_laws.turns_live_on.Goals as goal
-
-pub returns : goal.returns
-returns c = turns_live_on

@@ -1,5 +1,0 @@
-use Rattle.told_law.proofs.LifeBeginning.{behind_keeps}
-use Rattle.told_law.proofs.life_laws.behind_keeps.Goals as goal
-
-pub returns : goal.returns
-returns c = behind_keeps

@@ -1,5 +1,0 @@
-use Rattle.told_law.proofs.LifeStarting.{behind_starts}
-use Rattle.told_law.proofs.life_laws.behind_starts.Goals as goal
-
-pub returns : goal.returns
-returns c = behind_starts

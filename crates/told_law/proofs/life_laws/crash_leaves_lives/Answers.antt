@@ -1,5 +1,0 @@
-use Rattle.told_law.proofs.LifeReading.{crash_leaves_lives}
-use Rattle.told_law.proofs.life_laws.crash_leaves_lives.Goals as goal
-
-pub returns : goal.returns
-returns c = crash_leaves_lives

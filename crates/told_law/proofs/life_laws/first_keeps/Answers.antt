@@ -1,5 +1,0 @@
-use Rattle.told_law.proofs.LifeBeginning.{first_keeps}
-use Rattle.told_law.proofs.life_laws.first_keeps.Goals as goal
-
-pub returns : goal.returns
-returns c = first_keeps

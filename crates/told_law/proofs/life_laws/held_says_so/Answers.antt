@@ -1,5 +1,0 @@
-use Rattle.told_law.proofs.LifeEnding.{held_says_so}
-use Rattle.told_law.proofs.life_laws.held_says_so.Goals as goal
-
-pub returns : goal.returns
-returns c = held_says_so c.held_are_lines.ensures

@@ -1,5 +1,0 @@
-use Rattle.told_law.proofs.LifeTurning.{objects_keep}
-use Rattle.told_law.proofs.life_laws.objects_keep.Goals as goal
-
-pub returns : goal.returns
-returns c = objects_keep

@@ -1,5 +1,0 @@
-use Rattle.told_law.proofs.LifeEnding.{turns_end_so}
-use Rattle.told_law.proofs.life_laws.turns_end_so.Goals as goal
-
-pub returns : goal.returns
-returns c = turns_end_so

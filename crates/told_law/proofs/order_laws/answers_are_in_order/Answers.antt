@@ -1,5 +1,0 @@
-use Rattle.told_law.proofs.OrderRuns.{answers_are_in_order}
-use Rattle.told_law.proofs.order_laws.answers_are_in_order.Goals as goal
-
-pub returns : goal.returns
-returns c = answers_are_in_order

@@ -1,5 +1,0 @@
-use Rattle.told_law.proofs.Settling.{settles_in_order}
-use Rattle.told_law.proofs.order_laws.settles_in_order.Goals as goal
-
-pub returns : goal.returns
-returns c = settles_in_order

@@ -1,5 +1,0 @@
-use Rattle.told_law.proofs.Standing.{repeats_stand}
-use Rattle.told_law.proofs.repeat_laws.repeats_stand.Goals as goal
-
-pub returns : goal.returns
-returns c = repeats_stand

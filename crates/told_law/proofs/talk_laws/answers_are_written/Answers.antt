@@ -1,5 +1,0 @@
-use Rattle.told_law.proofs.Serving.{answers_are_written}
-use Rattle.told_law.proofs.talk_laws.answers_are_written.Goals as goal
-
-pub returns : goal.returns
-returns c = answers_are_written

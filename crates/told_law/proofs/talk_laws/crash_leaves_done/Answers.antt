@@ -1,5 +1,0 @@
-use Rattle.told_law.proofs.Answering.{crash_leaves_done}
-use Rattle.told_law.proofs.talk_laws.crash_leaves_done.Goals as goal
-
-pub returns : goal.returns
-returns c = crash_leaves_done

@@ -1,5 +1,0 @@
-use Rattle.told_law.proofs.Serving.{crash_leaves_served}
-use Rattle.told_law.proofs.talk_laws.crash_leaves_served.Goals as goal
-
-pub returns : goal.returns
-returns c = crash_leaves_served

@@ -1,5 +1,0 @@
-use Rattle.told_law.proofs.OrderRuns.{ends_are_told_once}
-use Rattle.told_law.proofs.talk_laws.ends_are_told_once.Goals as goal
-
-pub returns : goal.returns
-returns c = ends_are_told_once

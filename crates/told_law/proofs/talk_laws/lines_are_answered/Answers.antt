@@ -1,5 +1,0 @@
-use Rattle.told_law.proofs.Answering.{lines_are_answered}
-use Rattle.told_law.proofs.talk_laws.lines_are_answered.Goals as goal
-
-pub returns : goal.returns
-returns c = lines_are_answered

@@ -1,9 +1,0 @@
-//! The law, a function without a body whose contract it is.
-
-ghost use Rattle.told_law.specs.Said.{TurnsSay};
-
-/// Each reply that a turn tells is that of a call that ran in it, or of one that was made before under a key and is
-/// remembered; and the objects went by the steps in which it ran.
-pub fn turns_say()
-    ensures { TurnsSay }
-{}
