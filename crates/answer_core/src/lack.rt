@@ -3,7 +3,7 @@
 ghost use Rattle.std.specs.Prelude.{◌≡◌};
 ghost use Rattle.answer_core.specs.declared.failure.Failure.TheVariants.{ReadFault};
 
-use answer_core::failure::Failure;
+use crate::failure::Failure;
 use std::alloc::{AllocError, Global};
 use std::io::{self, ErrorKind, Write};
 use text_core::reply::push_number;

@@ -3,6 +3,7 @@
 use answer_core::answer::{ACCEPTED, REFUSED};
 use answer_core::explanation::{Telling, explained, explained_script};
 use answer_core::failure::Failure;
+use answer_core::said::written;
 use check_core::head::read_head;
 use check_core::hold_report::held_report;
 use check_core::open::{Opened, open_script};
@@ -15,7 +16,6 @@ use script_core::hold_script::run_held_script;
 use script_core::script::ScriptEnd;
 use std::alloc::Global;
 use std::io::{Read, Write};
-use tool_core::said::written;
 
 // The exit status of a check that ended so.
 fn status_of(end: CheckEnd) -> u8 {

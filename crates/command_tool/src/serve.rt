@@ -4,11 +4,12 @@ ghost use Rattle.std.specs.Prelude.{◌≡◌, IfOk};
 ghost use Rattle.std.specs.Prelude.{Result};
 ghost use Rattle.std.specs.Arc.{arc_value};
 ghost use Rattle.serve_core.specs.Runs.{IsRun};
-ghost use Rattle.serve_tool.specs.Ends.{serve_status, status_of_end};
+ghost use Rattle.command_tool.specs.Ends.{serve_status, status_of_end};
 
 use answer_core::answer::{ACCEPTED, REFUSED};
 use answer_core::explanation::{Telling, explained};
 use answer_core::failure::Failure;
+use answer_core::lack::{Unmet, Wanted, tell_lack};
 use device_core::ahead::{AheadHand, Ends};
 use device_core::dir::DirHand;
 use device_core::hand::Hand;
@@ -26,7 +27,6 @@ use std::sync::{Arc, Wait};
 use std::thread::Threads;
 use std::time::Clock;
 use text_core::LinesFault;
-use tool_core::lack::{Unmet, Wanted, tell_lack};
 
 // Numbers from this one on, which hands share.
 fn numbers_from<R: AllocGlobal>(rt: &R, first: u64) -> Result<Arc<Numbers>, AllocError>

@@ -1,8 +1,8 @@
 use Rattle.std.proofs.Common.{◌≡◌, List, ℕ, Err, ap, sym, subst, ◌∙◌}
 use Rattle.serve_core.specs.Runs.{IsRun}
-use Rattle.serve_tool.specs.Ends.{status_of_end}
-use Rattle.serve_tool.proofs.serve.serve_objects.Goals as goal
-use Rattle.serve_tool.proofs.serve.serve_objects.Goals.{in-Ok, in-Err}
+use Rattle.command_tool.specs.Ends.{status_of_end}
+use Rattle.command_tool.proofs.serve.serve_objects.Goals as goal
+use Rattle.command_tool.proofs.serve.serve_objects.Goals.{in-Ok, in-Err}
 
 pub returns : goal.returns
 returns g c =

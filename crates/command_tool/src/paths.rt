@@ -2,10 +2,10 @@
 
 use answer_core::answer::answer_lines;
 use answer_core::failure::Failure;
+use answer_core::lack::Wanted;
+use answer_core::said::told_unread;
 use note_core::kept::Kept;
 use std::io;
-use tool_core::lack::Wanted;
-use tool_core::said::told_unread;
 
 /// `pathserve paths`: answers the lines of standard input.
 pub fn run_paths(rt: &HostRuntime) -> Result<u8, Failure> {

@@ -4,6 +4,9 @@ use answer_core::answer::REFUSED;
 use answer_core::attempt::answer_try;
 use answer_core::explanation::{Telling, explained};
 use answer_core::failure::Failure;
+use answer_core::inputs::source_at;
+use answer_core::lack::Wanted;
+use answer_core::said::{telling_of, told, told_unread, written};
 use check_core::open::{Opened, fault_text, judged, open_script};
 use command_line::help::TRY_LINES;
 use command_line::request::Explain;
@@ -16,9 +19,6 @@ use path_tree::name::is_identifier;
 use script_core::prompt::Texts;
 use std::alloc::{AllocError, Global};
 use std::io::{self, IsTerminal};
-use tool_core::files::source_at;
-use tool_core::lack::Wanted;
-use tool_core::said::{telling_of, told, told_unread, written};
 
 // The first line of a script on an object of this name.
 fn head_of(alloc: Global, name: &[u8]) -> Result<Vec<u8>, AllocError> {

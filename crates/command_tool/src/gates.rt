@@ -1,11 +1,11 @@
 //! Where clients of a server connect.
 
+use answer_core::lack::{Lacking, Wanted};
+use answer_core::socket::{Socket, socket_at};
 use command_line::request::Address;
 use serve_core::gate::{Gate, Listener};
 use std::io;
 use std::net::{Ipv4Addr, TcpListener};
-use tool_core::lack::{Lacking, Wanted};
-use tool_core::socket::{Socket, socket_at};
 
 // A gate at a port, for so many connections. With port 0 the system chooses one.
 fn gate_at_port(rt: &HostRuntime, port: u16, sessions: usize) -> io::Result<Gate> {

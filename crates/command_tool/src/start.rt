@@ -5,6 +5,11 @@ use crate::kept::is_kept;
 use crate::serve::{ServedSource, place_of};
 use answer_core::answer::REFUSED;
 use answer_core::failure::Failure;
+use answer_core::inputs::{lock_folder, source_at};
+use answer_core::lack::{Lacking, Unmet, Wanted};
+use answer_core::said::{telling_of, told, written};
+use answer_core::socket::{Socket, path_of};
+use answer_core::sources::{WithoutHolds, plain_source};
 use command_line::request::Serving;
 use device_core::ahead::AheadHand;
 use serve_core::gate::Gate;
@@ -13,11 +18,6 @@ use std::alloc::AllocError;
 use std::fs::File;
 use std::io::{self, ErrorKind, Read};
 use std::sync::Arc;
-use tool_core::files::{lock_folder, source_at};
-use tool_core::lack::{Lacking, Unmet, Wanted};
-use tool_core::said::{telling_of, told, written};
-use tool_core::socket::{Socket, path_of};
-use tool_core::sources::{WithoutHolds, plain_source};
 
 /// What a server starts with.
 pub struct ServerStart {

@@ -6,6 +6,10 @@ use answer_core::explanation::{explained, explained_audit};
 use answer_core::failure::Failure;
 use answer_core::files::FolderFault;
 use answer_core::folder_audit::audit_folder;
+use answer_core::inputs::{Inputs, inputs_of, is_folder, source_at};
+use answer_core::lack::{Lacking, Wanted};
+use answer_core::said::{telling_of, told, told_unread, written};
+use answer_core::sources::{Ruled, WithoutHolds, ruled_source, without_holds};
 use check_core::judge::{Judged, judge};
 use command_line::request::Explain;
 use decl_core::analyse::Accepted;
@@ -13,10 +17,6 @@ use decl_core::hold::Rules;
 use note_core::files::Files;
 use std::io;
 use text_core::write_whole;
-use tool_core::files::{Inputs, inputs_of, is_folder, source_at};
-use tool_core::lack::{Lacking, Wanted};
-use tool_core::said::{telling_of, told, told_unread, written};
-use tool_core::sources::{Ruled, WithoutHolds, ruled_source, without_holds};
 
 // Tells what objects are in a folder, by these rules.
 fn tell_folder(

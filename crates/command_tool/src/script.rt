@@ -3,15 +3,15 @@
 use crate::holds::run_held;
 use answer_core::explanation::explained_run;
 use answer_core::failure::Failure;
+use answer_core::holds::refuse_faulty;
+use answer_core::inputs::{Inputs, inputs_of};
+use answer_core::lack::Wanted;
+use answer_core::said::{telling_of, told_unread};
 use answer_core::script::answer_script;
 use command_line::request::Explain;
 use hold_read::read::{Held, Look, look_at};
 use note_core::files::Files;
 use std::io;
-use tool_core::files::{Inputs, inputs_of};
-use tool_core::holds::refuse_faulty;
-use tool_core::lack::Wanted;
-use tool_core::said::{telling_of, told_unread};
 
 /// `pathserve run`.
 pub fn run_script(rt: &HostRuntime, files: Files<'_>, when: Explain) -> Result<u8, Failure> {

@@ -4,7 +4,11 @@ use crate::holds::check_held;
 use answer_core::answer::{ACCEPTED, REFUSED, check_source};
 use answer_core::explanation::Telling;
 use answer_core::failure::Failure;
+use answer_core::inputs::open_file;
+use answer_core::lack::Wanted;
+use answer_core::said::{telling_of, told, told_unread};
 use answer_core::source::read_source;
+use answer_core::sources::{WithoutHolds, without_holds};
 use answer_core::stuck::check_stuck;
 use command_line::request::Explain;
 use explain_fault::pairs::explain_pairs;
@@ -12,10 +16,6 @@ use hold_read::read::{Look, look_at};
 use note_core::kept::Kept;
 use std::io;
 use text_core::write_whole;
-use tool_core::files::open_file;
-use tool_core::lack::Wanted;
-use tool_core::said::{telling_of, told, told_unread};
-use tool_core::sources::{WithoutHolds, without_holds};
 
 // `pathserve check` of a source that was read.
 fn check_text(

@@ -1,9 +1,9 @@
 //! Sources whose objects may have holds: a command follows them, leaves them out, or refuses.
 
+use crate::answer::REFUSED;
+use crate::explanation::Telling;
+use crate::failure::Failure;
 use crate::holds::{refuse_faulty, refuse_held};
-use answer_core::answer::REFUSED;
-use answer_core::explanation::Telling;
-use answer_core::failure::Failure;
 use decl_core::hold::Rules;
 use hold_read::read::{Look, look_at};
 use std::io;

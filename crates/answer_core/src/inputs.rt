@@ -1,10 +1,10 @@
 //! Files and folders that a command reads.
 
+use crate::explanation::Telling;
+use crate::failure::Failure;
 use crate::lack::{Lacking, Wanted};
 use crate::said::told;
-use answer_core::explanation::Telling;
-use answer_core::failure::Failure;
-use answer_core::source::read_source;
+use crate::source::read_source;
 use note_core::files::Files;
 use note_core::kept::Kept;
 use std::fs::{File, TryLockError};

@@ -4,10 +4,10 @@ ghost use Rattle.std.specs.Prelude.{◌≡◌, IfOk, OnOk};
 ghost use Rattle.std.specs.Io.KnownBytes.{Appends};
 ghost use Rattle.check_core.specs.Report.{fault_line};
 
+use crate::answer::REFUSED;
+use crate::explanation::Telling;
+use crate::failure::Failure;
 use crate::said::written;
-use answer_core::answer::REFUSED;
-use answer_core::explanation::Telling;
-use answer_core::failure::Failure;
 use check_core::report::push_source_fault;
 use decl_read::fault::DeclFault;
 use explain_fault::rules::explain_held;

@@ -6,9 +6,9 @@ ghost use Rattle.answer_core.specs.declared.explanation.Telling.TheVariants.{Not
 ghost use Rattle.command_line.specs.declared.request.Explain.TheVariants.{Always, Never};
 ghost use Rattle.answer_core.specs.declared.failure.Failure.TheVariants.{WriteFault};
 
+use crate::explanation::Telling;
+use crate::failure::Failure;
 use crate::lack::{Lacking, Unmet, Wanted, tell_lack};
-use answer_core::explanation::Telling;
-use answer_core::failure::Failure;
 use command_line::request::Explain;
 use note_core::kept::Kept;
 use std::io::{ErrorKind, IsTerminal, Read, Write};
