@@ -2,8 +2,8 @@
 
 use crate::lines::object_line;
 use answer_core::failure::Failure;
+use command_line::mistakes::past_error;
 use command_line::past::Past;
-use command_line::request::past_error;
 use decl_core::analyse::Accepted;
 use decl_core::object::Object;
 use keep_core::start::push_calls;

@@ -8,6 +8,7 @@ use crate::stuck::stuck_lines;
 use answer_core::answer::REFUSED;
 use answer_core::explanation::explained;
 use answer_core::failure::Failure;
+use answer_core::said::{telling_of, written};
 use check_core::judge::{Judged, judge};
 use command_line::past::Past;
 use command_line::request::Keeping;
@@ -27,7 +28,6 @@ use post_core::journal::recover as lines_of;
 use std::alloc::{AllocError, Global};
 use std::io::Write;
 use text_core::write_whole;
-use tool_core::said::{telling_of, written};
 
 /// So many names an object knows before a new one takes the place of another.
 pub(crate) const NAMES: u16 = 4_096;

@@ -2,14 +2,14 @@
 
 use crate::ending::say;
 use answer_core::failure::Failure;
+use answer_core::lack::{Lacking, Wanted};
+use answer_core::socket::{Socket, socket_at};
 use command_line::request::{Address, Keeping};
 use mio::net::{TcpListener as PortListener, UnixListener as PathListener};
 use mio_core::stream::Listener as Ears;
 use std::alloc::{AllocError, Global};
 use std::io::{self, Write};
 use std::net::{Ipv4Addr, TcpListener};
-use tool_core::lack::{Lacking, Wanted};
-use tool_core::socket::{Socket, socket_at};
 
 // Where a server that keeps objects listens, and its socket, where that has a path.
 pub(crate) fn ears_at(

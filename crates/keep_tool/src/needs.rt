@@ -2,16 +2,17 @@
 
 use crate::ears::ears_at;
 use answer_core::failure::Failure;
-use command_line::request::{Keeping, keep_error};
+use answer_core::inputs::{lock_folder, source_at};
+use answer_core::said::{telling_of, told};
+use answer_core::socket::{Socket, path_of};
+use answer_core::sources::{Ruled, ruled_source};
+use command_line::mistakes::keep_error;
+use command_line::request::Keeping;
 use command_line::watching::{Apart, OddOption, Watching};
 use decl_core::hold::Rules;
 use mio_core::stream::Listener as Ears;
 use std::alloc::Global;
 use std::fs::File;
-use tool_core::files::{lock_folder, source_at};
-use tool_core::said::{telling_of, told};
-use tool_core::socket::{Socket, path_of};
-use tool_core::sources::{Ruled, ruled_source};
 
 /// What a server that stays needs.
 #[derive(Drop)]

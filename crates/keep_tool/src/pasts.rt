@@ -10,8 +10,9 @@ ghost use Rattle.keep_tool.specs.Untold.{IsUntold};
 use answer_core::failure::Failure;
 use clap::Error;
 use clap::error::ErrorKind as Mistake;
+use command_line::mistakes::past_error;
 use command_line::past::{MEANS, Past, past_in};
-use command_line::request::{Request, past_error, pasts_of};
+use command_line::request::{Request, pasts_of};
 use std::alloc::Global;
 
 // What words end the program with whose values of `--past` could not be read.

@@ -1,0 +1,74 @@
+//! What a command tells: its lines, and what it lacks.
+
+ghost use Rattle.std.specs.Prelude.{◌≡◌, IfErr, IfOk, OnOk};
+ghost use Rattle.std.specs.Io.KnownBytes.{Appends};
+ghost use Rattle.answer_core.specs.declared.explanation.Telling.TheVariants.{Nothing, Whole};
+ghost use Rattle.command_line.specs.declared.request.Explain.TheVariants.{Always, Never};
+ghost use Rattle.answer_core.specs.declared.failure.Failure.TheVariants.{WriteFault};
+
+use crate::explanation::Telling;
+use crate::failure::Failure;
+use crate::lack::{Lacking, Unmet, Wanted, tell_lack};
+use command_line::request::Explain;
+use note_core::kept::Kept;
+use std::io::{ErrorKind, IsTerminal, Read, Write};
+use text_core::write_whole;
+
+/// How much is told of why something is refused: with `AtTerminal` all where standard error is one, else that there is more.
+pub fn telling_of(rt: &HostRuntime, when: Explain) -> Telling
+    ensures always { when ≡ Always → result ≡ Whole }
+    ensures never { when ≡ Never → result ≡ Nothing }
+{
+    match when {
+        Explain::Always => Telling::Whole,
+        Explain::Never => Telling::Nothing,
+        Explain::AtTerminal => {
+            if rt.stderr().is_terminal() {
+                Telling::Whole
+            } else {
+                Telling::Hint
+            }
+        }
+    }
+}
+
+/// Tells what is lacking, by its name, and gives what the program ends with.
+pub fn told(rt: &HostRuntime, lacking: Lacking, name: &str) -> Failure
+    ensures { result ≡ lacking.failure }
+{
+    let Lacking { failure, lack } = lacking;
+    tell_lack(rt.alloc(), lack, name, &mut rt.stderr());
+    failure
+}
+
+/// Hands on what a command ended with; where it could not read this to its end that is told.
+pub fn told_unread<R: Read + Drop>(
+    rt: &HostRuntime,
+    ended: Result<u8, Failure>,
+    need: Wanted,
+    name: &str,
+    kept: &Kept<R>,
+) -> Result<u8, Failure>
+    ensures { result ≡ ended }
+{
+    if let Err(Failure::ReadFault) = &ended {
+        let lack = Unmet {
+            need,
+            cause: kept.fault().unwrap_or(ErrorKind::Other),
+        };
+        tell_lack(rt.alloc(), Some(lack), name, &mut rt.stderr());
+    }
+    ended
+}
+
+/// Writes what is answered, and gives the exit status. A failure is `WriteFault`, which leaves a front of the text.
+pub fn written<W: Write>(text: &[u8], status: u8, writer: &mut W) -> Result<u8, Failure>
+    ensures told { OnOk result (Appends (W.contents writer.old) (W.contents writer.new) text.now) }
+    ensures status { IfOk result (λ given. given ≡ status) }
+    ensures fault { IfErr result (λ failure. failure ≡ WriteFault) }
+{
+    match write_whole(writer, text) {
+        Ok(()) => Ok(status),
+        Err(_) => Err(Failure::WriteFault),
+    }
+}

@@ -1,0 +1,91 @@
+//! `pathserve audit`, of a trace and of a folder.
+
+use answer_core::answer::{ACCEPTED, REFUSED};
+use answer_core::audit::audit_trace;
+use answer_core::explanation::{explained, explained_audit};
+use answer_core::failure::Failure;
+use answer_core::files::FolderFault;
+use answer_core::folder_audit::audit_folder;
+use answer_core::inputs::{Inputs, inputs_of, is_folder, source_at};
+use answer_core::lack::{Lacking, Wanted};
+use answer_core::said::{telling_of, told, told_unread, written};
+use answer_core::sources::{Ruled, WithoutHolds, ruled_source, without_holds};
+use check_core::judge::{Judged, judge};
+use command_line::request::Explain;
+use decl_core::analyse::Accepted;
+use decl_core::hold::Rules;
+use note_core::files::Files;
+use std::io;
+use text_core::write_whole;
+
+// Tells what objects are in a folder, by these rules.
+fn tell_folder(
+    rt: &HostRuntime,
+    objects: &[Accepted],
+    rules: &[Rules],
+    folder: &str,
+) -> Result<u8, Failure> {
+    match audit_folder(rt, objects, rules, folder) {
+        Ok(said) => {
+            let _ = write_whole(&mut rt.stderr(), &said.notes);
+            let status = if said.is_whole { ACCEPTED } else { REFUSED };
+            written(&said.lines, status, &mut io::writer(rt))
+        }
+        Err(FolderFault::Memory) => Err(Failure::Memory),
+        Err(FolderFault::Unread(path, cause)) => {
+            Err(told(rt, Lacking::at(Wanted::File, cause), path.as_str()))
+        }
+    }
+}
+
+// `pathserve audit` of a folder.
+fn run_folder(rt: &HostRuntime, files: Files<'_>, when: Explain) -> Result<u8, Failure> {
+    let source = match source_at(rt, files.source) {
+        Ok(source) => source,
+        Err(lacking) => return Err(told(rt, lacking, files.source)),
+    };
+    let (source, rules) = match ruled_source(rt, source, telling_of(rt, when), files.source)? {
+        Ruled::By(source, rules) => (source, rules),
+        Ruled::Told(status) => return Ok(status),
+    };
+    match judge(rt.alloc(), &source)? {
+        Judged::Ready(objects) => tell_folder(rt, &objects, &rules, files.text),
+        Judged::Told(lines) => {
+            let ended = written(&lines, REFUSED, &mut io::writer(rt));
+            explained(
+                rt.alloc(),
+                ended,
+                telling_of(rt, when),
+                files.source,
+                &source,
+                None,
+                &mut rt.stderr(),
+            )
+        }
+    }
+}
+
+/// `pathserve audit`: of a folder where there is one, else of a trace.
+pub fn run_audit(rt: &HostRuntime, files: Files<'_>, when: Explain) -> Result<u8, Failure> {
+    if is_folder(rt, files.text) {
+        return run_folder(rt, files, when);
+    }
+    let telling = telling_of(rt, when);
+    let Inputs { source, mut kept } = inputs_of(rt, files, telling)?;
+    let source = match without_holds(rt, source, telling, files.source)? {
+        WithoutHolds::Plain(source) => source,
+        WithoutHolds::Told(status) => return Ok(status),
+    };
+    let ended = audit_trace(rt.alloc(), &source, &mut kept, &mut io::writer(rt));
+    let ended = told_unread(rt, ended, Wanted::File, files.text, &kept);
+    let text = kept.text();
+    explained_audit(
+        rt.alloc(),
+        ended,
+        telling,
+        files,
+        &source,
+        text,
+        &mut rt.stderr(),
+    )
+}

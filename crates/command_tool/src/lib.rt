@@ -1,0 +1,21 @@
+//! The subcommands that know no kept object: `paths`, `check`, `run`, `try`, `audit` and `serve`, over files and streams.
+//!
+//! `answer_core` says what the first five answer over any reader and writer. What stands here opens their files, hands
+//! them the streams, and tells what is lacking (`paths`, `check`, `script`, `attempt`, `audit`). `holds` has the answers
+//! of `check` and `run` where the objects of a source have holds.
+//!
+//! Of `pathserve serve` `start` takes what a server needs, before any thread is started: it tells what is lacking, and
+//! refuses the folder of a server that stays (`kept`). `gates` has the gate where clients connect. `serve` serves over
+//! any runtime, and gives the exit status: that of how `serve_core` says that the server ended.
+#![tactic(auto)]
+
+pub mod attempt;
+pub mod audit;
+pub mod check;
+pub mod gates;
+mod holds;
+pub mod kept;
+pub mod paths;
+pub mod script;
+pub mod serve;
+pub mod start;

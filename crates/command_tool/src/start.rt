@@ -1,0 +1,147 @@
+//! What a server starts with.
+
+use crate::gates::gate_at;
+use crate::kept::is_kept;
+use crate::serve::{ServedSource, place_of};
+use answer_core::answer::REFUSED;
+use answer_core::failure::Failure;
+use answer_core::inputs::{lock_folder, source_at};
+use answer_core::lack::{Lacking, Unmet, Wanted};
+use answer_core::said::{telling_of, told, written};
+use answer_core::socket::{Socket, path_of};
+use answer_core::sources::{WithoutHolds, plain_source};
+use command_line::request::Serving;
+use device_core::ahead::AheadHand;
+use serve_core::gate::Gate;
+use serve_core::serve::Place;
+use std::alloc::AllocError;
+use std::fs::File;
+use std::io::{self, ErrorKind, Read};
+use std::sync::Arc;
+
+/// What a server starts with.
+pub struct ServerStart {
+    /// What it serves.
+    pub source: ServedSource,
+    /// The folder, and a hand on it for each session.
+    pub place: Place<AheadHand<HostRuntime>>,
+    /// Where clients connect.
+    pub gate: Arc<Gate>,
+    /// The folder, which no other server has as long as this is open.
+    pub lock: File,
+    /// The socket at which it listens, where it does so at a path.
+    pub socket: Option<Socket>,
+}
+
+/// What is done of `serve` before any thread is started.
+pub enum Prepared {
+    /// All, with the exit status.
+    Ended(u8),
+    /// A server is to run: whether it stops with standard input.
+    Serves(ServerStart, bool),
+}
+
+// A gate that threads can share.
+fn shared(rt: &HostRuntime, gate: Gate) -> Result<Arc<Gate>, AllocError> {
+    match Arc::new(rt.alloc(), gate) {
+        Ok(gate) => Ok(gate),
+        Err(_) => Err(AllocError),
+    }
+}
+
+// Takes what a server of this source needs, in this order: the folder, the place where clients connect.
+fn take_needs(rt: &HostRuntime, asked: Serving<'_>, text: Vec<u8>) -> Result<ServerStart, Lacking> {
+    let lock = lock_folder(rt, asked.folder)?;
+    let (gate, socket) = gate_at(rt, asked.address, asked.sessions)?;
+    let place = match place_of(rt, asked.folder, asked.sessions) {
+        Ok(place) => place,
+        Err(Failure::ReadFault) => return Err(Lacking::at(Wanted::Folder, ErrorKind::Other)),
+        Err(failure) => return Err(Lacking {
+            failure,
+            lack: None,
+        }),
+    };
+    let gate = shared(rt, gate)?;
+    let source = ServedSource {
+        text,
+        telling: telling_of(rt, asked.explain),
+        file: String::from_str(rt.alloc(), asked.file)?,
+        folder: String::from_str(rt.alloc(), asked.folder)?,
+    };
+    Ok(ServerStart {
+        source,
+        place,
+        gate,
+        lock,
+        socket,
+    })
+}
+
+// Whether an error of a folder is one that opening it has too.
+fn is_told_later(error: &io::Error) -> bool {
+    matches!(
+        error.kind(),
+        ErrorKind::NotFound | ErrorKind::NotADirectory | ErrorKind::PermissionDenied
+    )
+}
+
+/// Prepares a server. Where it lacks something that is told.
+pub fn prepare_server(rt: &HostRuntime, asked: Serving<'_>) -> Result<Prepared, Failure> {
+    match is_kept(rt, asked.folder) {
+        Ok(false) => {}
+        Ok(true) => {
+            let line = format!(in rt.alloc(); "{} is kept: use pathserve keep\n", asked.folder)?;
+            let status = written(line.as_bytes(), REFUSED, &mut io::writer(rt))?;
+            return Ok(Prepared::Ended(status));
+        }
+        Err(error) => {
+            // (what is no folder, or may not be read, is told in its turn)
+            if !is_told_later(&error) {
+                let lacking = Lacking::of(Wanted::Folder, error);
+                return Err(told(rt, lacking, asked.folder));
+            }
+        }
+    }
+    let text = match source_at(rt, asked.file) {
+        Ok(text) => text,
+        Err(lacking) => return Err(told(rt, lacking, asked.file)),
+    };
+    let telling = telling_of(rt, asked.explain);
+    let text = match plain_source(rt, text, telling, asked.file, b"use pathserve keep")? {
+        WithoutHolds::Plain(text) => text,
+        WithoutHolds::Told(status) => return Ok(Prepared::Ended(status)),
+    };
+    match take_needs(rt, asked, text) {
+        Ok(started) => Ok(Prepared::Serves(started, asked.stops)),
+        Err(lacking) => {
+            let name = match &lacking.lack {
+                Some(
+                    Unmet {
+                        need: Wanted::Socket,
+                        ..
+                    },
+                ) => path_of(asked.address),
+                _ => asked.folder,
+            };
+            Err(told(rt, lacking, name))
+        }
+    }
+}
+
+/// Waits for the end of standard input, and has the server stop.
+pub fn stop_with_input(rt: HostRuntime, gate: &Gate) {
+    let mut piece = [0; 256];
+    let mut input = rt.stdin();
+    for _ in 0..u64::MAX {
+        match input.read(&mut piece) {
+            Ok(0) => break,
+            Ok(_) => {}
+            Err(error) => {
+                if error.kind() != ErrorKind::Interrupted {
+                    break;
+                }
+            }
+        }
+    }
+    gate.stop();
+}
