@@ -5,8 +5,8 @@ use Rattle.post_core.specs.Journal.{recovered}
 use Rattle.crash_trial.specs.declared.device.Happened.{Happened}
 use Rattle.crash_trial.specs.declared.device.Happened.TheVariants.{Wrote, Stored, Replaced, Refused}
 use Rattle.crash_trial.specs.declared.judge.Standing.{Standing}
-use Rattle.crash_trial.specs.declared.judge.Outcome.{Outcome}
-use Rattle.crash_trial.specs.declared.judge.Outcome.TheVariants.{Right, Wrong}
+use Rattle.crash_trial.specs.declared.judge.CrashOutcome.{CrashOutcome}
+use Rattle.crash_trial.specs.declared.judge.CrashOutcome.TheVariants.{Right, Wrong}
 use Rattle.crash_trial.specs.Kept.{Leaves}
 use Rattle.crash_trial.specs.Standings.{lines_behind, stored_behind, begun_behind, Follows, StandsBehind, IsFrontOf, IsJudged}
 
@@ -48,14 +48,14 @@ stands happened old new text stored epochs is = record {
 }
 
 -- the lines that a crash left are judged
-pub judged : (file : List ℕ) (happened : List Happened) (left lines : List ℕ) (standing : Standing) (outcome : Outcome) → Leaves file file happened left →
+pub judged : (file : List ℕ) (happened : List Happened) (left lines : List ℕ) (standing : Standing) (outcome : CrashOutcome) → Leaves file file happened left →
     StandsBehind happened standing → lines ≡ recovered left → IsFrontOf standing lines outcome → IsJudged file happened outcome
 judged file happened left lines standing (Right found) leaves behind is front =
     (left, standing, leaves, behind, subst (λ l. IsFrontOf standing l (Right found)) is front)
 judged file happened left lines standing (Wrong why) leaves behind is front = tt
 
 -- the same, of the lines that are recovered of what is left, which is read twice
-pub judged_or : (file : List ℕ) (happened : List Happened) (left x y : List ℕ) (n : ℕ) (standing : Standing) (r : Result Outcome AllocError) →
+pub judged_or : (file : List ℕ) (happened : List Happened) (left x y : List ℕ) (n : ℕ) (standing : Standing) (r : Result CrashOutcome AllocError) →
     Leaves file file happened left → StandsBehind happened standing → x ≡ left → y ≡ left → take n y ≡ recovered y →
     IfOk r (IsFrontOf standing (take n x)) → IfOk r (IsJudged file happened)
 judged_or file happened left x y n standing (Ok outcome) leaves behind one two is front =

@@ -5,8 +5,8 @@ use Rattle.post_core.specs.Journal.{recovered}
 use Rattle.crash_trial.specs.declared.device.Happened.{Happened}
 use Rattle.crash_trial.specs.declared.device.Happened.TheVariants.{Wrote, Stored, Replaced, Refused}
 use Rattle.crash_trial.specs.declared.judge.Standing.{Standing}
-use Rattle.crash_trial.specs.declared.judge.Outcome.{Outcome}
-use Rattle.crash_trial.specs.declared.judge.Outcome.TheVariants.{Right, Wrong}
+use Rattle.crash_trial.specs.declared.judge.CrashOutcome.{CrashOutcome}
+use Rattle.crash_trial.specs.declared.judge.CrashOutcome.TheVariants.{Right, Wrong}
 use Rattle.crash_trial.specs.Kept.{Leaves}
 
 -- the lines behind these calls, the oldest first, where these stood before
@@ -46,12 +46,12 @@ pub record StandsBehind (happened : List Happened) (standing : Standing) : Type 
   pub epochs : standing.epochs ≡ begun_behind 0 happened
 
 -- these lines were recovered: what stands there begins with them, and they have all that is stored for certain
-abbrev pub IsFrontOf : Standing → List ℕ → Outcome → Type 0
+abbrev pub IsFrontOf : Standing → List ℕ → CrashOutcome → Type 0
 IsFrontOf standing lines (Right found) = IsTrue (starts_with ◌==◌ standing.text.items lines) × (standing.stored ≤ found.length)
 IsFrontOf standing lines (Wrong why) = Unit {0}
 
 -- What came of a crash is right: such lines were recovered of what a crash may leave of the file behind these calls.
-abbrev pub IsJudged : List ℕ → List Happened → Outcome → Type 0
+abbrev pub IsJudged : List ℕ → List Happened → CrashOutcome → Type 0
 IsJudged file happened (Right found) =
     (left : List ℕ) × (standing : Standing) × Leaves file file happened left × StandsBehind happened standing
     × IsFrontOf standing (recovered left) (Right found)

@@ -9,7 +9,7 @@ use std::alloc::{AllocError, Global};
 
 /// Which bytes that were not stored are there.
 #[derive(Clone, Copy, Debug)]
-pub enum How {
+pub enum SurvivingBytes {
     /// Those of the calls before this one, and so many of its bytes.
     Cut(usize, usize),
     /// Each or not, as this number draws it.
@@ -27,15 +27,15 @@ pub(crate) fn mixed(seed: u64, call: usize, byte: usize) -> u64 {
 }
 
 // Whether a byte that a call wrote is there.
-fn is_there(how: &How, call: usize, byte: usize) -> bool {
+fn is_there(how: &SurvivingBytes, call: usize, byte: usize) -> bool {
     match how {
-        How::Cut(last, bytes) => call < *last || (call == *last && byte < *bytes),
-        How::Drawn(seed) => mixed(*seed, call, byte) & 1 == 1,
+        SurvivingBytes::Cut(last, bytes) => call < *last || (call == *last && byte < *bytes),
+        SurvivingBytes::Drawn(seed) => mixed(*seed, call, byte) & 1 == 1,
     }
 }
 
 // Takes some of these bytes back to what they were.
-fn tear(was: &[u8], file: &mut [u8], from: usize, to: usize, how: &How, call: usize)
+fn tear(was: &[u8], file: &mut [u8], from: usize, to: usize, how: &SurvivingBytes, call: usize)
     requires { length was.now ≡ length file.old }
     ensures { IsTorn was.now file.old file.new }
 {
@@ -52,7 +52,7 @@ fn left_behind(
     seen: &[u8],
     left: &[u8],
     happened: &[Happened],
-    how: &How,
+    how: &SurvivingBytes,
     call: usize,
 ) -> Result<Option<Vec<u8>>, AllocError>
     ensures { IfOk result (λ found. IfSome found (λ c. Leaves seen.now left.now happened.now c.items)) }
@@ -93,7 +93,7 @@ pub fn crash(
     alloc: Global,
     file: &[u8],
     happened: &[Happened],
-    how: &How,
+    how: &SurvivingBytes,
 ) -> Result<Option<Vec<u8>>, AllocError>
     ensures { IfOk result (λ found. IfSome found (λ c. Leaves file.now file.now happened.now c.items)) }
 {

@@ -23,7 +23,7 @@ pub enum Happened {
 
 /// A file, and all that happened to it, the oldest first.
 #[derive(Drop)]
-pub struct Kept {
+pub struct RecordedFile {
     alloc: Global,
     file: Vec<u8>,
     happened: Vec<Happened>,
@@ -80,14 +80,14 @@ fn note(happened: &mut Vec<Happened>, call: Happened) -> Result<(), AllocError>
     Ok(())
 }
 
-impl Kept {
+impl RecordedFile {
     /// A file with these bytes, all of them on the disk, to which nothing happened yet. Of those replacements that come
     /// behind the first one some are refused, as `seed` draws it.
-    pub fn new(alloc: Global, file: Vec<u8>, seed: u64) -> Kept
+    pub fn new(alloc: Global, file: Vec<u8>, seed: u64) -> RecordedFile
         ensures file { result.file.items ≡ file.items }
         ensures nothing { result.happened.items ≡ [] }
     {
-        Kept {
+        RecordedFile {
             alloc,
             file,
             happened: Vec::new(alloc),
@@ -111,7 +111,7 @@ impl Kept {
     }
 }
 
-impl Device for Kept {
+impl Device for RecordedFile {
     ghost seen = { λ d. Some (read_behind d.file.items d.happened.items) };
 
     ghost may_leave = { λ d c. MayLeave d.file.items d.happened.items c };

@@ -31,7 +31,7 @@ pub const ROOM: usize = 65_536;
 
 /// Why a scenario does not go on.
 #[derive(Drop)]
-pub enum Stop {
+pub enum ScenarioStop {
     /// A line of it says nothing that can be done.
     BadLine,
     /// The journal failed, or a front could not be written.
@@ -40,21 +40,21 @@ pub enum Stop {
     Memory,
 }
 
-impl<T: Drop> From<AllocFailed<T>> for Stop {
+impl<T: Drop> From<AllocFailed<T>> for ScenarioStop {
     fn from(_: AllocFailed<T>) -> Self {
-        Stop::Memory
+        ScenarioStop::Memory
     }
 }
 
-impl From<AllocError> for Stop {
+impl From<AllocError> for ScenarioStop {
     fn from(_: AllocError) -> Self {
-        Stop::Memory
+        ScenarioStop::Memory
     }
 }
 
 /// What a journal was asked for.
 #[derive(Clone, Copy, Debug, PartialEq, Eq)]
-pub enum Asked {
+pub enum JournalCall {
     /// To begin with a front.
     Front,
     /// To add lines.
@@ -72,27 +72,27 @@ fn are_lines(bytes: &[u8]) -> bool
 }
 
 // Adds lines to a journal.
-fn append<D: Device>(journal: &mut Journal<D>, lines: &[u8]) -> Result<(), Stop>
+fn append<D: Device>(journal: &mut Journal<D>, lines: &[u8]) -> Result<(), ScenarioStop>
     requires { IsInOrder D.seen D.may_leave journal.old }
     ensures { OnOk result (IsInOrder D.seen D.may_leave journal.new) }
 {
     if !are_lines(lines) {
-        return Err(Stop::Journal);
+        return Err(ScenarioStop::Journal);
     }
     match journal.append(lines) {
         Ok(()) => Ok(()),
-        Err(_) => Err(Stop::Journal),
+        Err(_) => Err(ScenarioStop::Journal),
     }
 }
 
 // Stores all lines of a journal.
-fn store<D: Device>(journal: &mut Journal<D>) -> Result<(), Stop>
+fn store<D: Device>(journal: &mut Journal<D>) -> Result<(), ScenarioStop>
     requires { IsInOrder D.seen D.may_leave journal.old }
     ensures { OnOk result (IsInOrder D.seen D.may_leave journal.new) }
 {
     match journal.sync() {
         Ok(()) => Ok(()),
-        Err(_) => Err(Stop::Journal),
+        Err(_) => Err(ScenarioStop::Journal),
     }
 }
 
@@ -104,16 +104,20 @@ fn is_front(front: &[u8]) -> bool
 }
 
 // Begins a journal anew. False: it could not, and goes on.
-fn renew<D: Device>(alloc: Global, journal: &mut Journal<D>, front: &[u8]) -> Result<bool, Stop>
+fn renew<D: Device>(
+    alloc: Global,
+    journal: &mut Journal<D>,
+    front: &[u8],
+) -> Result<bool, ScenarioStop>
     requires { IsInOrder D.seen D.may_leave journal.old }
     ensures { OnOk result (IsInOrder D.seen D.may_leave journal.new) }
 {
     if !is_front(front) {
-        return Err(Stop::Journal);
+        return Err(ScenarioStop::Journal);
     }
     match journal.change(alloc, front, ROOM) {
         Ok(went) => Ok(went),
-        Err(_) => Err(Stop::Journal),
+        Err(_) => Err(ScenarioStop::Journal),
     }
 }
 
@@ -125,7 +129,7 @@ pub struct Drive {
     // Of each place of a client its session.
     sessions: Vec<Option<u16>>,
     // What the journal was asked for.
-    asked: Vec<Asked>,
+    asked: Vec<JournalCall>,
 }
 
 // The values of the parts at first.
@@ -191,7 +195,7 @@ impl Drive {
     }
 
     /// What the journal was asked for.
-    pub fn asked(&self) -> &[Asked]
+    pub fn asked(&self) -> &[JournalCall]
         ensures { result.now ≡ self.now.asked.items }
     {
         &self.asked
@@ -205,7 +209,7 @@ impl Drive {
         if !self.hosted.push_first(&mut front)? {
             return Ok(None);
         }
-        self.asked.push(Asked::Front)?;
+        self.asked.push(JournalCall::Front)?;
         if !is_front(&front) {
             return Ok(None);
         }
@@ -215,41 +219,45 @@ impl Drive {
         }
     }
 
-    fn with_lines<D: Device>(&mut self, journal: &mut Journal<D>, lines: &[u8]) -> Result<(), Stop>
+    fn with_lines<D: Device>(
+        &mut self,
+        journal: &mut Journal<D>,
+        lines: &[u8],
+    ) -> Result<(), ScenarioStop>
         requires { IsInOrder D.seen D.may_leave journal.old }
         ensures { OnOk result (IsInOrder D.seen D.may_leave journal.new) }
     {
         if lines.is_empty() {
             return Ok(());
         }
-        self.asked.push(Asked::Lines)?;
+        self.asked.push(JournalCall::Lines)?;
         append(journal, lines)
     }
 
-    fn sync<D: Device>(&mut self, journal: &mut Journal<D>) -> Result<(), Stop>
+    fn sync<D: Device>(&mut self, journal: &mut Journal<D>) -> Result<(), ScenarioStop>
         requires { IsInOrder D.seen D.may_leave journal.old }
         ensures { OnOk result (IsInOrder D.seen D.may_leave journal.new) }
     {
-        self.asked.push(Asked::Sync)?;
+        self.asked.push(JournalCall::Sync)?;
         store(journal)
     }
 
     // Begins the next epoch, where the journal can begin anew.
-    fn change<D: Device>(&mut self, journal: &mut Journal<D>) -> Result<(), Stop>
+    fn change<D: Device>(&mut self, journal: &mut Journal<D>) -> Result<(), ScenarioStop>
         requires { IsInOrder D.seen D.may_leave journal.old }
         ensures { OnOk result (IsInOrder D.seen D.may_leave journal.new) }
     {
         let mut front = Vec::new(self.alloc);
         if !self.hosted.write_next(&mut front)? {
-            return Err(Stop::Journal);
+            return Err(ScenarioStop::Journal);
         }
-        self.asked.push(Asked::Front)?;
+        self.asked.push(JournalCall::Front)?;
         if !renew(self.alloc, journal, &front)? {
             self.hosted.put_off();
             return Ok(());
         }
         if !self.hosted.begin_next(&front)? {
-            return Err(Stop::Journal);
+            return Err(ScenarioStop::Journal);
         }
         Ok(())
     }
@@ -277,12 +285,12 @@ impl Drive {
         name: &Name,
         arguments: Vec<Datum>,
         lines: &mut Vec<u8>,
-    ) -> Result<(), Stop> {
+    ) -> Result<(), ScenarioStop> {
         let Some(session) = self.session_at(place) else {
             return Ok(());
         };
         let Some(operation) = self.hosted.operation(name) else {
-            return Err(Stop::BadLine);
+            return Err(ScenarioStop::BadLine);
         };
         self.hosted.reserve()?;
         let _made = self
@@ -292,7 +300,12 @@ impl Drive {
     }
 
     // The client at a place comes by a name.
-    fn enter(&mut self, place: usize, name: &Name, lines: &mut Vec<u8>) -> Result<(), Stop> {
+    fn enter(
+        &mut self,
+        place: usize,
+        name: &Name,
+        lines: &mut Vec<u8>,
+    ) -> Result<(), ScenarioStop> {
         if let Some(Some(_)) = self.sessions.get(place) {
             return Ok(());
         }
@@ -305,7 +318,7 @@ impl Drive {
     }
 
     // The waiting call of the client at a place is cancelled.
-    fn cancel(&mut self, place: usize, lines: &mut Vec<u8>) -> Result<(), Stop> {
+    fn cancel(&mut self, place: usize, lines: &mut Vec<u8>) -> Result<(), ScenarioStop> {
         if let Some(Some(session)) = self.sessions.get(place) {
             let _told = self.hosted.cancel(*session, lines)?;
         }
@@ -313,7 +326,7 @@ impl Drive {
     }
 
     // The client at a place leaves.
-    fn leave(&mut self, place: usize, lines: &mut Vec<u8>) -> Result<(), Stop> {
+    fn leave(&mut self, place: usize, lines: &mut Vec<u8>) -> Result<(), ScenarioStop> {
         self.cancel(place, lines)?;
         if let Some(row) = self.sessions.get_mut(place) {
             if let Some(session) = row.take() {
@@ -330,30 +343,35 @@ impl Drive {
         place: usize,
         line: &[u8],
         lines: &mut Vec<u8>,
-    ) -> Result<(), Stop> {
+    ) -> Result<(), ScenarioStop> {
         let Some((name, rest)) = next_bare(line) else {
-            return Err(Stop::BadLine);
+            return Err(ScenarioStop::BadLine);
         };
         let Some(name) = Name::read(self.alloc, name)? else {
-            return Err(Stop::BadLine);
+            return Err(ScenarioStop::BadLine);
         };
         match verb {
             b"name" => self.enter(place, &name, lines),
             b"call" => match data_of(self.alloc, rest)? {
                 Some(arguments) => self.call(place, &name, arguments, lines),
-                None => Err(Stop::BadLine),
+                None => Err(ScenarioStop::BadLine),
             },
-            _ => Err(Stop::BadLine),
+            _ => Err(ScenarioStop::BadLine),
         }
     }
 
     // Does what a line says of a client, and adds the lines that tell of it.
-    fn play_of(&mut self, verb: &[u8], line: &[u8], lines: &mut Vec<u8>) -> Result<(), Stop> {
+    fn play_of(
+        &mut self,
+        verb: &[u8],
+        line: &[u8],
+        lines: &mut Vec<u8>,
+    ) -> Result<(), ScenarioStop> {
         let Some((place, rest)) = next_bare(line) else {
-            return Err(Stop::BadLine);
+            return Err(ScenarioStop::BadLine);
         };
         let Some(place) = session_of(place) else {
-            return Err(Stop::BadLine);
+            return Err(ScenarioStop::BadLine);
         };
         let place = place as usize;
         match verb {
@@ -365,12 +383,16 @@ impl Drive {
 
     /// Plays a line of a scenario: `call sP OP ARG ..` of the client at the place P, 1 to 64; `cancel sP` and `leave sP`;
     /// `name sP NAME`, by which it comes; `sync`; `epoch`. Calls that are refused change nothing.
-    pub fn play<D: Device>(&mut self, journal: &mut Journal<D>, line: &[u8]) -> Result<(), Stop>
+    pub fn play<D: Device>(
+        &mut self,
+        journal: &mut Journal<D>,
+        line: &[u8],
+    ) -> Result<(), ScenarioStop>
         requires { IsInOrder D.seen D.may_leave journal.old }
         ensures { OnOk result (IsInOrder D.seen D.may_leave journal.new) }
     {
         let Some((verb, rest)) = next_bare(line) else {
-            return Err(Stop::BadLine);
+            return Err(ScenarioStop::BadLine);
         };
         match verb {
             b"sync" => self.sync(journal),
@@ -389,7 +411,7 @@ impl Drive {
         journal: &mut Journal<D>,
         scenario: &[u8],
         number: u64,
-    ) -> Result<(), (Stop, u64)>
+    ) -> Result<(), (ScenarioStop, u64)>
         requires { IsInOrder D.seen D.may_leave journal.old }
         ensures { OnOk result (IsInOrder D.seen D.may_leave journal.new) }
     {

@@ -3,7 +3,7 @@
 ghost use Rattle.std.specs.Prelude.{◌∷◌, [], IfOk, OnOk};
 ghost use Rattle.crash_trial.specs.Standings.{Follows, StandsBehind, IsFrontOf, IsJudged};
 
-use crate::crash::{How, crash};
+use crate::crash::{SurvivingBytes, crash};
 use crate::device::Happened;
 use decl_core::object::Object;
 use post_core::journal::recovered_len;
@@ -24,7 +24,7 @@ pub struct Standing {
 
 /// What a crash came to.
 #[derive(Drop)]
-pub enum Outcome {
+pub enum CrashOutcome {
     /// It left a part of the lines with all that was stored, and this was recovered.
     Right(Recovered),
     /// It did not; this is wrong.
@@ -92,19 +92,19 @@ fn judge_lines(
     house: House,
     standing: &Standing,
     lines: &[u8],
-) -> Result<Outcome, AllocError>
+) -> Result<CrashOutcome, AllocError>
     ensures { IfOk result (IsFrontOf standing.now lines.now) }
 {
     if !standing.text.starts_with(lines) {
-        return Ok(Outcome::Wrong("a line that was not written"));
+        return Ok(CrashOutcome::Wrong("a line that was not written"));
     }
     match recover(alloc, object, house, lines)? {
-        Err(_) => Ok(Outcome::Wrong("it is refused")),
+        Err(_) => Ok(CrashOutcome::Wrong("it is refused")),
         Ok(recovered) => {
             if recovered.length < standing.stored {
-                return Ok(Outcome::Wrong("a stored line is gone"));
+                return Ok(CrashOutcome::Wrong("a stored line is gone"));
             }
-            Ok(Outcome::Right(recovered))
+            Ok(CrashOutcome::Right(recovered))
         }
     }
 }
@@ -117,13 +117,13 @@ pub fn judge(
     house: House,
     file: &[u8],
     happened: &[Happened],
-    how: &How,
-) -> Result<Outcome, AllocError>
+    how: &SurvivingBytes,
+) -> Result<CrashOutcome, AllocError>
     ensures { IfOk result (IsJudged file.now happened.now) }
 {
     let standing = standing_behind(alloc, happened)?;
     match crash(alloc, file, happened, how)? {
-        None => Ok(Outcome::Wrong("a write past the end of the file")),
+        None => Ok(CrashOutcome::Wrong("a write past the end of the file")),
         Some(left) => judge_lines(
             alloc,
             object,

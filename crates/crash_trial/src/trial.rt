@@ -1,9 +1,9 @@
 //! A scenario, and the crashes that are tried in it.
 
-use crate::crash::{How, mixed};
-use crate::device::{Happened, Kept};
-use crate::drive::{Asked as Call, Drive, LIMITS, Stop, cut_line};
-use crate::judge::{Outcome, follow, judge, standing_behind};
+use crate::crash::{SurvivingBytes, mixed};
+use crate::device::{Happened, RecordedFile};
+use crate::drive::{Drive, JournalCall, LIMITS, ScenarioStop, cut_line};
+use crate::judge::{CrashOutcome, follow, judge, standing_behind};
 use crate::tell::front_behind;
 use check_core::open::{Opened, open_script};
 use decl_core::object::Object;
@@ -14,7 +14,7 @@ use text_core::write_whole;
 
 /// What is tried.
 #[derive(Drop)]
-pub struct Asked {
+pub struct TrialInput {
     /// The text of FILE.
     pub source: Vec<u8>,
     /// The scenario, with its first line.
@@ -27,7 +27,7 @@ pub struct Asked {
 
 /// How a trial ended.
 #[derive(Clone, Copy, Debug, PartialEq, Eq)]
-pub enum Ended {
+pub enum TrialEnd {
     /// No crash was wrong.
     Right,
     /// One was, or there was nothing to play.
@@ -36,22 +36,22 @@ pub enum Ended {
 
 /// Why a trial did not end.
 #[derive(Clone, Copy, Debug, PartialEq, Eq)]
-pub enum Fault {
+pub enum TrialFault {
     /// Memory was refused.
     Memory,
     /// A line could not be written.
     Written,
 }
 
-impl<T: Drop> From<AllocFailed<T>> for Fault {
+impl<T: Drop> From<AllocFailed<T>> for TrialFault {
     fn from(_: AllocFailed<T>) -> Self {
-        Fault::Memory
+        TrialFault::Memory
     }
 }
 
-impl From<AllocError> for Fault {
+impl From<AllocError> for TrialFault {
     fn from(_: AllocError) -> Self {
-        Fault::Memory
+        TrialFault::Memory
     }
 }
 
@@ -64,22 +64,22 @@ const HOUSE: House = House {
 
 // What was tried so far.
 #[derive(Drop)]
-struct Tried {
+struct TrialTally {
     crashes: u64,
     wrong: u64,
     // Of each state that was recovered: which epoch, and how many bytes of it.
     states: Vec<(u64, usize)>,
 }
 
-fn tell<W: Write>(writer: &mut W, text: &[u8]) -> Result<(), Fault> {
+fn tell<W: Write>(writer: &mut W, text: &[u8]) -> Result<(), TrialFault> {
     match write_whole(writer, text) {
         Ok(()) => Ok(()),
-        Err(_) => Err(Fault::Written),
+        Err(_) => Err(TrialFault::Written),
     }
 }
 
 // The object of a scenario.
-fn object_of(alloc: Global, asked: &Asked) -> Result<Option<Object>, AllocError> {
+fn object_of(alloc: Global, asked: &TrialInput) -> Result<Option<Object>, AllocError> {
     let (line, _) = cut_line(&asked.scenario);
     let mut head = line.to_vec(alloc)?;
     head.push(b'\n')?;
@@ -91,9 +91,9 @@ fn object_of(alloc: Global, asked: &Asked) -> Result<Option<Object>, AllocError>
 
 // What became of the file of a journal, and what the journal was asked for.
 #[derive(Drop)]
-struct Played {
-    file: Kept,
-    calls: Vec<Call>,
+struct PlayedScenario {
+    file: RecordedFile,
+    calls: Vec<JournalCall>,
 }
 
 // Plays a scenario, and gives what became of the file; or the number of the line that ended it.
@@ -102,18 +102,18 @@ fn play_scenario(
     object: Object,
     scenario: &[u8],
     seed: u64,
-) -> Result<Result<Played, u64>, AllocError> {
+) -> Result<Result<PlayedScenario, u64>, AllocError> {
     let Some(mut drive) = Drive::new(alloc, object)? else {
         return Ok(Err(0));
     };
-    let file = Kept::new(alloc, Vec::new(alloc), seed);
+    let file = RecordedFile::new(alloc, Vec::new(alloc), seed);
     let Some(mut journal) = drive.begin(file)? else {
         return Ok(Err(0));
     };
     match drive.play_all(&mut journal, scenario, 1) {
-        Err((Stop::Memory, _)) => Err(AllocError),
+        Err((ScenarioStop::Memory, _)) => Err(AllocError),
         Err((_, number)) => Ok(Err(number)),
-        Ok(()) => Ok(Ok(Played {
+        Ok(()) => Ok(Ok(PlayedScenario {
             file: journal.into_device(),
             calls: drive.asked().to_vec(alloc)?,
         })),
@@ -123,12 +123,12 @@ fn play_scenario(
 // Tells a state, where it was not told before.
 fn tell_state<W: Write>(
     alloc: Global,
-    asked: &Asked,
+    asked: &TrialInput,
     epoch: u64,
     recovered: Recovered,
-    tried: &mut Tried,
+    tried: &mut TrialTally,
     writer: &mut W,
-) -> Result<bool, Fault> {
+) -> Result<bool, TrialFault> {
     let length = recovered.length;
     for state in &tried.states {
         if state.0 == epoch && state.1 == length {
@@ -151,21 +151,21 @@ fn tell_state<W: Write>(
 // Tries a crash behind these calls.
 fn try_crash<W: Write>(
     alloc: Global,
-    asked: &Asked,
+    asked: &TrialInput,
     object: &Object,
-    file: &Kept,
+    file: &RecordedFile,
     calls: usize,
-    how: &How,
-    tried: &mut Tried,
+    how: &SurvivingBytes,
+    tried: &mut TrialTally,
     writer: &mut W,
-) -> Result<(), Fault> {
+) -> Result<(), TrialFault> {
     let happened = file.happened();
     let happened = &happened[..calls.min(happened.len())];
     let epoch = standing_behind(alloc, happened)?.epochs;
     tried.crashes = tried.crashes.saturating_add(1);
     let why = match judge(alloc, object, HOUSE, file.first(), happened, how)? {
-        Outcome::Wrong(why) => why,
-        Outcome::Right(recovered) => {
+        CrashOutcome::Wrong(why) => why,
+        CrashOutcome::Right(recovered) => {
             if tell_state(alloc, asked, epoch, recovered, tried, writer)? {
                 return Ok(());
             }
@@ -178,15 +178,15 @@ fn try_crash<W: Write>(
 }
 
 // Whether each call of a journal reached its file, in order, and nothing else did.
-fn is_each_done(asked: &[Call], happened: &[Happened]) -> bool {
+fn is_each_done(asked: &[JournalCall], happened: &[Happened]) -> bool {
     if asked.len() != happened.len() {
         return false;
     }
     for place in 0..asked.len() {
         let is_done = match &happened[place] {
-            Happened::Wrote(_, _) => asked[place] == Call::Lines,
-            Happened::Stored => asked[place] == Call::Sync,
-            Happened::Replaced(_) | Happened::Refused => asked[place] == Call::Front,
+            Happened::Wrote(_, _) => asked[place] == JournalCall::Lines,
+            Happened::Stored => asked[place] == JournalCall::Sync,
+            Happened::Replaced(_) | Happened::Refused => asked[place] == JournalCall::Front,
         };
         if !is_done {
             return false;
@@ -204,16 +204,16 @@ fn drawn(seed: u64, at: u64, count: usize) -> usize {
 // Tries a crash at each byte of each write.
 fn try_each<W: Write>(
     alloc: Global,
-    asked: &Asked,
+    asked: &TrialInput,
     object: &Object,
-    file: &Kept,
-    tried: &mut Tried,
+    file: &RecordedFile,
+    tried: &mut TrialTally,
     writer: &mut W,
-) -> Result<(), Fault> {
+) -> Result<(), TrialFault> {
     for call in 0..file.happened().len() {
         if let Happened::Wrote(_, bytes) = &file.happened()[call] {
             for byte in 0..bytes.len() + 1 {
-                let how = How::Cut(call, byte);
+                let how = SurvivingBytes::Cut(call, byte);
                 try_crash(alloc, asked, object, file, call + 1, &how, tried, writer)?;
             }
         }
@@ -224,22 +224,26 @@ fn try_each<W: Write>(
 // Draws crashes.
 fn try_drawn<W: Write>(
     alloc: Global,
-    asked: &Asked,
+    asked: &TrialInput,
     object: &Object,
-    file: &Kept,
-    tried: &mut Tried,
+    file: &RecordedFile,
+    tried: &mut TrialTally,
     writer: &mut W,
-) -> Result<(), Fault> {
+) -> Result<(), TrialFault> {
     for crash in 0..asked.crashes {
         let calls = drawn(asked.seed, crash, file.happened().len()).saturating_add(1);
-        let how = How::Drawn(mixed(asked.seed, crash as usize, usize::MAX));
+        let how = SurvivingBytes::Drawn(mixed(asked.seed, crash as usize, usize::MAX));
         try_crash(alloc, asked, object, file, calls, &how, tried, writer)?;
     }
     Ok(())
 }
 
 // Tells the lines of each epoch, and how often no new one could begin.
-fn tell_epochs<W: Write>(alloc: Global, file: &Kept, writer: &mut W) -> Result<(), Fault> {
+fn tell_epochs<W: Write>(
+    alloc: Global,
+    file: &RecordedFile,
+    writer: &mut W,
+) -> Result<(), TrialFault> {
     let mut standing = standing_behind(alloc, &[])?;
     let mut refused: u64 = 0;
     for call in file.happened() {
@@ -260,18 +264,22 @@ fn tell_epochs<W: Write>(alloc: Global, file: &Kept, writer: &mut W) -> Result<(
 }
 
 /// Plays a scenario, and tries crashes in it. An `Err` is that memory was refused, or a line could not be written.
-pub fn run_trial<W: Write>(alloc: Global, asked: &Asked, writer: &mut W) -> Result<Ended, Fault> {
+pub fn run_trial<W: Write>(
+    alloc: Global,
+    asked: &TrialInput,
+    writer: &mut W,
+) -> Result<TrialEnd, TrialFault> {
     let (Some(object), Some(judged)) = (object_of(alloc, asked)?, object_of(alloc, asked)?) else {
         tell(writer, b"no object\n")?;
-        return Ok(Ended::Wrong);
+        return Ok(TrialEnd::Wrong);
     };
     let (_, scenario) = cut_line(&asked.scenario);
-    let Played { file, calls } = match play_scenario(alloc, object, scenario, asked.seed)? {
+    let PlayedScenario { file, calls } = match play_scenario(alloc, object, scenario, asked.seed)? {
         Ok(played) => played,
         Err(number) => {
             let line = format!(in alloc; "line {number} ends the scenario\n")?;
             tell(writer, line.as_bytes())?;
-            return Ok(Ended::Wrong);
+            return Ok(TrialEnd::Wrong);
         }
     };
     if !is_each_done(&calls, file.happened()) {
@@ -279,10 +287,10 @@ pub fn run_trial<W: Write>(alloc: Global, asked: &Asked, writer: &mut W) -> Resu
             writer,
             b"wrong, the file heard other calls than the journal\n",
         )?;
-        return Ok(Ended::Wrong);
+        return Ok(TrialEnd::Wrong);
     }
     tell_epochs(alloc, &file, writer)?;
-    let mut tried = Tried {
+    let mut tried = TrialTally {
         crashes: 0,
         wrong: 0,
         states: Vec::new(alloc),
@@ -293,7 +301,7 @@ pub fn run_trial<W: Write>(alloc: Global, asked: &Asked, writer: &mut W) -> Resu
     let line = format!(in alloc; "crashes {crashes} wrong {wrong}\n")?;
     tell(writer, line.as_bytes())?;
     if wrong > 0 {
-        return Ok(Ended::Wrong);
+        return Ok(TrialEnd::Wrong);
     }
-    Ok(Ended::Right)
+    Ok(TrialEnd::Right)
 }

@@ -1,23 +1,23 @@
 //! What hands and shelves do with their folders.
 
-use crate::hand_calls::Call::{
+use crate::hand_calls::HandCall::{
     Append, Create, Discard, Failures, NoAppend, NoCreate, NoRead, NoRetire, Number, Read, Retire,
     Seal, Stamped,
 };
-use crate::hand_calls::{A, B, C, Call, D, E};
-use crate::places::Line::{Ahead, AheadEnds, All, At, Denied, Hand, Other, Shelf, Twin};
-use crate::places::{Line, Place};
+use crate::hand_calls::{A, B, C, D, E, HandCall};
+use crate::places::FolderStep::{Ahead, AheadEnds, All, At, Denied, Hand, Other, Shelf, Twin};
+use crate::places::{FolderStep, SharedFolder};
 use crate::scratch::Deed::{Has, Lacks, MakeFolder, Mode, Remove, RemoveFolder, Write};
 use crate::scratch::Scratch;
-use crate::shelf_calls::Entry;
-use crate::shelf_calls::Entry::{Load, NoLoad, NoStore, Nothing, Store};
+use crate::shelf_calls::ShelfCall;
+use crate::shelf_calls::ShelfCall::{Load, NoLoad, NoStore, Nothing, Store};
 use std::os::unix::fs::FileExt;
 use std::process::Abort;
 use std::rt::Files;
 use std::{io, process};
 
 // A file that is there already, of a number that is drawn, is left as it is. The number is not drawn again.
-const THERE: &[Line] = &[
+const THERE: &[FolderStep] = &[
     At("41.val", Write(b"mine")),
     Hand(&[Create(A), Append(A, b"forty"), Seal(A, 5), Number(A, 40)]),
     At("40.val", Has(b"forty")),
@@ -33,7 +33,7 @@ const THERE: &[Line] = &[
 ];
 
 // Which file a file of the hand is, and when it is there.
-const COMING: &[Line] = &[
+const COMING: &[FolderStep] = &[
     Hand(&[Create(A), Create(B), Number(A, 1), Number(B, 2)]),
     At("1.val", Has(b"")),
     At("2.val", Has(b"")),
@@ -51,7 +51,7 @@ const COMING: &[Line] = &[
 ];
 
 // Files that others shortened or removed.
-const LOST: &[Line] = &[
+const LOST: &[FolderStep] = &[
     Hand(&[Create(A), Append(A, b"shortened"), Seal(A, 9), Number(A, 1)]),
     Hand(&[Create(B), Append(B, b"gone"), Seal(B, 4), Number(B, 2)]),
     Hand(&[Create(C), Append(C, b"held open"), Seal(C, 9), Number(C, 3)]),
@@ -69,7 +69,7 @@ const LOST: &[Line] = &[
 ];
 
 // Two hands in one folder, with the same numbers.
-const TWO: &[Line] = &[
+const TWO: &[FolderStep] = &[
     Hand(&[Create(A), Append(A, b"one"), Seal(A, 3), Number(A, 7)]),
     Other(&[Create(B), Append(B, b"two"), Seal(B, 3), Number(B, 8)]),
     Hand(&[Create(C), Append(C, b"three"), Seal(C, 5), Number(C, 9)]),
@@ -85,7 +85,7 @@ const TWO: &[Line] = &[
 ];
 
 // A hand that has its next file ready.
-const AHEAD: &[Line] = &[
+const AHEAD: &[FolderStep] = &[
     // None is ready before a file was retired.
     Ahead(&[Create(A), Append(A, b"one"), Seal(A, 3), Number(A, 1)]),
     At("2.val", Lacks),
@@ -134,7 +134,7 @@ const AHEAD: &[Line] = &[
 ];
 
 // Hands that share what they sealed last.
-const SHARED: &[Line] = &[
+const SHARED: &[FolderStep] = &[
     Ahead(&[
         Create(A),
         Append(A, b"on"),
@@ -173,7 +173,7 @@ const SHARED: &[Line] = &[
 ];
 
 // The five files of the next script, each of them read whole.
-const FIVE: &[Call] = &[
+const FIVE: &[HandCall] = &[
     Read(A, 0, b"one"),
     Read(B, 0, b"two"),
     Read(C, 0, b"thr"),
@@ -182,7 +182,7 @@ const FIVE: &[Call] = &[
 ];
 
 // A hand that keeps what it read last: five files, as a part may have them, which another hand wrote.
-const AGAIN: &[Line] = &[
+const AGAIN: &[FolderStep] = &[
     Hand(&[
         Create(A),
         Create(B),
@@ -232,7 +232,7 @@ const AGAIN: &[Line] = &[
 ];
 
 // The one file that a name has, and that nothing else is left.
-const NAMES: &[Line] = &[
+const NAMES: &[FolderStep] = &[
     At("in", MakeFolder),
     Shelf(&[Store(b"cell.v", b"first")]),
     At("in/cell.v.part", Has(b"first")),
@@ -251,59 +251,71 @@ const NAMES: &[Line] = &[
     // The first and the last byte that a name may have.
     Shelf(&[Store(b"!~", b"edge")]),
     At("in/!~.part", Has(b"edge")),
-    Shelf(&[Entry::Failures(0)]),
+    Shelf(&[ShelfCall::Failures(0)]),
     At("in/cell.v.part", Remove),
     At("in/!~.part", Remove),
     At("in", RemoveFolder),
 ];
 
 // Names that no file may have: nothing is stored or loaded under them, and no file is touched.
-const BAD_NAMES: &[Line] = &[
+const BAD_NAMES: &[FolderStep] = &[
     At("in", MakeFolder),
     Shelf(&[
         NoStore(b"a/b", b"bytes"),
         NoLoad(b"a/b"),
-        Entry::Failures(2),
+        ShelfCall::Failures(2),
     ]),
-    Shelf(&[NoStore(b"/", b"bytes"), NoLoad(b"/"), Entry::Failures(4)]),
+    Shelf(&[
+        NoStore(b"/", b"bytes"),
+        NoLoad(b"/"),
+        ShelfCall::Failures(4),
+    ]),
     Shelf(&[
         NoStore(b"../up", b"bytes"),
         NoLoad(b"../up"),
-        Entry::Failures(6),
+        ShelfCall::Failures(6),
     ]),
     Shelf(&[
         NoStore(b"a b", b"bytes"),
         NoLoad(b"a b"),
-        Entry::Failures(8),
+        ShelfCall::Failures(8),
     ]),
-    Shelf(&[NoStore(b" ", b"bytes"), NoLoad(b" "), Entry::Failures(10)]),
+    Shelf(&[
+        NoStore(b" ", b"bytes"),
+        NoLoad(b" "),
+        ShelfCall::Failures(10),
+    ]),
     Shelf(&[
         NoStore(b"a\n", b"bytes"),
         NoLoad(b"a\n"),
-        Entry::Failures(12),
+        ShelfCall::Failures(12),
     ]),
-    Shelf(&[NoStore(b"\0", b"bytes"), NoLoad(b"\0"), Entry::Failures(14)]),
+    Shelf(&[
+        NoStore(b"\0", b"bytes"),
+        NoLoad(b"\0"),
+        ShelfCall::Failures(14),
+    ]),
     Shelf(&[
         NoStore(b"a\x1F", b"bytes"),
         NoLoad(b"a\x1F"),
-        Entry::Failures(16),
+        ShelfCall::Failures(16),
     ]),
     Shelf(&[
         NoStore(b"a\x7F", b"bytes"),
         NoLoad(b"a\x7F"),
-        Entry::Failures(18),
+        ShelfCall::Failures(18),
     ]),
     Shelf(&[
         NoStore(b"a\xC3\xA9", b"bytes"),
         NoLoad(b"a\xC3\xA9"),
-        Entry::Failures(20),
+        ShelfCall::Failures(20),
     ]),
     Shelf(&[
         NoStore(b"\xFF", b"bytes"),
         NoLoad(b"\xFF"),
-        Entry::Failures(22),
+        ShelfCall::Failures(22),
     ]),
-    Shelf(&[Nothing(b"a.b"), Entry::Failures(22)]),
+    Shelf(&[Nothing(b"a.b"), ShelfCall::Failures(22)]),
     At("up.part", Lacks),
     At("up.new", Lacks),
     // The folder is empty.
@@ -311,22 +323,26 @@ const BAD_NAMES: &[Line] = &[
 ];
 
 // A folder stands where a file has to be: the system refuses to read it, to write it and to replace it.
-const IN_PLACE: &[Line] = &[
+const IN_PLACE: &[FolderStep] = &[
     Shelf(&[Store(b"a.v", b"old")]),
     At("a.v.new", MakeFolder),
     Shelf(&[
         NoStore(b"a.v", b"new"),
-        Entry::Failures(1),
+        ShelfCall::Failures(1),
         Load(b"a.v", b"old"),
     ]),
     At("a.v.new", RemoveFolder),
     Shelf(&[Store(b"a.v", b"new"), Load(b"a.v", b"new")]),
     At("a.w.part", MakeFolder),
-    Shelf(&[NoLoad(b"a.w"), NoStore(b"a.w", b"new"), Entry::Failures(3)]),
+    Shelf(&[
+        NoLoad(b"a.w"),
+        NoStore(b"a.w", b"new"),
+        ShelfCall::Failures(3),
+    ]),
 ];
 
 // The folder of the devices is not there. Once it is, files are made in it.
-const MISSING: &[Line] = &[
+const MISSING: &[FolderStep] = &[
     Hand(&[
         NoCreate,
         Stamped(A, 1, 4),
@@ -334,9 +350,9 @@ const MISSING: &[Line] = &[
         NoRetire(A),
         Failures(3),
     ]),
-    Shelf(&[NoStore(b"a.v", b"new"), Entry::Failures(1)]),
+    Shelf(&[NoStore(b"a.v", b"new"), ShelfCall::Failures(1)]),
     // No file of the name is there.
-    Shelf(&[Nothing(b"a.v"), Entry::Failures(1)]),
+    Shelf(&[Nothing(b"a.v"), ShelfCall::Failures(1)]),
     At("missing", MakeFolder),
     Hand(&[Create(B), Append(B, b"late"), Seal(B, 4), Number(B, 2)]),
     Hand(&[Read(B, 0, b"late"), Failures(3)]),
@@ -345,7 +361,7 @@ const MISSING: &[Line] = &[
 
 // A folder that can be read and not written. Where the system lets this process write there all the same, as it lets
 // the superuser, only what is not refused is seen.
-const ONLY_READ: &[Line] = &[
+const ONLY_READ: &[FolderStep] = &[
     Hand(&[Create(A), Append(A, b"kept"), Seal(A, 4), Create(B)]),
     Shelf(&[Store(b"cell.v", b"kept")]),
     At(".", Mode(0o555)),
@@ -354,7 +370,7 @@ const ONLY_READ: &[Line] = &[
         &[
             NoStore(b"cell.v", b"other"),
             NoStore(b"cell.w", b"other"),
-            Entry::Failures(2),
+            ShelfCall::Failures(2),
             Nothing(b"cell.w"),
         ],
     ),
@@ -366,7 +382,7 @@ const ONLY_READ: &[Line] = &[
 ];
 
 // Of each script: its name, the folder of its devices, which is `.` or is made by the script, and their first number.
-const SCRIPTS: [(&str, &str, u64, &[Line]); 13] = [
+const SCRIPTS: [(&str, &str, u64, &[FolderStep]); 13] = [
     ("all", ".", 1, &[All]),
     ("there", ".", 40, THERE),
     ("come", ".", 1, COMING),
@@ -383,7 +399,12 @@ const SCRIPTS: [(&str, &str, u64, &[Line]); 13] = [
 ];
 
 // Plays a script in a new folder of a process. Its first line has this number.
-fn play<R>(rt: R, process: u32, script: (&str, &str, u64, &[Line]), line: usize) -> io::Result<()>
+fn play<R>(
+    rt: R,
+    process: u32,
+    script: (&str, &str, u64, &[FolderStep]),
+    line: usize,
+) -> io::Result<()>
 where
     R: Abort + Files + AllocGlobal + Copy + Drop,
     R::File: FileExt,
@@ -391,7 +412,7 @@ where
     let (name, devices, first, lines) = script;
     let scratch = Scratch::new(rt, process, name)?;
     let folder = scratch.path(devices)?;
-    let mut place = Place::new(rt, folder.as_str(), first)?;
+    let mut place = SharedFolder::new(rt, folder.as_str(), first)?;
     place.play(&rt, rt.alloc(), &scratch, lines, line);
     scratch.remove()
 }

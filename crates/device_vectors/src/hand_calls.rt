@@ -9,7 +9,7 @@ use std::process::Abort;
 /// A call of a hand, of the file at a place of the row, and what it answers. Each call that fails does so for
 /// the device.
 #[derive(Clone, Copy, Drop)]
-pub enum Call {
+pub enum HandCall {
     /// A file is begun. No other file of the row has its number.
     Create(usize),
     /// No file is begun.
@@ -168,40 +168,47 @@ impl FileRow {
     }
 
     // Makes a call of a file that is written, and tells whether it answers what the row says.
-    fn writes<H: Hand>(&mut self, hand: &mut H, call: Call) -> bool {
+    fn writes<H: Hand>(&mut self, hand: &mut H, call: HandCall) -> bool {
         match call {
-            Call::Create(place) => self.creates(hand, place),
-            Call::NoCreate => create(hand) == Err(HandFault::Device),
-            Call::Append(place, bytes) => append(hand, self.at(place).number, bytes).is_ok(),
-            Call::NoAppend(place, bytes) => append(hand, self.at(place).number, bytes) == DEVICE,
-            Call::Seal(place, len) => self.seals(hand, place, len),
-            Call::NoSeal(place) => seal(hand, self.at(place).number) == Err(HandFault::Device),
-            Call::Discard(place) => discard(hand, self.at(place).number),
+            HandCall::Create(place) => self.creates(hand, place),
+            HandCall::NoCreate => create(hand) == Err(HandFault::Device),
+            HandCall::Append(place, bytes) => append(hand, self.at(place).number, bytes).is_ok(),
+            HandCall::NoAppend(place, bytes) => append(hand, self.at(place).number, bytes)
+                == DEVICE,
+            HandCall::Seal(place, len) => self.seals(hand, place, len),
+            HandCall::NoSeal(place) => seal(hand, self.at(place).number) == Err(HandFault::Device),
+            HandCall::Discard(place) => discard(hand, self.at(place).number),
             _ => false,
         }
     }
 
     // Makes a call, and tells whether it answers what the row says.
-    fn is_right<H: Hand>(&mut self, hand: &mut H, call: Call) -> bool {
+    fn is_right<H: Hand>(&mut self, hand: &mut H, call: HandCall) -> bool {
         match call {
-            Call::Read(place, at, bytes) => {
+            HandCall::Read(place, at, bytes) => {
                 reads(hand, self.at(place), at, bytes) == Some(Ok(true))
             }
-            Call::NoRead(place, at) => {
+            HandCall::NoRead(place, at) => {
                 reads(hand, self.at(place), at, b"?") == Some(Err(HandFault::Device))
             }
-            Call::Retire(place) => hand.retire(&self.at(place)).is_ok(),
-            Call::NoRetire(place) => hand.retire(&self.at(place)) == DEVICE,
-            Call::Stamped(place, number, len) => self.set(place, number, len),
-            Call::Resized(place, len) => self.set(place, self.at(place).number, len),
-            Call::Number(place, number) => self.at(place).number == number,
-            Call::Failures(count) => hand.failures().wrapping_sub(self.failures) == count,
+            HandCall::Retire(place) => hand.retire(&self.at(place)).is_ok(),
+            HandCall::NoRetire(place) => hand.retire(&self.at(place)) == DEVICE,
+            HandCall::Stamped(place, number, len) => self.set(place, number, len),
+            HandCall::Resized(place, len) => self.set(place, self.at(place).number, len),
+            HandCall::Number(place, number) => self.at(place).number == number,
+            HandCall::Failures(count) => hand.failures().wrapping_sub(self.failures) == count,
             written => self.writes(hand, written),
         }
     }
 
     /// Makes calls, and asserts that each answers what its row says. They stand in this line of a script.
-    pub fn play<H: Hand>(&mut self, rt: &impl Abort, hand: &mut H, calls: &[Call], line: usize) {
+    pub fn play<H: Hand>(
+        &mut self,
+        rt: &impl Abort,
+        hand: &mut H,
+        calls: &[HandCall],
+        line: usize,
+    ) {
         for (number, call) in calls.iter().enumerate() {
             assert!(rt; self.is_right(hand, *call), "line {line}: call {number}");
         }

@@ -1,10 +1,10 @@
 //! What every hand does: in memory here, and in a folder by a line of `folder`.
 
-use crate::hand_calls::Call::{
+use crate::hand_calls::HandCall::{
     Append, Create, Discard, Failures, NoAppend, NoRead, NoRetire, NoSeal, Read, Resized, Retire,
     Seal, Stamped,
 };
-use crate::hand_calls::{A, B, C, Call, FileRow};
+use crate::hand_calls::{A, B, C, FileRow, HandCall};
 use device_core::hand::{Hand, Stamp};
 use device_core::memory::MemHand;
 use device_core::whole::{fetch, put};
@@ -12,7 +12,7 @@ use std::alloc::Global;
 use std::process::Abort;
 
 // What is appended is read back, whole and in pieces.
-const READS: &[Call] = &[
+const READS: &[HandCall] = &[
     Create(A),
     Append(A, b"hello, "),
     Append(A, b"world"),
@@ -39,7 +39,7 @@ const READS: &[Call] = &[
 ];
 
 // Files that are written at one time do not mix.
-const PENS_APART: &[Call] = &[
+const PENS_APART: &[HandCall] = &[
     Create(A),
     Create(B),
     Create(C),
@@ -59,7 +59,7 @@ const PENS_APART: &[Call] = &[
 ];
 
 // The number of a file that was given up is that of no later file, and nothing is read of it.
-const DISCARDED: &[Call] = &[
+const DISCARDED: &[HandCall] = &[
     Create(A),
     Append(A, b"lost"),
     Discard(A),
@@ -86,7 +86,7 @@ const DISCARDED: &[Call] = &[
 ];
 
 // A file that was retired is read no more, and each other one still is.
-const RETIRED: &[Call] = &[
+const RETIRED: &[HandCall] = &[
     Create(A),
     Append(A, b"gone"),
     Seal(A, 4),
@@ -111,7 +111,7 @@ const RETIRED: &[Call] = &[
 ];
 
 // A stamp that no seal gave, or that has more bytes than the file, is refused.
-const BAD_STAMPS: &[Call] = &[
+const BAD_STAMPS: &[HandCall] = &[
     Create(A),
     Append(A, b"hello"),
     Seal(A, 5),
@@ -141,7 +141,7 @@ const BAD_STAMPS: &[Call] = &[
 ];
 
 // A pen whose file was sealed or given up, or that no file has, is refused. Giving it up changes nothing.
-const BAD_PENS: &[Call] = &[
+const BAD_PENS: &[HandCall] = &[
     Create(A),
     Append(A, b"hello"),
     Seal(A, 5),
@@ -215,7 +215,7 @@ pub fn is_a_hand<H: Hand>(rt: &impl Abort, alloc: Global, hand: &mut H) {
     assert!(rt; hand.failures() == 24);
 }
 
-const SCRIPTS: [&[Call]; 6] = [READS, PENS_APART, DISCARDED, RETIRED, BAD_STAMPS, BAD_PENS];
+const SCRIPTS: [&[HandCall]; 6] = [READS, PENS_APART, DISCARDED, RETIRED, BAD_STAMPS, BAD_PENS];
 
 // No case can show it: calls that no program makes, such as those of pens and stamps that are none.
 #[test]

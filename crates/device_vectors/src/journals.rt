@@ -87,7 +87,7 @@ fn a_journal_in_memory(rt: HostRuntime) {
 
 // What is done with the file of a journal, or what it is.
 #[derive(Clone, Copy, Drop)]
-enum Line {
+enum JournalLine {
     // Its bytes are these.
     Reads(Bytes),
     // These are written over it, from this byte on, and go to the disk.
@@ -102,32 +102,32 @@ enum Line {
     At(&'static str, Deed),
 }
 
-const LINES: [Line; 21] = [
-    Line::At("kept.journal", Has(b"")),
-    Line::Replaces(b"a\n\0\0"),
-    Line::At("kept.journal", Has(b"a\n\0\0")),
-    Line::At("kept.journal.new", Lacks),
-    Line::Writes(2, b"b\n"),
-    Line::Reads(b"a\nb\n"),
+const LINES: [JournalLine; 21] = [
+    JournalLine::At("kept.journal", Has(b"")),
+    JournalLine::Replaces(b"a\n\0\0"),
+    JournalLine::At("kept.journal", Has(b"a\n\0\0")),
+    JournalLine::At("kept.journal.new", Lacks),
+    JournalLine::Writes(2, b"b\n"),
+    JournalLine::Reads(b"a\nb\n"),
     // A longer one that a crash left has its place.
-    Line::At("kept.journal.new", Put(b"all that was to be written")),
-    Line::Replaces(b"c\n\0\0\0"),
-    Line::At("kept.journal", Has(b"c\n\0\0\0")),
+    JournalLine::At("kept.journal.new", Put(b"all that was to be written")),
+    JournalLine::Replaces(b"c\n\0\0\0"),
+    JournalLine::At("kept.journal", Has(b"c\n\0\0\0")),
     // What is written goes to the one that is there now.
-    Line::Writes(2, b"d\n"),
-    Line::At("kept.journal", Has(b"c\nd\n\0")),
+    JournalLine::Writes(2, b"d\n"),
+    JournalLine::At("kept.journal", Has(b"c\nd\n\0")),
     // Nothing can be written beside it.
-    Line::At("kept.journal.new", MakeFolder),
-    Line::Stays(b"e\n"),
-    Line::At("kept.journal", Has(b"c\nd\n\0")),
-    Line::Writes(2, b"f\n"),
-    Line::At("kept.journal", Has(b"c\nf\n\0")),
-    Line::At("kept.journal.new", RemoveFolder),
-    Line::Replaces(b"e\n"),
+    JournalLine::At("kept.journal.new", MakeFolder),
+    JournalLine::Stays(b"e\n"),
+    JournalLine::At("kept.journal", Has(b"c\nd\n\0")),
+    JournalLine::Writes(2, b"f\n"),
+    JournalLine::At("kept.journal", Has(b"c\nf\n\0")),
+    JournalLine::At("kept.journal.new", RemoveFolder),
+    JournalLine::Replaces(b"e\n"),
     // What was written beside it cannot be put in its place.
-    Line::At("kept.journal", Remove),
-    Line::At("kept.journal", MakeFolder),
-    Line::Fails(b"g\n"),
+    JournalLine::At("kept.journal", Remove),
+    JournalLine::At("kept.journal", MakeFolder),
+    JournalLine::Fails(b"g\n"),
 ];
 
 // Does what a line says, and tells whether it is so.
@@ -135,18 +135,18 @@ fn is_right<R: Files + AllocGlobal + Copy + Drop>(
     alloc: Global,
     scratch: &Scratch<R>,
     file: &mut FolderFile<R>,
-    line: Line,
+    line: JournalLine,
 ) -> bool {
     match line {
-        Line::Reads(want) => match file.read(alloc) {
+        JournalLine::Reads(want) => match file.read(alloc) {
             Ok(bytes) => bytes.as_slice() == want,
             Err(_) => false,
         },
-        Line::Writes(at, bytes) => file.write_at(at, bytes).is_ok() && file.sync().is_ok(),
-        Line::Replaces(bytes) => file.replace(bytes) == Ok(true),
-        Line::Stays(bytes) => file.replace(bytes) == Ok(false),
-        Line::Fails(bytes) => file.replace(bytes) == Err(DeviceError::Failed),
-        Line::At(name, deed) => scratch.does(name, deed),
+        JournalLine::Writes(at, bytes) => file.write_at(at, bytes).is_ok() && file.sync().is_ok(),
+        JournalLine::Replaces(bytes) => file.replace(bytes) == Ok(true),
+        JournalLine::Stays(bytes) => file.replace(bytes) == Ok(false),
+        JournalLine::Fails(bytes) => file.replace(bytes) == Err(DeviceError::Failed),
+        JournalLine::At(name, deed) => scratch.does(name, deed),
     }
 }
 

@@ -1,9 +1,9 @@
 //! Devices in one folder, and what others do there, as the rows of scripts.
 
-use crate::hand_calls::{Call, FileRow};
+use crate::hand_calls::{FileRow, HandCall};
 use crate::hands::is_a_hand;
 use crate::scratch::{Deed, Scratch};
-use crate::shelf_calls::{Entry, play};
+use crate::shelf_calls::{ShelfCall, play};
 use crate::shelves::is_a_shelf;
 use device_core::ahead::{AheadHand, Ends};
 use device_core::dir::DirHand;
@@ -19,31 +19,31 @@ use std::sync::Arc;
 
 /// What is done in a folder, or what is there.
 #[derive(Clone, Copy, Drop)]
-pub enum Line {
+pub enum FolderStep {
     /// What every hand does, and every shelf. Both have to be new.
     All,
     /// Calls of the hand, which has the files of the script.
-    Hand(&'static [Call]),
+    Hand(&'static [HandCall]),
     /// Calls of another hand on the folder, with the same numbers and the same files of the script.
-    Other(&'static [Call]),
+    Other(&'static [HandCall]),
     /// Calls of a hand on the folder that has its next file ready, with the same numbers and the same
     /// files of the script.
-    Ahead(&'static [Call]),
+    Ahead(&'static [HandCall]),
     /// Calls of another such hand, which shares with it what they sealed last.
-    Twin(&'static [Call]),
+    Twin(&'static [HandCall]),
     /// The first of these two ends.
     AheadEnds,
     /// Calls of the shelf.
-    Shelf(&'static [Entry]),
+    Shelf(&'static [ShelfCall]),
     /// Calls of the hand and of the shelf, where the system lets this process write no file in the folder.
-    Denied(&'static [Call], &'static [Entry]),
+    Denied(&'static [HandCall], &'static [ShelfCall]),
     /// Someone does this with the file of this name, or this is so of it.
     At(&'static str, Deed),
 }
 
 /// Four hands and a shelf in one folder, with the files of a script.
 #[derive(Drop)]
-pub struct Place<R: Files + AllocGlobal> {
+pub struct SharedFolder<R: Files + AllocGlobal> {
     hand: DirHand<R>,
     other: DirHand<R>,
     ahead: AheadHand<R>,
@@ -52,12 +52,12 @@ pub struct Place<R: Files + AllocGlobal> {
     files: FileRow,
 }
 
-impl<R: Files + AllocGlobal + Copy + Drop> Place<R>
+impl<R: Files + AllocGlobal + Copy + Drop> SharedFolder<R>
 where
     R::File: FileExt,
 {
     /// New devices on this folder, with numbers from this one on.
-    pub fn new(rt: R, folder: &str, first: u64) -> io::Result<Place<R>> {
+    pub fn new(rt: R, folder: &str, first: u64) -> io::Result<SharedFolder<R>> {
         let numbers = Arc::new(rt.alloc(), Numbers::new(first))?;
         let others = Arc::try_clone(&numbers)?;
         let sealed = Arc::new(rt.alloc(), Sealed::new(rt.alloc())?)?;
@@ -69,7 +69,7 @@ where
         let other = DirHand::new(rt, folder, others)?;
         let shelf = DirShelf::new(rt, folder)?;
         let files = FileRow::new(&hand);
-        Ok(Place {
+        Ok(SharedFolder {
             hand,
             other,
             ahead,
@@ -84,8 +84,8 @@ where
         &mut self,
         rt: &impl Abort,
         alloc: Global,
-        calls: &[Call],
-        entries: &[Entry],
+        calls: &[HandCall],
+        entries: &[ShelfCall],
         number: usize,
     ) {
         self.files.play(rt, &mut self.hand, calls, number);
@@ -105,23 +105,23 @@ where
         rt: &impl Abort,
         alloc: Global,
         scratch: &Scratch<R>,
-        line: Line,
+        line: FolderStep,
         number: usize,
     ) -> bool {
         match line {
-            Line::All => self.all(rt, alloc),
-            Line::Hand(calls) => self.calls(rt, alloc, calls, &[], number),
-            Line::Other(calls) => self.files.play(rt, &mut self.other, calls, number),
-            Line::Ahead(calls) => self.files.play(rt, &mut self.ahead, calls, number),
-            Line::Twin(calls) => self.files.play(rt, &mut self.twin, calls, number),
-            Line::AheadEnds => self.ahead.end(),
-            Line::Shelf(entries) => self.calls(rt, alloc, &[], entries, number),
-            Line::Denied(calls, entries) => {
+            FolderStep::All => self.all(rt, alloc),
+            FolderStep::Hand(calls) => self.calls(rt, alloc, calls, &[], number),
+            FolderStep::Other(calls) => self.files.play(rt, &mut self.other, calls, number),
+            FolderStep::Ahead(calls) => self.files.play(rt, &mut self.ahead, calls, number),
+            FolderStep::Twin(calls) => self.files.play(rt, &mut self.twin, calls, number),
+            FolderStep::AheadEnds => self.ahead.end(),
+            FolderStep::Shelf(entries) => self.calls(rt, alloc, &[], entries, number),
+            FolderStep::Denied(calls, entries) => {
                 if !scratch.does("probe", Deed::Write(b"")) {
                     self.calls(rt, alloc, calls, entries, number);
                 }
             }
-            Line::At(name, deed) => return scratch.does(name, deed),
+            FolderStep::At(name, deed) => return scratch.does(name, deed),
         }
         true
     }
@@ -132,7 +132,7 @@ where
         rt: &impl Abort,
         alloc: Global,
         scratch: &Scratch<R>,
-        lines: &[Line],
+        lines: &[FolderStep],
         first: usize,
     ) {
         let mut number = first;

@@ -10,7 +10,7 @@ pub type Bytes = &'static [u8];
 
 /// A call of a shelf and what it answers. Each call that fails does so for the device.
 #[derive(Clone, Copy, Drop)]
-pub enum Entry {
+pub enum ShelfCall {
     /// Under this name these bytes are stored.
     Store(Bytes, Bytes),
     /// They are not stored.
@@ -42,14 +42,14 @@ fn loads_none<S: Shelf>(alloc: Global, shelf: &mut S, name: &[u8]) -> bool {
 }
 
 // Makes a call, and tells whether it answers what the row says.
-fn is_right<S: Shelf>(alloc: Global, shelf: &mut S, entry: Entry) -> bool {
+fn is_right<S: Shelf>(alloc: Global, shelf: &mut S, entry: ShelfCall) -> bool {
     match entry {
-        Entry::Store(name, bytes) => shelf.store(name, bytes).is_ok(),
-        Entry::NoStore(name, bytes) => shelf.store(name, bytes) == Err(HandFault::Device),
-        Entry::Load(name, bytes) => loads(alloc, shelf, name, Some(bytes)),
-        Entry::Nothing(name) => loads(alloc, shelf, name, None),
-        Entry::NoLoad(name) => loads_none(alloc, shelf, name),
-        Entry::Failures(count) => shelf.failures() == count,
+        ShelfCall::Store(name, bytes) => shelf.store(name, bytes).is_ok(),
+        ShelfCall::NoStore(name, bytes) => shelf.store(name, bytes) == Err(HandFault::Device),
+        ShelfCall::Load(name, bytes) => loads(alloc, shelf, name, Some(bytes)),
+        ShelfCall::Nothing(name) => loads(alloc, shelf, name, None),
+        ShelfCall::NoLoad(name) => loads_none(alloc, shelf, name),
+        ShelfCall::Failures(count) => shelf.failures() == count,
     }
 }
 
@@ -58,7 +58,7 @@ pub fn play<S: Shelf>(
     rt: &impl Abort,
     alloc: Global,
     shelf: &mut S,
-    entries: &[Entry],
+    entries: &[ShelfCall],
     line: usize,
 ) {
     for (number, entry) in entries.iter().enumerate() {

@@ -1,15 +1,15 @@
 //! What every shelf does: in memory here, and in a folder by a line of `folder`.
 
 use crate::hands::many_bytes;
-use crate::shelf_calls::Entry::{Failures, Load, Nothing, Store};
-use crate::shelf_calls::{Entry, loads, play};
+use crate::shelf_calls::ShelfCall::{Failures, Load, Nothing, Store};
+use crate::shelf_calls::{ShelfCall, loads, play};
 use device_core::mem_shelf::MemShelf;
 use device_core::shelf::Shelf;
 use std::alloc::Global;
 use std::process::Abort;
 
 // What was stored last under a name is loaded, and names are kept apart.
-const ENTRIES: &[Entry] = &[
+const ENTRIES: &[ShelfCall] = &[
     Failures(0),
     Nothing(b"cell.v"),
     Store(b"cell.v", b"\x01\x00\xFF"),

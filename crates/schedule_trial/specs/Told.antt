@@ -4,12 +4,12 @@ use Rattle.std.specs.Global.{Vec}
 use Rattle.keep_loop.specs.Seen.{Happened}
 use Rattle.keep_loop.specs.Seen.Happened.{Came, Ended, Broke, Wrote, Noticed, Added, Stored, Changed}
 use Rattle.post_core.specs.declared.served.Note.TheVariants.{Joins, Leaves, Ticks, Ends}
-use Rattle.schedule_trial.specs.declared.rows.Kind.{Kind}
-use Rattle.schedule_trial.specs.declared.rows.Kind.TheVariants as kinds
-use Rattle.schedule_trial.specs.declared.rows.Row.{Row}
+use Rattle.schedule_trial.specs.declared.rows.EventKind.{EventKind}
+use Rattle.schedule_trial.specs.declared.rows.EventKind.TheVariants as kinds
+use Rattle.schedule_trial.specs.declared.rows.EventRow.{EventRow}
 
 -- what happened, of a kind, to the one of a number, with these bytes
-abbrev pub event_of : Kind → ℕ → List ℕ → Happened
+abbrev pub event_of : EventKind → ℕ → List ℕ → Happened
 event_of kinds.Came number bytes = Came number bytes
 event_of kinds.Ended number bytes = Ended number
 event_of kinds.Broke number bytes = Broke number
@@ -23,11 +23,11 @@ event_of kinds.Stored number bytes = Stored number
 event_of kinds.Changed number bytes = Changed number bytes
 
 -- what happened behind these, the newest first
-abbrev pub behind : List Happened → List Row → List Happened
+abbrev pub behind : List Happened → List EventRow → List Happened
 behind before [] = before
 behind before (row ∷ rows) = behind (event_of row.kind row.number row.bytes.items ∷ before) rows
 
 -- all that was seen, where it is known
-abbrev pub seen_of : Option (Vec Row) → Option (List Happened)
+abbrev pub seen_of : Option (Vec EventRow) → Option (List Happened)
 seen_of None = None
 seen_of (Some rows) = Some (behind [] rows.items)

@@ -4,9 +4,9 @@ ghost use Rattle.std.specs.Prelude.{◌≡◌, [], Some};
 ghost use Rattle.keep_loop.specs.Seen.{Grows};
 ghost use Rattle.schedule_trial.specs.Told.{event_of, seen_of};
 
-use crate::plan::Plan;
-use crate::rows::{Kind, Row, kind_of, note};
-use crate::steps::{Call, How};
+use crate::plan::Schedule;
+use crate::rows::{EventKind, EventRow, kind_of, note};
+use crate::steps::{LoopCall, StepResult};
 use keep_loop::{Fault, Outside, Read};
 use std::alloc::{AllocError, Global};
 
@@ -14,13 +14,13 @@ use std::alloc::{AllocError, Global};
 #[derive(Drop)]
 pub struct Fake {
     alloc: Global,
-    plan: Plan,
-    rows: Option<Vec<Row>>,
+    plan: Schedule,
+    rows: Option<Vec<EventRow>>,
 }
 
 impl Fake {
     /// A schedule of which nothing has happened.
-    pub fn new(alloc: Global, plan: Plan) -> Fake
+    pub fn new(alloc: Global, plan: Schedule) -> Fake
         ensures { seen_of result.rows ≡ Some [] }
     {
         Fake {
@@ -31,7 +31,7 @@ impl Fake {
     }
 
     /// What was seen, the oldest first. `None`: memory was refused, and it is not known.
-    pub fn rows(&self) -> Option<&[Row]> {
+    pub fn rows(&self) -> Option<&[EventRow]> {
         match &self.rows {
             Some(rows) => Some(rows.as_slice()),
             None => None,
@@ -39,7 +39,7 @@ impl Fake {
     }
 
     // One thing more happened.
-    fn note(&mut self, kind: Kind, number: u64, bytes: &[u8])
+    fn note(&mut self, kind: EventKind, number: u64, bytes: &[u8])
         ensures { Grows (event_of kind number bytes.now) (seen_of self.old.rows) (seen_of self.new.rows) }
     {
         note(self.alloc, &mut self.rows, kind, number, bytes);
@@ -61,7 +61,7 @@ impl Outside for Fake {
         if !self.plan.comes(who) {
             return false;
         }
-        self.note(Kind::Joins, who, &[]);
+        self.note(EventKind::Joins, who, &[]);
         true
     }
 
@@ -75,26 +75,26 @@ impl Outside for Fake {
         if !self.plan.is_over(who) {
             return false;
         }
-        self.note(Kind::Broke, who, &[]);
+        self.note(EventKind::Broke, who, &[]);
         true
     }
 
     fn write(&mut self, who: u64, bytes: &[u8]) -> Option<usize> {
         let n = self.plan.write(who, bytes.len())?;
-        self.note(Kind::Wrote, who, &bytes[..n]);
+        self.note(EventKind::Wrote, who, &bytes[..n]);
         Some(n)
     }
 
     fn leave(&mut self, who: u64) {
-        self.note(Kind::Leaves, who, &[]);
+        self.note(EventKind::Leaves, who, &[]);
     }
 
     fn close(&mut self, _who: u64) {}
 
     fn tick(&mut self) -> Option<u64> {
-        let answer = self.plan.answer(Call::Tick, 0)?;
+        let answer = self.plan.answer(LoopCall::Tick, 0)?;
         let time = answer.number as u64;
-        self.note(Kind::Ticks, time, &[]);
+        self.note(EventKind::Ticks, time, &[]);
         Some(time)
     }
 
@@ -102,36 +102,36 @@ impl Outside for Fake {
         if !self.plan.ends() {
             return false;
         }
-        self.note(Kind::Ends, 0, &[]);
+        self.note(EventKind::Ends, 0, &[]);
         true
     }
 
     fn is_sync_due(&mut self) -> bool {
-        self.plan.refuses(Call::Due, 0).is_some()
+        self.plan.refuses(LoopCall::Due, 0).is_some()
     }
 
     fn append(&mut self, journal: usize, lines: &[u8]) -> Result<(), Fault> {
-        self.note(Kind::Added, journal as u64, lines);
-        match self.plan.refuses(Call::Append, journal) {
+        self.note(EventKind::Added, journal as u64, lines);
+        match self.plan.refuses(LoopCall::Append, journal) {
             None => Ok(()),
             Some(_) => Err(Fault::Journal(journal)),
         }
     }
 
     fn sync(&mut self, journal: usize) -> Result<(), Fault> {
-        if self.plan.refuses(Call::Sync, journal).is_some() {
+        if self.plan.refuses(LoopCall::Sync, journal).is_some() {
             return Err(Fault::Journal(journal));
         }
-        self.note(Kind::Stored, journal as u64, &[]);
+        self.note(EventKind::Stored, journal as u64, &[]);
         Ok(())
     }
 
     fn change(&mut self, journal: usize, front: &[u8]) -> Result<bool, Fault> {
-        let refuses = self.plan.refuses(Call::Change, journal);
-        if let Some(How::Ends) = refuses {
+        let refuses = self.plan.refuses(LoopCall::Change, journal);
+        if let Some(StepResult::Ends) = refuses {
             return Ok(false);
         }
-        self.note(Kind::Changed, journal as u64, front);
+        self.note(EventKind::Changed, journal as u64, front);
         match refuses {
             None => Ok(true),
             Some(_) => Err(Fault::Journal(journal)),

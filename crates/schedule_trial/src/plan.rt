@@ -2,14 +2,14 @@
 
 ghost use Rattle.std.specs.Prelude.{◌≤◌, ◌<◌, length, IfSome};
 
-use crate::steps::{Call, How, Step};
+use crate::steps::{LoopCall, ScheduleStep, StepResult};
 use keep_loop::Read;
 use std::alloc::AllocError;
 
 /// A schedule, and how far it is.
 #[derive(Drop)]
-pub struct Plan {
-    steps: Vec<Step>,
+pub struct Schedule {
+    steps: Vec<ScheduleStep>,
     // So many have come about.
     there: usize,
     // Of so many of them it was told who can be read or written.
@@ -20,15 +20,15 @@ pub struct Plan {
 
 // What a step answers.
 #[derive(Clone, Copy)]
-pub struct Answer {
-    pub how: How,
+pub struct PlannedAnswer {
+    pub how: StepResult,
     pub at: usize,
     pub number: usize,
 }
 
-impl Plan {
-    pub fn new(steps: Vec<Step>, taken: Vec<u64>) -> Plan {
-        Plan {
+impl Schedule {
+    pub fn new(steps: Vec<ScheduleStep>, taken: Vec<u64>) -> Schedule {
+        Schedule {
             steps,
             there: 0,
             told: 0,
@@ -37,7 +37,7 @@ impl Plan {
     }
 
     // Whether the step at a place has come about, and answers this.
-    fn answers(&self, at: usize, call: Call, place: usize) -> bool {
+    fn answers(&self, at: usize, call: LoopCall, place: usize) -> bool {
         match self.steps.get(at) {
             Some(step) => step.call == call && step.place == place && !step.is_done,
             None => false,
@@ -45,7 +45,7 @@ impl Plan {
     }
 
     // The first step that answers this.
-    fn find(&self, call: Call, place: usize) -> Option<usize> {
+    fn find(&self, call: LoopCall, place: usize) -> Option<usize> {
         for at in 0..self.there {
             if self.answers(at, call, place) {
                 return Some(at);
@@ -55,11 +55,11 @@ impl Plan {
     }
 
     /// What the first step says that answers this, which it does once.
-    pub fn answer(&mut self, call: Call, place: usize) -> Option<Answer> {
+    pub fn answer(&mut self, call: LoopCall, place: usize) -> Option<PlannedAnswer> {
         let at = self.find(call, place)?;
         let step = self.steps.get_mut(at)?;
         step.is_done = true;
-        Some(Answer {
+        Some(PlannedAnswer {
             how: step.how,
             at,
             number: step.number,
@@ -67,7 +67,7 @@ impl Plan {
     }
 
     /// Whether a step says that this fails, or does not.
-    pub fn refuses(&mut self, call: Call, place: usize) -> Option<How> {
+    pub fn refuses(&mut self, call: LoopCall, place: usize) -> Option<StepResult> {
         let answer = self.answer(call, place)?;
         Some(answer.how)
     }
@@ -81,7 +81,7 @@ impl Plan {
     pub fn go_on(&mut self) {
         for at in self.there..self.steps.len() {
             self.there = at + 1;
-            if self.answers(at, Call::Wait, 0) {
+            if self.answers(at, LoopCall::Wait, 0) {
                 return;
             }
         }
@@ -91,7 +91,7 @@ impl Plan {
     fn who_at(&self, at: usize) -> Option<u64> {
         let step = self.steps.get(at)?;
         match step.call {
-            Call::Read | Call::Write => Some(*self.taken.get(step.place)?),
+            LoopCall::Read | LoopCall::Write => Some(*self.taken.get(step.place)?),
             _ => None,
         }
     }
@@ -109,7 +109,13 @@ impl Plan {
 
     /// Whether a connection comes. What came of it before is told of from now on.
     pub fn comes(&mut self, who: u64) -> bool {
-        let Some(Answer { how: How::Goes, .. }) = self.answer(Call::Accept, 0) else {
+        let Some(
+            PlannedAnswer {
+                how: StepResult::Goes,
+                ..
+            },
+        ) = self.answer(LoopCall::Accept, 0)
+        else {
             return false;
         };
         self.told = 0;
@@ -122,18 +128,18 @@ impl Plan {
         let Some(place) = self.place_of(who) else {
             return Ok(Read::Broken);
         };
-        let Some(answer) = self.answer(Call::Read, place) else {
+        let Some(answer) = self.answer(LoopCall::Read, place) else {
             return Ok(Read::NoMore);
         };
         match answer.how {
-            How::Ends => return Ok(Read::Ended),
-            How::Fails => return Ok(Read::Broken),
-            How::Goes => {}
+            StepResult::Ends => return Ok(Read::Ended),
+            StepResult::Fails => return Ok(Read::Broken),
+            StepResult::Goes => {}
         }
         if let Some(step) = self.steps.get(answer.at) {
             piece.extend_from_slice(&step.bytes)?;
         }
-        match self.find(Call::Read, place) {
+        match self.find(LoopCall::Read, place) {
             Some(_) => Ok(Read::More),
             None => Ok(Read::NoMore),
         }
@@ -144,11 +150,11 @@ impl Plan {
         ensures { IfSome result (λ n. n ≤ most) }
     {
         let place = self.place_of(who)?;
-        match self.answer(Call::Write, place) {
+        match self.answer(LoopCall::Write, place) {
             None => Some(most),
             Some(answer) => match answer.how {
-                How::Goes => Some(answer.number.min(most)),
-                How::Ends | How::Fails => None,
+                StepResult::Goes => Some(answer.number.min(most)),
+                StepResult::Ends | StepResult::Fails => None,
             },
         }
     }
@@ -156,7 +162,7 @@ impl Plan {
     // Whether the step at a place says that a connection sends no more.
     fn ends_at(&self, at: usize, place: usize) -> bool {
         match self.steps.get(at) {
-            Some(step) => step.how != How::Goes && self.answers(at, Call::Read, place),
+            Some(step) => step.how != StepResult::Goes && self.answers(at, LoopCall::Read, place),
             None => false,
         }
     }
@@ -176,6 +182,6 @@ impl Plan {
 
     /// Whether the server is to end.
     pub fn ends(&mut self) -> bool {
-        self.answer(Call::End, 0).is_some() || self.there >= self.steps.len()
+        self.answer(LoopCall::End, 0).is_some() || self.there >= self.steps.len()
     }
 }

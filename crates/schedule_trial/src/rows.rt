@@ -10,7 +10,7 @@ use text_core::reply::push_number;
 
 /// What happened.
 #[derive(Clone, Copy, Debug, PartialEq, Eq)]
-pub enum Kind {
+pub enum EventKind {
     Came,
     Ended,
     Broke,
@@ -26,8 +26,8 @@ pub enum Kind {
 
 /// What happened to the connection or the journal of a number, or at a time, with these bytes.
 #[derive(Drop)]
-pub struct Row {
-    pub kind: Kind,
+pub struct EventRow {
+    pub kind: EventKind,
     pub number: u64,
     pub bytes: Vec<u8>,
 }
@@ -36,15 +36,15 @@ pub struct Row {
 // One thing more happened.
 fn push(
     alloc: Global,
-    known: &mut Vec<Row>,
-    kind: Kind,
+    known: &mut Vec<EventRow>,
+    kind: EventKind,
     number: u64,
     bytes: &[u8],
 ) -> Result<(), AllocError>
     ensures { OnOk result (behind [] known.new.items ≡ event_of kind number bytes.now ∷ behind [] known.old.items) }
 {
     let bytes = bytes.to_vec(alloc)?;
-    known.push(Row {
+    known.push(EventRow {
         kind,
         number,
         bytes,
@@ -53,7 +53,13 @@ fn push(
 }
 
 /// One thing more happened. Where memory is refused, nothing is known any more.
-pub fn note(alloc: Global, rows: &mut Option<Vec<Row>>, kind: Kind, number: u64, bytes: &[u8])
+pub fn note(
+    alloc: Global,
+    rows: &mut Option<Vec<EventRow>>,
+    kind: EventKind,
+    number: u64,
+    bytes: &[u8],
+)
     ensures { Grows (event_of kind number bytes.now) (seen_of rows.old) (seen_of rows.new) }
 {
     let Some(known) = rows else {
@@ -65,29 +71,29 @@ pub fn note(alloc: Global, rows: &mut Option<Vec<Row>>, kind: Kind, number: u64,
 }
 
 /// What a read saw.
-pub fn kind_of(read: Read) -> Kind
+pub fn kind_of(read: Read) -> EventKind
     ensures { (who : ℕ) (bytes : List ℕ) → event_of result who bytes ≡ read_of who bytes read }
 {
     match read {
-        Read::More | Read::NoMore => Kind::Came,
-        Read::Ended => Kind::Ended,
-        Read::Broken => Kind::Broke,
+        Read::More | Read::NoMore => EventKind::Came,
+        Read::Ended => EventKind::Ended,
+        Read::Broken => EventKind::Broke,
     }
 }
 
-fn word_of(kind: Kind) -> &'static [u8] {
+fn word_of(kind: EventKind) -> &'static [u8] {
     match kind {
-        Kind::Came => b"came ",
-        Kind::Ended => b"end ",
-        Kind::Broke => b"broke ",
-        Kind::Wrote => b"wrote ",
-        Kind::Joins => b"joins ",
-        Kind::Leaves => b"leaves ",
-        Kind::Ticks => b"ticks ",
-        Kind::Ends => b"ends ",
-        Kind::Added => b"added ",
-        Kind::Stored => b"stored ",
-        Kind::Changed => b"changed ",
+        EventKind::Came => b"came ",
+        EventKind::Ended => b"end ",
+        EventKind::Broke => b"broke ",
+        EventKind::Wrote => b"wrote ",
+        EventKind::Joins => b"joins ",
+        EventKind::Leaves => b"leaves ",
+        EventKind::Ticks => b"ticks ",
+        EventKind::Ends => b"ends ",
+        EventKind::Added => b"added ",
+        EventKind::Stored => b"stored ",
+        EventKind::Changed => b"changed ",
     }
 }
 
@@ -109,7 +115,7 @@ pub fn push_block(
 }
 
 /// Adds all that happened.
-pub fn push_rows(out: &mut Vec<u8>, rows: &[Row]) -> Result<(), AllocError> {
+pub fn push_rows(out: &mut Vec<u8>, rows: &[EventRow]) -> Result<(), AllocError> {
     for row in rows {
         push_block(out, word_of(row.kind), row.number, &row.bytes)?;
     }

@@ -26,7 +26,7 @@ use word_core::number::integer_of;
 
 /// What the loop asks for.
 #[derive(Clone, Copy, Debug, PartialEq, Eq)]
-pub enum Call {
+pub enum LoopCall {
     Wait,
     Accept,
     Read,
@@ -42,7 +42,7 @@ pub enum Call {
 
 /// What it is answered.
 #[derive(Clone, Copy, Debug, PartialEq, Eq)]
-pub enum How {
+pub enum StepResult {
     Goes,
     Ends,
     Fails,
@@ -50,9 +50,9 @@ pub enum How {
 
 /// A step.
 #[derive(Drop)]
-pub struct Step {
-    pub call: Call,
-    pub how: How,
+pub struct ScheduleStep {
+    pub call: LoopCall,
+    pub how: StepResult,
     pub place: usize,
     pub number: usize,
     pub bytes: Vec<u8>,
@@ -62,18 +62,18 @@ pub struct Step {
 
 /// The words of a line.
 #[derive(Clone, Copy)]
-pub struct Words<'a> {
+pub struct StepWords<'a> {
     pub word: &'a [u8],
     pub place: usize,
     pub number: usize,
 }
 
 /// The words of a line, where it has three.
-pub fn words_of(line: &[u8]) -> Option<Words<'_>> {
+pub fn words_of(line: &[u8]) -> Option<StepWords<'_>> {
     let (word, rest) = next_bare(line)?;
     let (place, rest) = next_bare(rest)?;
     let (number, _) = next_bare(rest)?;
-    Some(Words {
+    Some(StepWords {
         word,
         place: integer_of(place)? as usize,
         number: integer_of(number)? as usize,
@@ -81,35 +81,35 @@ pub fn words_of(line: &[u8]) -> Option<Words<'_>> {
 }
 
 /// Whether a line ends a schedule.
-pub fn is_run(words: Words<'_>) -> bool {
+pub fn is_run(words: StepWords<'_>) -> bool {
     words.word == b"run".as_slice()
 }
 
 // What a word says.
-fn said(word: &[u8]) -> Option<(Call, How)> {
+fn said(word: &[u8]) -> Option<(LoopCall, StepResult)> {
     match word {
-        b"wait" => Some((Call::Wait, How::Goes)),
-        b"come" => Some((Call::Accept, How::Goes)),
-        b"short" => Some((Call::Accept, How::Fails)),
-        b"say" => Some((Call::Read, How::Goes)),
-        b"end" => Some((Call::Read, How::Ends)),
-        b"break" => Some((Call::Read, How::Fails)),
-        b"take" => Some((Call::Write, How::Goes)),
-        b"cut" => Some((Call::Write, How::Fails)),
-        b"tick" => Some((Call::Tick, How::Goes)),
-        b"due" => Some((Call::Due, How::Goes)),
-        b"unadded" => Some((Call::Append, How::Fails)),
-        b"unstored" => Some((Call::Sync, How::Fails)),
-        b"full" => Some((Call::Change, How::Ends)),
-        b"unbegun" => Some((Call::Change, How::Fails)),
-        b"stop" => Some((Call::End, How::Goes)),
-        b"past" => Some((Call::Past, How::Goes)),
+        b"wait" => Some((LoopCall::Wait, StepResult::Goes)),
+        b"come" => Some((LoopCall::Accept, StepResult::Goes)),
+        b"short" => Some((LoopCall::Accept, StepResult::Fails)),
+        b"say" => Some((LoopCall::Read, StepResult::Goes)),
+        b"end" => Some((LoopCall::Read, StepResult::Ends)),
+        b"break" => Some((LoopCall::Read, StepResult::Fails)),
+        b"take" => Some((LoopCall::Write, StepResult::Goes)),
+        b"cut" => Some((LoopCall::Write, StepResult::Fails)),
+        b"tick" => Some((LoopCall::Tick, StepResult::Goes)),
+        b"due" => Some((LoopCall::Due, StepResult::Goes)),
+        b"unadded" => Some((LoopCall::Append, StepResult::Fails)),
+        b"unstored" => Some((LoopCall::Sync, StepResult::Fails)),
+        b"full" => Some((LoopCall::Change, StepResult::Ends)),
+        b"unbegun" => Some((LoopCall::Change, StepResult::Fails)),
+        b"stop" => Some((LoopCall::End, StepResult::Goes)),
+        b"past" => Some((LoopCall::Past, StepResult::Goes)),
         _ => None,
     }
 }
 
 /// The bytes behind a line that belong to it, and what stands behind them.
-pub fn cut_bytes<'a>(words: Words<'_>, behind: &'a [u8]) -> (&'a [u8], &'a [u8]) {
+pub fn cut_bytes<'a>(words: StepWords<'_>, behind: &'a [u8]) -> (&'a [u8], &'a [u8]) {
     if words.word != b"say".as_slice() {
         return (&[], behind);
     }
@@ -123,14 +123,14 @@ pub fn cut_bytes<'a>(words: Words<'_>, behind: &'a [u8]) -> (&'a [u8], &'a [u8])
 /// Adds a step with these bytes. `false`: its word says nothing.
 pub fn push_step(
     alloc: Global,
-    steps: &mut Vec<Step>,
-    words: Words<'_>,
+    steps: &mut Vec<ScheduleStep>,
+    words: StepWords<'_>,
     bytes: &[u8],
 ) -> Result<bool, AllocError> {
     let Some((call, how)) = said(words.word) else {
         return Ok(false);
     };
-    let step = Step {
+    let step = ScheduleStep {
         call,
         how,
         place: words.place,

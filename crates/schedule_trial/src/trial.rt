@@ -8,9 +8,9 @@ ghost use Rattle.schedule_trial.specs.Told.{seen_of};
 ghost use Rattle.table_core.specs.Moves.{Gives, Fronts};
 
 use crate::fake::Fake;
-use crate::plan::Plan;
+use crate::plan::Schedule;
 use crate::rows::{push_block, push_rows};
-use crate::steps::{Call, Step, Words, cut_bytes, is_run, push_step, words_of};
+use crate::steps::{LoopCall, ScheduleStep, StepWords, cut_bytes, is_run, push_step, words_of};
 use check_core::judge::{Judged, judge};
 use decl_core::object::Object;
 use guest_core::guests::Guests;
@@ -27,22 +27,22 @@ use value_core::value::Value;
 
 /// Why schedules are not played.
 #[derive(Clone, Copy, Debug, PartialEq, Eq)]
-pub enum Fault {
+pub enum ScheduleFault {
     /// A line says nothing, or there are no objects.
     Bad,
     /// Memory was refused.
     Memory,
 }
 
-impl<T: Drop> From<AllocFailed<T>> for Fault {
-    fn from(_: AllocFailed<T>) -> Fault {
-        Fault::Memory
+impl<T: Drop> From<AllocFailed<T>> for ScheduleFault {
+    fn from(_: AllocFailed<T>) -> ScheduleFault {
+        ScheduleFault::Memory
     }
 }
 
-impl From<AllocError> for Fault {
-    fn from(_: AllocError) -> Fault {
-        Fault::Memory
+impl From<AllocError> for ScheduleFault {
+    fn from(_: AllocError) -> ScheduleFault {
+        ScheduleFault::Memory
     }
 }
 
@@ -65,10 +65,14 @@ fn opening(alloc: Global, object: &Object) -> Result<Vec<Value>, AllocError> {
 }
 
 // What was done of the object at a place before all steps.
-fn past_of(alloc: Global, steps: &[Step], place: usize) -> Result<Vec<PastEvent>, AllocError> {
+fn past_of(
+    alloc: Global,
+    steps: &[ScheduleStep],
+    place: usize,
+) -> Result<Vec<PastEvent>, AllocError> {
     let mut past = Vec::new(alloc);
     for step in steps {
-        if step.call == Call::Past && step.place == place {
+        if step.call == LoopCall::Past && step.place == place {
             for _ in 0..step.number {
                 past.push(PastEvent::Start(0))?;
                 past.push(PastEvent::End(0))?;
@@ -79,12 +83,12 @@ fn past_of(alloc: Global, steps: &[Step], place: usize) -> Result<Vec<PastEvent>
 }
 
 // An object that no client has used, behind a past.
-fn hosted_of(alloc: Global, object: Object, past: Vec<PastEvent>) -> Result<Hosted, Fault> {
+fn hosted_of(alloc: Global, object: Object, past: Vec<PastEvent>) -> Result<Hosted, ScheduleFault> {
     let source = source_of(&object);
     let values = opening(alloc, &object)?;
     let found = Live::behind(alloc, object, &past, values, Vec::new(alloc), LIMITS)?;
     let Some(live) = found else {
-        return Err(Fault::Bad);
+        return Err(ScheduleFault::Bad);
     };
     let begun = Begun {
         live,
@@ -100,9 +104,13 @@ fn hosted_of(alloc: Global, object: Object, past: Vec<PastEvent>) -> Result<Host
 }
 
 // The objects of a source, with the pasts that steps give them.
-fn objects_of(alloc: Global, source: &[u8], steps: &[Step]) -> Result<Vec<Hosted>, Fault> {
+fn objects_of(
+    alloc: Global,
+    source: &[u8],
+    steps: &[ScheduleStep],
+) -> Result<Vec<Hosted>, ScheduleFault> {
     let Judged::Ready(accepted) = judge(alloc, source)? else {
-        return Err(Fault::Bad);
+        return Err(ScheduleFault::Bad);
     };
     let mut objects = Vec::new(alloc);
     for one in accepted {
@@ -113,11 +121,11 @@ fn objects_of(alloc: Global, source: &[u8], steps: &[Step]) -> Result<Vec<Hosted
 }
 
 // Adds the fronts of journals.
-fn push_fronts(alloc: Global, objects: &[Hosted], out: &mut Vec<u8>) -> Result<(), Fault> {
+fn push_fronts(alloc: Global, objects: &[Hosted], out: &mut Vec<u8>) -> Result<(), ScheduleFault> {
     for at in 0..objects.len() {
         let mut front = Vec::new(alloc);
         if !objects[at].push_first(&mut front)? {
-            return Err(Fault::Bad);
+            return Err(ScheduleFault::Bad);
         }
         push_block(out, b"front ", at as u64, &front)?;
     }
@@ -145,10 +153,10 @@ fn serve(alloc: Global, table: Table, limits: Limits, fake: &mut Fake) -> Result
 fn play(
     alloc: Global,
     source: &[u8],
-    steps: Vec<Step>,
-    words: Words<'_>,
+    steps: Vec<ScheduleStep>,
+    words: StepWords<'_>,
     out: &mut Vec<u8>,
-) -> Result<(), Fault> {
+) -> Result<(), ScheduleFault> {
     let objects = objects_of(alloc, source, &steps)?;
     push_fronts(alloc, &objects, out)?;
     let limits = Limits {
@@ -157,18 +165,23 @@ fn play(
         waits: words.number == 1,
     };
     let table = Table::new(alloc, objects, limits.places, 0)?;
-    let mut fake = Fake::new(alloc, Plan::new(steps, Vec::new(alloc)));
+    let mut fake = Fake::new(alloc, Schedule::new(steps, Vec::new(alloc)));
     let ended = serve(alloc, table, limits, &mut fake);
     match fake.rows() {
         Some(rows) => push_rows(out, rows)?,
-        None => return Err(Fault::Memory),
+        None => return Err(ScheduleFault::Memory),
     }
     push_end(ended, out)?;
     Ok(())
 }
 
 /// Plays each schedule of a text on the objects of a source.
-pub fn play_all(alloc: Global, source: &[u8], text: &[u8], out: &mut Vec<u8>) -> Result<(), Fault> {
+pub fn play_all(
+    alloc: Global,
+    source: &[u8],
+    text: &[u8],
+    out: &mut Vec<u8>,
+) -> Result<(), ScheduleFault> {
     let mut rest = text;
     let mut steps = Vec::new(alloc);
     for _ in 0..text.len() {
@@ -176,7 +189,7 @@ pub fn play_all(alloc: Global, source: &[u8], text: &[u8], out: &mut Vec<u8>) ->
             return Ok(());
         };
         let Some(words) = words_of(line) else {
-            return Err(Fault::Bad);
+            return Err(ScheduleFault::Bad);
         };
         if is_run(words) {
             play(alloc, source, steps, words, out)?;
@@ -185,7 +198,7 @@ pub fn play_all(alloc: Global, source: &[u8], text: &[u8], out: &mut Vec<u8>) ->
         } else {
             let (bytes, behind) = cut_bytes(words, behind);
             if !push_step(alloc, &mut steps, words, bytes)? {
-                return Err(Fault::Bad);
+                return Err(ScheduleFault::Bad);
             }
             rest = behind;
         }

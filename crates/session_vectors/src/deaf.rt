@@ -1,7 +1,7 @@
 //! Clients that read nothing, and sessions that are stopped.
 
 use crate::make::{BUFFER, EMPTY, TURNS, ZERO, offices, tells};
-use crate::streams::{Counted, Gate, Told, await_lines, counter, shared};
+use crate::streams::{CountingWriter, PacedReader, Told, await_lines, counter, shared};
 use device_core::memory::MemHand;
 use session_core::serve::{Connection, serve_session};
 use session_text::bell::Bell;
@@ -86,7 +86,7 @@ fn a_client_that_does_not_read_holds_up_nobody(rt: HostRuntime) {
     let alloc = rt.alloc();
     let (all, hand) = offices(&rt, alloc, TURNS, ZERO);
     let (came, others) = (counter(&rt, alloc), counter(&rt, alloc));
-    let waits = Gate {
+    let waits = PacedReader {
         lines: DEAF,
         written: shared(&rt, &others),
     };
@@ -95,11 +95,11 @@ fn a_client_that_does_not_read_holds_up_nobody(rt: HostRuntime) {
         came: shared(&rt, &came),
         others: shared(&rt, &others),
     };
-    let follows = Gate {
+    let follows = PacedReader {
         lines: OTHER,
         written: shared(&rt, &came),
     };
-    let counted = Counted {
+    let counted = CountingWriter {
         bytes: Vec::new(alloc),
         written: shared(&rt, &others),
     };
@@ -160,7 +160,7 @@ fn what_was_read_before_the_bell_is_sent_ahead(rt: HostRuntime) {
         text: b"open buffer\ncall deposit 1\ncancel 1\ncall remove\nquit\n",
         bell: Arc::try_clone(&bell).expect(&rt, "memory"),
     };
-    let writer = Counted {
+    let writer = CountingWriter {
         bytes: Vec::new(alloc),
         written: counter(&rt, alloc),
     };

@@ -1,7 +1,7 @@
 //! Clients to whom nothing can be written, while a call of theirs waits.
 
 use crate::make::{STEPS, TURNS, ZERO, begun, ends, first_of, offices, seat_of, serve};
-use crate::streams::{Short, await_within, counter, shared};
+use crate::streams::{LimitedWriter, await_within, counter, shared};
 use device_core::memory::MemHand;
 use office_core::seat::Seat;
 use session_core::end::SessionEnd;
@@ -61,7 +61,7 @@ fn visits<R: Abort + Threads + Wait + Clock + Sync>(
         pauses: PAUSES,
         ended: shared(rt, &ended),
     };
-    let writer = Short {
+    let writer = LimitedWriter {
         bytes: Vec::new(alloc),
         left: 0,
         fails: true,

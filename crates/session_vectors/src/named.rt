@@ -3,7 +3,9 @@
 use crate::make::{
     BUFFER, EMPTY, STEPS, ZERO, begun, ends, first_of, name, offices, seat_of, serve, tells,
 };
-use crate::streams::{Counted, Gate, Streams, await_lines, connected, counter, shared};
+use crate::streams::{
+    CountingWriter, PacedReader, Streams, await_lines, connected, counter, shared,
+};
 use office_core::office::Office;
 use path_tree::name::Name;
 use session_core::fault::SessionFault;
@@ -19,7 +21,7 @@ use std::thread;
 // is asked for its end.
 #[derive(Drop)]
 struct Lingering {
-    gate: Gate,
+    gate: PacedReader,
     asked: Arc<AtomicU64>,
     may_end: Arc<AtomicU64>,
 }
@@ -84,14 +86,14 @@ fn a_name_is_in_use_until_the_input_ends(rt: HostRuntime) {
     let (written, asked) = (counter(&rt, alloc), counter(&rt, alloc));
     let may_end = counter(&rt, alloc);
     let reader = Lingering {
-        gate: Gate {
+        gate: PacedReader {
             lines: LINGERS,
             written: shared(&rt, &written),
         },
         asked: shared(&rt, &asked),
         may_end: shared(&rt, &may_end),
     };
-    let writer = Counted {
+    let writer = CountingWriter {
         bytes: Vec::new(alloc),
         written: shared(&rt, &written),
     };

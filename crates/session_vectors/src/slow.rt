@@ -1,7 +1,7 @@
 //! A call that runs on a slow device.
 
 use crate::make::{ZERO, offices, tells};
-use crate::streams::{Counted, Gate, await_lines, counter, shared};
+use crate::streams::{CountingWriter, PacedReader, await_lines, counter, shared};
 use device_core::hand::{Hand, HandFault, Pen, Stamp};
 use device_core::memory::MemHand;
 use device_core::whole::put;
@@ -101,7 +101,7 @@ impl<H: Hand> Hand for SlowHand<H> {
 // A client: it says these lines, each once so many were `heard`, and its device goes on once there are so many. What is
 // written to it counts as `written`.
 #[derive(Drop)]
-struct Client {
+struct SlowClient {
     lines: &'static [(u64, &'static [u8])],
     until: u64,
     heard: Arc<AtomicU64>,
@@ -114,10 +114,10 @@ fn served<R: Abort + Threads + Wait + Clock + Sync>(
     rt: &R,
     alloc: Global,
     all: &Vec<Named>,
-    client: Client,
+    client: SlowClient,
     hand: MemHand,
 ) -> bool {
-    let Client {
+    let SlowClient {
         lines,
         until,
         heard,
@@ -130,11 +130,11 @@ fn served<R: Abort + Threads + Wait + Clock + Sync>(
         until,
         in_time: true,
     };
-    let reader = Gate {
+    let reader = PacedReader {
         lines,
         written: heard,
     };
-    let writer = Counted {
+    let writer = CountingWriter {
         bytes: Vec::new(alloc),
         written,
     };
@@ -175,14 +175,14 @@ fn a_slow_call_is_told_as_running(rt: HostRuntime) {
     let (all, hand) = offices(&rt, alloc, SHOP, ZERO);
     let copy = copy_of(&rt, alloc);
     let (count, own) = (counter(&rt, alloc), counter(&rt, alloc));
-    let slow = Client {
+    let slow = SlowClient {
         lines: GETS,
         until: 4,
         heard: shared(&rt, &count),
         written: own,
         told: GOT,
     };
-    let client = Client {
+    let client = SlowClient {
         lines: RUNS,
         until: 6,
         heard: shared(&rt, &count),

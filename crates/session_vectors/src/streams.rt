@@ -30,13 +30,13 @@ impl Read for Pieces<'_> {
 
 /// A writer that takes so many bytes, and then fails, or takes no more.
 #[derive(Drop)]
-pub struct Short {
+pub struct LimitedWriter {
     pub bytes: Vec<u8>,
     pub left: usize,
     pub fails: bool,
 }
 
-impl Write for Short {
+impl Write for LimitedWriter {
     fn write(&mut self, buf: &[u8]) -> io::Result<usize> {
         let len = buf.len().min(self.left);
         if len == 0 && self.fails {
@@ -79,14 +79,14 @@ pub fn connected<'a>(
     alloc: Global,
     lines: &'a [u8],
     streams: Streams,
-) -> Connection<Pieces<'a>, Short> {
+) -> Connection<Pieces<'a>, LimitedWriter> {
     let Streams { step, takes, fails } = streams;
     let reader = Pieces {
         rest: lines,
         step,
         fails,
     };
-    let writer = Short {
+    let writer = LimitedWriter {
         bytes: Vec::new(alloc),
         left: takes,
         fails,
@@ -129,12 +129,12 @@ pub fn shared(rt: &impl Abort, count: &Arc<AtomicU64>) -> Arc<AtomicU64> {
 
 /// A reader that gives each line only once so many lines were written.
 #[derive(Drop)]
-pub struct Gate {
+pub struct PacedReader {
     pub lines: &'static [(u64, &'static [u8])],
     pub written: Arc<AtomicU64>,
 }
 
-impl Read for Gate {
+impl Read for PacedReader {
     fn read(&mut self, buf: &mut [u8]) -> io::Result<usize> {
         match self.lines {
             [] => Ok(0),
@@ -151,12 +151,12 @@ impl Read for Gate {
 
 /// A writer that counts the lines that were written.
 #[derive(Drop)]
-pub struct Counted {
+pub struct CountingWriter {
     pub bytes: Vec<u8>,
     pub written: Arc<AtomicU64>,
 }
 
-impl Write for Counted {
+impl Write for CountingWriter {
     fn write(&mut self, buf: &[u8]) -> io::Result<usize> {
         if self.bytes.extend_from_slice(buf).is_err() {
             return Ok(0);
@@ -179,7 +179,7 @@ pub trait Told {
     fn told(&self) -> &[u8];
 }
 
-impl Told for Counted {
+impl Told for CountingWriter {
     fn told(&self) -> &[u8] {
         &self.bytes
     }

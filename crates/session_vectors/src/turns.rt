@@ -1,6 +1,6 @@
 //! Lines that are said where they may not stand.
 
-use crate::streams::Short;
+use crate::streams::LimitedWriter;
 use apply_core::reply::Reply;
 use session_core::mouth::Mouth;
 use session_core::output::Health;
@@ -20,12 +20,12 @@ fn goes<R: Abort + Wait>(
     so: Health,
     told: &[u8],
 ) -> bool {
-    let writer = Short {
+    let writer = LimitedWriter {
         bytes: Vec::new(alloc),
         left: 4096,
         fails: false,
     };
-    let mouth: Mouth<Short, Brand> = Mouth::new(alloc, writer);
+    let mouth: Mouth<LimitedWriter, Brand> = Mouth::new(alloc, writer);
     assert!(rt; mouth.make_room(rt));
     for line in lines {
         let _said = mouth.say(rt, AnyLine::Told(*line));

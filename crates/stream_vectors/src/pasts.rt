@@ -27,7 +27,7 @@ const FREE: &[u8] = b"object free; path a, b end;
 
 // Events that happen so many times, and others behind them; and how many the short past has that stands for all.
 #[derive(Drop)]
-struct Row {
+struct PastRow {
     object: &'static [u8],
     often: &'static [PastEvent],
     times: u32,
@@ -35,29 +35,29 @@ struct Row {
     short: usize,
 }
 
-const ROWS: &[Row] = &[
-    Row {
+const ROWS: &[PastRow] = &[
+    PastRow {
         object: SLOTS,
         often: &[Start(0), End(0), Start(1), End(1)],
         times: 500,
         behind: &[Start(0), End(0)],
         short: 2,
     },
-    Row {
+    PastRow {
         object: READERS,
         often: &[Start(0), Start(0), End(0), End(0)],
         times: 500,
         behind: &[Start(1), End(1)],
         short: 0,
     },
-    Row {
+    PastRow {
         object: BURST,
         often: &[Start(0), End(0), Start(0), End(0)],
         times: 500,
         behind: &[Start(1), End(1)],
         short: 1_998,
     },
-    Row {
+    PastRow {
         object: FREE,
         often: &[Start(0), Start(1), End(1), End(0)],
         times: 500,
@@ -65,7 +65,7 @@ const ROWS: &[Row] = &[
         short: 0,
     },
     // As many calls as may start in a past.
-    Row {
+    PastRow {
         object: FREE,
         often: &[Start(0), End(0)],
         times: 65_535,
@@ -75,7 +75,7 @@ const ROWS: &[Row] = &[
 ];
 
 // The events of a row.
-fn long_past(rt: &impl Abort, alloc: Global, row: &Row) -> Vec<PastEvent> {
+fn long_past(rt: &impl Abort, alloc: Global, row: &PastRow) -> Vec<PastEvent> {
     let mut long = Vec::new(alloc);
     for _ in 0..row.times {
         assert!(rt; long.extend_from_slice(row.often).is_ok());

@@ -2,7 +2,7 @@ use Rattle.std.proofs.Common.{◌≡◌, ℕ, List, Some, inl, inr, ap, sym, ◌
 use Rattle.crash_trial.specs.declared.device.Happened.TheVariants.{Replaced, Refused}
 use Rattle.crash_trial.specs.Kept.{read_behind}
 use Rattle.crash_trial.proofs.Kept.{may_replaced, read_replaced, may_refused, read_refused, elapses_to}
-use Rattle.crash_trial.proofs.device.KeptDevice.replace.Goals as goal
+use Rattle.crash_trial.proofs.device.RecordedFileDevice.replace.Goals as goal
 
 pub returns-then-is_refused-clause-kept : goal.returns-then-is_refused-clause-kept
 returns-then-is_refused-clause-kept c kept =

@@ -3,7 +3,7 @@ use Rattle.crash_trial.specs.declared.device.Happened.TheVariants.{Wrote}
 use Rattle.crash_trial.specs.Kept.{read_behind, MayLeave}
 use Rattle.post_core.specs.Device.{with_bytes, Writes}
 use Rattle.crash_trial.proofs.Kept.{may_wrote, may_not_write, read_wrote, elapses_to}
-use Rattle.crash_trial.proofs.device.KeptDevice.write_at.Goals as goal
+use Rattle.crash_trial.proofs.device.RecordedFileDevice.write_at.Goals as goal
 
 pub returns-in_err-bytes-clause-crash : goal.returns-in_err-bytes-clause-crash
 returns-in_err-bytes-clause-crash c =

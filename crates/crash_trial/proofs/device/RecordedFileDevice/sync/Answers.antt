@@ -2,7 +2,7 @@ use Rattle.std.proofs.Common.{ℕ, List, Some, inl, ap, sym, ◌∙◌, rules}
 use Rattle.crash_trial.specs.declared.device.Happened.TheVariants.{Stored}
 use Rattle.crash_trial.specs.Kept.{read_behind}
 use Rattle.crash_trial.proofs.Kept.{in_some, may_stored, read_stored, elapses_to}
-use Rattle.crash_trial.proofs.device.KeptDevice.sync.Goals as goal
+use Rattle.crash_trial.proofs.device.RecordedFileDevice.sync.Goals as goal
 
 pub returns-clause-durable : goal.returns-clause-durable
 returns-clause-durable c file seen left may =
