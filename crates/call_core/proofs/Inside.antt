@@ -1,5 +1,5 @@
 -- An outcome has new page lists of parts that its operation writes alone.
-use Rattle.std.proofs.Common.{ℕ, List}
+use Rattle.std.proofs.Common.{ℕ, List, refl}
 use Rattle.std.specs.Prelude.{◌≢◌, None}
 use Rattle.decl_core.specs.Form.{Statements}
 use Rattle.decl_core.specs.Touched.{Writes}
