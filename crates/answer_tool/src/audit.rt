@@ -6,7 +6,7 @@ use answer_core::explanation::{explained, explained_audit};
 use answer_core::failure::Failure;
 use answer_core::files::FolderFault;
 use answer_core::folder_audit::audit_folder;
-use check_core::judge::{Judged, judge};
+use check_core::judge::{JudgedSource, judge};
 use command_line::request::Explain;
 use decl_core::analyse::Accepted;
 use decl_core::hold::Rules;
@@ -49,8 +49,8 @@ fn run_folder(rt: &HostRuntime, files: Files<'_>, when: Explain) -> Result<u8, F
         Ruled::Told(status) => return Ok(status),
     };
     match judge(rt.alloc(), &source)? {
-        Judged::Ready(objects) => tell_folder(rt, &objects, &rules, files.text),
-        Judged::Told(lines) => {
+        JudgedSource::Ready(objects) => tell_folder(rt, &objects, &rules, files.text),
+        JudgedSource::Told(lines) => {
             let ended = written(&lines, REFUSED, &mut io::writer(rt));
             explained(
                 rt.alloc(),

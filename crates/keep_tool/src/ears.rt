@@ -4,7 +4,7 @@ use crate::ending::say;
 use answer_core::failure::Failure;
 use command_line::request::{Address, Keeping};
 use mio::net::{TcpListener as PortListener, UnixListener as PathListener};
-use mio_core::stream::Listener as Ears;
+use mio_core::stream::ClientListener as Ears;
 use std::alloc::{AllocError, Global};
 use std::io::{self, Write};
 use std::net::{Ipv4Addr, TcpListener};

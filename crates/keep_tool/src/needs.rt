@@ -5,7 +5,7 @@ use answer_core::failure::Failure;
 use command_line::request::{Keeping, keep_error};
 use command_line::watching::{Apart, OddOption, Watching};
 use decl_core::hold::Rules;
-use mio_core::stream::Listener as Ears;
+use mio_core::stream::ClientListener as Ears;
 use std::alloc::Global;
 use std::fs::File;
 use tool_core::files::{lock_folder, source_at};
