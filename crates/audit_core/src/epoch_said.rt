@@ -74,7 +74,7 @@ fn call_said(alloc: Global, line: &[u8]) -> Result<Option<AskedCall<'_>>, AllocE
     ensures { IfOk result (Reads asked_of asked_view line.now) }
 {
     match lines::start_said(alloc, line)? {
-        Some(lines::Said::Start(number, session, name, arguments)) => Ok(Some(AskedCall {
+        Some(lines::ToldLine::Start(number, session, name, arguments)) => Ok(Some(AskedCall {
             number,
             session,
             name,
@@ -106,7 +106,7 @@ fn end_said(alloc: Global, line: &[u8]) -> Result<Option<EpochLine<'_>>, AllocEr
     ensures { IfOk result (Reads end_of said_view line.now) }
 {
     match lines::end_said(alloc, line)? {
-        Some(lines::Said::End(number, reply)) => Ok(Some(EpochLine::End(number, reply))),
+        Some(lines::ToldLine::End(number, reply)) => Ok(Some(EpochLine::End(number, reply))),
         _ => Ok(None),
     }
 }
