@@ -25,7 +25,7 @@ use decl_core::object::Object;
 use decl_read::read::read_objects;
 use live_core::source::source_of;
 use guest_core::guests::Guests;
-use hosted_core::hosted::{Begun, Hosted};
+use hosted_core::hosted::{HostedStart, Hosted};
 use post_core::folder::FolderFile;
 use post_core::journal::Journal;
 use live_core::call::Limits;
@@ -83,7 +83,7 @@ fn live(alloc: Global, text: &[u8]) -> Option<Live> {
 fn hosted(alloc: Global, text: &[u8]) -> Option<Hosted> {
     let live = live(alloc, text)?;
     let source = source_of(live.object());
-    let begun = Begun {
+    let begun = HostedStart {
         live,
         guests: Guests::new(alloc, LIMITS.sessions, 64).ok()?,
         past: Vec::new(alloc),

@@ -6,8 +6,8 @@ use Rattle.decl_core.specs.ObjectMap.{object_of}
 use Rattle.check_core.specs.Named.{NamesObject}
 use Rattle.check_core.specs.Opening.{IsReady, IsTold}
 use Rattle.audit_core.specs.Verdicts.{IsVerdict, IsLegalTrace}
-use Rattle.audit_core.specs.declared.verdict.Verdict.{Verdict}
-use Rattle.audit_core.specs.declared.verdict.Verdict.TheVariants as verdicts
+use Rattle.audit_core.specs.declared.verdict.AuditVerdict.{AuditVerdict}
+use Rattle.audit_core.specs.declared.verdict.AuditVerdict.TheVariants as verdicts
 use Rattle.answer_core.specs.AuditRun.{audit_status, verdict_line, IsAudited, IsAuditRun, unnamed, lacking, audited}
 use Rattle.answer_core.specs.Laws.{HasNoLine, NoLineOfTrace}
 use Rattle.answer_core.proofs.Lineless.{names_none}
@@ -29,12 +29,12 @@ lacking_run source text name line written status named told one is =
     subst (λ s. IsAuditRun source text s written) (sym one) (subst (IsAuditRun source text 1) (sym is) (lacking named told))
 
 -- a legal trace is told as legal where no memory was wanted
-told_legal : (verdict : Verdict) (entries : ℕ) → (verdict ≡ verdicts.Memory → ⊥) → (verdict ≡ verdicts.Legal entries) ⊎ (verdict ≡ verdicts.Memory) → verdict ≡ verdicts.Legal entries
+told_legal : (verdict : AuditVerdict) (entries : ℕ) → (verdict ≡ verdicts.Memory → ⊥) → (verdict ≡ verdicts.Legal entries) ⊎ (verdict ≡ verdicts.Memory) → verdict ≡ verdicts.Legal entries
 told_legal verdict entries known (inl is) = is
 told_legal verdict entries known (inr want) = absurd (known want)
 
 -- there is a verdict
-pub audited_run : (source text written : List ℕ) (o : Object) (verdict : Verdict) (status : ℕ) → IsReady source text (object_of o) → IsVerdict (object_of o) text verdict
+pub audited_run : (source text written : List ℕ) (o : Object) (verdict : AuditVerdict) (status : ℕ) → IsReady source text (object_of o) → IsVerdict (object_of o) text verdict
     → ((entries : ℕ) → IsLegalTrace (object_of o) text entries → (verdict ≡ verdicts.Legal entries) ⊎ (verdict ≡ verdicts.Memory))
     → (verdict ≡ verdicts.Memory → ⊥) → status ≡ audit_status verdict → written ≡ verdict_line verdict → IsAuditRun source text status written
 audited_run source text written o verdict status ready is exact known s w =

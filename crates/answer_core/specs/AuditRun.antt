@@ -7,11 +7,11 @@ use Rattle.text_core.specs.Reply.{reply}
 use Rattle.check_core.specs.Named.{NamesObject}
 use Rattle.check_core.specs.Opening.{IsReady, IsTold}
 use Rattle.audit_core.specs.Verdicts.{IsVerdict, IsLegalTrace}
-use Rattle.audit_core.specs.declared.verdict.Verdict.{Verdict}
-use Rattle.audit_core.specs.declared.verdict.Verdict.TheVariants as verdicts
+use Rattle.audit_core.specs.declared.verdict.AuditVerdict.{AuditVerdict}
+use Rattle.audit_core.specs.declared.verdict.AuditVerdict.TheVariants as verdicts
 
 -- 0 where the trace is legal, else 1
-abbrev pub audit_status : Verdict → ℕ
+abbrev pub audit_status : AuditVerdict → ℕ
 audit_status (verdicts.Legal entries) = 0
 audit_status (verdicts.BadLine line) = 1
 audit_status (verdicts.BreaksPath line path) = 1
@@ -24,7 +24,7 @@ abbrev pub line_number : ℕ → List ℕ
 line_number line = codes "line " ++ decimal line
 
 -- the line of a verdict
-abbrev pub verdict_line : Verdict → List ℕ
+abbrev pub verdict_line : AuditVerdict → List ℕ
 verdict_line (verdicts.Legal entries) = reply (codes "legal ") (decimal entries)
 verdict_line (verdicts.BadLine line) = line_number line ++ codes " bad\n"
 verdict_line (verdicts.BreaksPath line path) = line_number line ++ reply (codes " breaks path ") (decimal path)
@@ -33,7 +33,7 @@ verdict_line (verdicts.NotRunning line) = line_number line ++ codes " not runnin
 verdict_line verdicts.Memory = []
 
 -- The verdict on a text, which is no want of memory: it is so, and a legal trace is told as legal.
-pub record IsAudited (o : ObjectForm) (text : List ℕ) (verdict : Verdict) : Type 0 where
+pub record IsAudited (o : ObjectForm) (text : List ℕ) (verdict : AuditVerdict) : Type 0 where
   pub is : IsVerdict o text verdict
   pub legal : (entries : ℕ) → IsLegalTrace o text entries → verdict ≡ verdicts.Legal entries
   pub known : verdict ≡ verdicts.Memory → ⊥
@@ -45,5 +45,5 @@ pub data IsAuditRun (source text : List ℕ) : ℕ → List ℕ → Type 0 where
   -- there is nothing to audit it by, and one line says why
   lacking : {name line : List ℕ} → NamesObject text name → IsTold source text line → IsAuditRun source text 1 line
   -- the verdict by the object that the first line names
-  audited : (o : Object) (verdict : Verdict) → IsReady source text (object_of o) → IsAudited (object_of o) text verdict
+  audited : (o : Object) (verdict : AuditVerdict) → IsReady source text (object_of o) → IsAudited (object_of o) text verdict
       → IsAuditRun source text (audit_status verdict) (verdict_line verdict)

@@ -2,7 +2,7 @@
 
 ghost use Rattle.std.specs.Prelude.{◌≡◌, ◌++◌, ℕ, List, OnOk, IfOk, IfErr, IfSome, IsErrOf, codes, decimal, take};
 ghost use Rattle.std.specs.Io.KnownBytes.{Appends, Keeps};
-ghost use Rattle.audit_core.specs.declared.verdict.Verdict.TheVariants as verdicts;
+ghost use Rattle.audit_core.specs.declared.verdict.AuditVerdict.TheVariants as verdicts;
 ghost use Rattle.check_core.specs.Named.{NamesObject};
 ghost use Rattle.answer_core.specs.AuditRun.{audit_status, line_number, verdict_line, IsAuditRun};
 ghost use Rattle.answer_core.specs.Status.{IsFault};
@@ -12,9 +12,9 @@ use crate::answer::{ACCEPTED, REFUSED};
 use crate::failure::Failure;
 use crate::source::read_whole;
 use audit_core::audit::audit;
-use audit_core::verdict::Verdict;
+use audit_core::verdict::AuditVerdict;
 use check_core::head::named_object;
-use check_core::open::{Opened, open_script};
+use check_core::open::{OpenedScript, open_script};
 use std::alloc::{AllocError, Global};
 use std::io::{Read, Write};
 use text_core::reply::{push_count, push_number};
@@ -22,7 +22,7 @@ use text_core::write_whole;
 
 // What an audit ends with: the exit status, and the line that is written.
 #[derive(Drop)]
-struct Said {
+struct AuditReport {
     status: u8,
     line: Vec<u8>,
 }
@@ -46,55 +46,55 @@ fn push_breach(out: &mut Vec<u8>, line: u64, path: usize) -> Result<(), AllocErr
 }
 
 // Adds the line of a verdict. A want of memory has none.
-fn push_verdict(out: &mut Vec<u8>, verdict: Verdict) -> Result<(), AllocError>
+fn push_verdict(out: &mut Vec<u8>, verdict: AuditVerdict) -> Result<(), AllocError>
     ensures { OnOk result ((verdict ≡ verdicts.Memory → ⊥) × (out.new.items ≡ out.old.items ++ verdict_line verdict)) }
 {
     match verdict {
-        Verdict::Legal { entries } => push_count(out, b"legal ", entries),
-        Verdict::BadLine(line) => push_fault_line(out, line, b" bad\n"),
-        Verdict::BreaksPath(line, path) => push_breach(out, line, path),
-        Verdict::WrongReply(line) => push_fault_line(out, line, b" wrong reply\n"),
-        Verdict::NotRunning(line) => push_fault_line(out, line, b" not running\n"),
-        Verdict::Memory => Err(AllocError),
+        AuditVerdict::Legal { entries } => push_count(out, b"legal ", entries),
+        AuditVerdict::BadLine(line) => push_fault_line(out, line, b" bad\n"),
+        AuditVerdict::BreaksPath(line, path) => push_breach(out, line, path),
+        AuditVerdict::WrongReply(line) => push_fault_line(out, line, b" wrong reply\n"),
+        AuditVerdict::NotRunning(line) => push_fault_line(out, line, b" not running\n"),
+        AuditVerdict::Memory => Err(AllocError),
     }
 }
 
-fn status_of_verdict(verdict: Verdict) -> u8
+fn status_of_verdict(verdict: AuditVerdict) -> u8
     ensures { result ≡ audit_status verdict }
 {
     match verdict {
-        Verdict::Legal { .. } => ACCEPTED,
+        AuditVerdict::Legal { .. } => ACCEPTED,
         _ => REFUSED,
     }
 }
 
 // What is said of a trace with this verdict.
-fn verdict_said(alloc: Global, verdict: Verdict) -> Result<Said, AllocError>
+fn verdict_said(alloc: Global, verdict: AuditVerdict) -> Result<AuditReport, AllocError>
     ensures known { IfOk result (λ said. verdict ≡ verdicts.Memory → ⊥) }
     ensures status { IfOk result (λ said. said.status ≡ audit_status verdict) }
     ensures line { IfOk result (λ said. said.line.items ≡ verdict_line verdict) }
 {
     let mut line = Vec::new(alloc);
     push_verdict(&mut line, verdict)?;
-    Ok(Said {
+    Ok(AuditReport {
         status: status_of_verdict(verdict),
         line,
     })
 }
 
 // What is said where there is nothing to audit a trace by.
-fn lacking_said(line: Vec<u8>) -> Said
+fn lacking_said(line: Vec<u8>) -> AuditReport
     ensures status { result.status ≡ 1 }
     ensures line { result.line.items ≡ line.items }
 {
-    Said {
+    AuditReport {
         status: REFUSED,
         line,
     }
 }
 
 // What is said of a trace that names no object.
-fn unnamed_said(alloc: Global) -> Result<Said, AllocError>
+fn unnamed_said(alloc: Global) -> Result<AuditReport, AllocError>
     ensures status { IfOk result (λ said. said.status ≡ 1) }
     ensures line { IfOk result (λ said. said.line.items ≡ codes "line 1 bad\n") }
 {
@@ -104,13 +104,13 @@ fn unnamed_said(alloc: Global) -> Result<Said, AllocError>
 }
 
 // What is said of a trace whose first line names an object.
-fn named_said(alloc: Global, source: &[u8], text: &[u8]) -> Result<Said, AllocError>
+fn named_said(alloc: Global, source: &[u8], text: &[u8]) -> Result<AuditReport, AllocError>
     ensures { (name : List ℕ) → NamesObject text.now name →
         IfOk result (λ said. IsAuditRun source.now text.now said.status said.line.items) }
 {
     match open_script(alloc, source, text)? {
-        Opened::Told(line) => Ok(lacking_said(line)),
-        Opened::Ready(accepted) => {
+        OpenedScript::Told(line) => Ok(lacking_said(line)),
+        OpenedScript::Ready(accepted) => {
             let verdict = audit(alloc, &accepted, text);
             let said = verdict_said(alloc, verdict)?;
             Ok(said)
@@ -119,7 +119,7 @@ fn named_said(alloc: Global, source: &[u8], text: &[u8]) -> Result<Said, AllocEr
 }
 
 // What is said of the text of a trace.
-fn audit_said(alloc: Global, source: &[u8], text: &[u8]) -> Result<Said, AllocError>
+fn audit_said(alloc: Global, source: &[u8], text: &[u8]) -> Result<AuditReport, AllocError>
     ensures { IfOk result (λ said. IsAuditRun source.now text.now said.status said.line.items) }
 {
     match named_object(alloc, text)? {

@@ -20,7 +20,7 @@ use text_core::reply::push_number;
 
 /// What is said of the objects of a folder.
 #[derive(Drop)]
-pub struct Said {
+pub struct FolderReport {
     /// A line for each object, in order.
     pub lines: Vec<u8>,
     /// A line for each file in which bytes are not 0 behind the first byte 0.
@@ -178,7 +178,7 @@ fn hear(
     epochs: &mut Epochs,
     name: &str,
     text: &[u8],
-    said: &mut Said,
+    said: &mut FolderReport,
 ) -> Result<bool, AllocError>
     ensures { IfOk result (λ went. Hears (object_of object.now) epochs.old said.old.lines.items went epochs.new
         said.new.lines.items) }
@@ -202,7 +202,7 @@ fn hear_ended<R: Files + AllocGlobal>(
     name: &str,
     epoch: u64,
     epochs: &mut Epochs,
-    said: &mut Said,
+    said: &mut FolderReport,
 ) -> Result<bool, FolderFault>
     ensures { IfOk result (λ went. Hears (object_of object.now) epochs.old said.old.lines.items went epochs.new
         said.new.lines.items) }
@@ -236,7 +236,7 @@ fn audit_journal<R: Files + AllocGlobal>(
     folder: &str,
     name: &str,
     journal: &[u8],
-    said: &mut Said,
+    said: &mut FolderReport,
 ) -> Result<bool, FolderFault>
     ensures { IfOk result (λ whole. Adds (object_of object.now) whole said.old.lines.items said.new.lines.items) }
 {
@@ -273,7 +273,7 @@ fn audit_object<R: Files + AllocGlobal>(
     object: &Object,
     holds: &[Hold],
     folder: &str,
-    said: &mut Said,
+    said: &mut FolderReport,
 ) -> Result<bool, FolderFault>
     ensures { IfOk result (λ whole. Adds (object_of object.now) whole said.old.lines.items said.new.lines.items) }
 {
@@ -296,7 +296,7 @@ fn audit_named<R: Files + AllocGlobal>(
     object: &Object,
     holds: &[Hold],
     folder: &str,
-    said: &mut Said,
+    said: &mut FolderReport,
 ) -> Result<bool, FolderFault>
     ensures { IfOk result (λ whole. Adds (object_of object.now) whole (said.old.lines.items ++ object.now.name)
         said.new.lines.items) }
@@ -319,7 +319,7 @@ fn audit_objects<R: Files + AllocGlobal>(
     objects: &[Accepted],
     rules: &[Rules],
     folder: &str,
-    said: &mut Said,
+    said: &mut FolderReport,
 ) -> Result<bool, FolderFault>
     ensures { IfOk result (λ whole. AddsAll (objects_of objects.now) whole said.old.lines.items said.new.lines.items) }
 {
@@ -344,10 +344,10 @@ pub fn audit_folder<R: Files + AllocGlobal>(
     objects: &[Accepted],
     rules: &[Rules],
     folder: &str,
-) -> Result<Said, FolderFault>
+) -> Result<FolderReport, FolderFault>
     ensures { IfOk result (λ said. AreTold (objects_of objects.now) said.is_whole said.lines.items) }
 {
-    let mut said = Said {
+    let mut said = FolderReport {
         lines: Vec::new(rt.alloc()),
         notes: Vec::new(rt.alloc()),
         is_whole: false,

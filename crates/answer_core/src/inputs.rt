@@ -6,7 +6,7 @@ use crate::lack::{Lacking, Wanted};
 use crate::said::told;
 use crate::source::read_source;
 use note_core::files::Files;
-use note_core::kept::Kept;
+use note_core::kept::CopyingReader;
 use std::fs::{File, TryLockError};
 use std::io::ErrorKind;
 
@@ -73,7 +73,7 @@ pub struct Inputs {
     /// The source.
     pub source: Vec<u8>,
     /// The second file, of which so much is kept as is to be told.
-    pub kept: Kept<File>,
+    pub kept: CopyingReader<File>,
 }
 
 /// Reads the source, and opens the second file. Where one lacks that is told, the source first.
@@ -85,7 +85,7 @@ pub fn inputs_of(rt: &HostRuntime, files: Files<'_>, telling: Telling) -> Result
     match open_file(rt, files.text) {
         Ok(file) => Ok(Inputs {
             source,
-            kept: Kept::new(rt.alloc(), file, kept_bytes(telling)),
+            kept: CopyingReader::new(rt.alloc(), file, kept_bytes(telling)),
         }),
         Err(lacking) => Err(told(rt, lacking, files.text)),
     }

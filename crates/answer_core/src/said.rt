@@ -10,7 +10,7 @@ use crate::explanation::Telling;
 use crate::failure::Failure;
 use crate::lack::{Lacking, Unmet, Wanted, tell_lack};
 use command_line::request::Explain;
-use note_core::kept::Kept;
+use note_core::kept::CopyingReader;
 use std::io::{ErrorKind, IsTerminal, Read, Write};
 use text_core::write_whole;
 
@@ -47,7 +47,7 @@ pub fn told_unread<R: Read + Drop>(
     ended: Result<u8, Failure>,
     need: Wanted,
     name: &str,
-    kept: &Kept<R>,
+    kept: &CopyingReader<R>,
 ) -> Result<u8, Failure>
     ensures { result ≡ ended }
 {

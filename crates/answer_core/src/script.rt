@@ -11,7 +11,7 @@ use crate::answer::{ACCEPTED, REFUSED};
 use crate::explanation::{Telling, explained_script};
 use crate::failure::Failure;
 use check_core::head::read_head;
-use check_core::open::{Opened, open_script};
+use check_core::open::{OpenedScript, open_script};
 use decl_core::analyse::Accepted;
 use std::alloc::Global;
 use std::io::{Read, Write};
@@ -90,8 +90,8 @@ pub fn answer_script<R: Read, W: Write, E: Write>(
         Err(fault) => return Err(Failure::from(fault)),
     };
     match open_script(alloc, source, &head) {
-        Ok(Opened::Ready(accepted)) => run_on(alloc, accepted, &head, reader, writer),
-        Ok(Opened::Told(line)) => {
+        Ok(OpenedScript::Ready(accepted)) => run_on(alloc, accepted, &head, reader, writer),
+        Ok(OpenedScript::Told(line)) => {
             let ended = tell(&line, writer);
             explained_script(alloc, ended, telling, file, source, &head, error)
         }

@@ -10,8 +10,8 @@ use Rattle.decl_core.specs.ObjectForm.{ObjectForm}
 use Rattle.apply_core.proofs.Histories.{legal_by_one}
 use Rattle.word_core.specs.Events.{Called, call_of, end_of, history_of}
 use Rattle.audit_core.specs.Operations.{operation_names}
-use Rattle.audit_core.specs.declared.verdict.Fault.{Fault}
-use Rattle.audit_core.specs.declared.verdict.Fault.TheVariants as faults
+use Rattle.audit_core.specs.declared.verdict.AuditFault.{AuditFault}
+use Rattle.audit_core.specs.declared.verdict.AuditFault.TheVariants as faults
 use Rattle.audit_core.proofs.Renumbering.{may_by_one}
 use Rattle.audit_core.specs.EpochSaid.{Asked, a_start, an_end, a_cancel, a_name}
 use Rattle.audit_core.specs.Steps.{Begun, Heard, nothing_heard, ran, cancelled, named, happened_of, trace_by}
@@ -98,19 +98,19 @@ wrong_told o e heard line next w told sound =
     let here : IsSound o e after = subst (IsSound o e) same sound in
     w.wrong ((legal_by_one (history_of o (happened_of heard.steps)) (end_of o w.call w.reply) e.opening).0 here.legal).1
 
-fault_excluded : (o : ObjectForm) (e : Begun) (heard : Heard) (line : List ℕ) (next : Heard) (fault : Fault) → IsFault o e heard line fault → Tells o e heard line next → IsSound o e next → ⊥
+fault_excluded : (o : ObjectForm) (e : Begun) (heard : Heard) (line : List ℕ) (next : Heard) (fault : AuditFault) → IsFault o e heard line fault → Tells o e heard line next → IsSound o e next → ⊥
 fault_excluded o e heard line next faults.Bad f told sound = f.untold next told
 fault_excluded o e heard line next (faults.Breaks number) f told sound = breach_told o e heard line number next f told sound
 fault_excluded o e heard line next faults.Wrong f told sound = wrong_told o e heard line next f told sound
 fault_excluded o e heard line next faults.Stranger f told sound = stranger_told o e heard line next f told
 
-no_fault : (o : ObjectForm) (e : Begun) (all : List (List ℕ)) (heard : Heard) (number : ℕ) (fault : Fault) → Tell o e nothing_heard all heard → IsSound o e heard → IsFirstFault o e all number fault → ⊥
+no_fault : (o : ObjectForm) (e : Begun) (all : List (List ℕ)) (heard : Heard) (number : ℕ) (fault : AuditFault) → Tell o e nothing_heard all heard → IsSound o e heard → IsFirstFault o e all number fault → ⊥
 no_fault o e all heard number fault told sound f =
     let whole : Tell o e nothing_heard (f.before ++ f.line ∷ f.after) heard = subst (λ ls. Tell o e nothing_heard ls heard) f.cut told in
     let front = tell_front o e nothing_heard f.before f.line f.after f.heard heard f.told whole in
     fault_excluded o e f.heard f.line front.0 fault f.faulty front.1 (all_back o e front.0 f.after heard front.2 sound)
 
-pub sound_no_fault : (o : ObjectForm) (e : Begun) (all : List (List ℕ)) (heard : Heard) (k number : ℕ) (fault : Fault) → Tell o e nothing_heard all heard → IsSound o e heard → IsFirstFault o e (take k all) number fault → ⊥
+pub sound_no_fault : (o : ObjectForm) (e : Begun) (all : List (List ℕ)) (heard : Heard) (k number : ℕ) (fault : AuditFault) → Tell o e nothing_heard all heard → IsSound o e heard → IsFirstFault o e (take k all) number fault → ⊥
 sound_no_fault o e all heard k number fault told sound f =
     let one = cut o e nothing_heard heard all k told sound in
     no_fault o e (take k all) one.0 number fault one.1 one.2 f

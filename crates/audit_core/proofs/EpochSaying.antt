@@ -5,7 +5,7 @@ use Rattle.word_core.specs.Words.{Word}
 use Rattle.word_core.specs.Data.{◌>>=◌}
 use Rattle.word_core.proofs.Cutting.{words_unique}
 use Rattle.word_core.specs.Reads.{Reads}
-use Rattle.audit_core.specs.declared.epoch_said.Said.{Said}
+use Rattle.audit_core.specs.declared.epoch_said.EpochLine.{EpochLine}
 use Rattle.audit_core.specs.EpochSaid as lines
 use Rattle.audit_core.specs.EpochView.{said_view, IsSaid}
 
@@ -16,11 +16,11 @@ says_once line a b p q =
     let e : Some a ≡ Some b = sym p.2 ∙ ap lines.said_of same ∙ q.2 in cc
 
 -- what was read of the words of a line is what it says
-said_found : (line : List ℕ) (found : Option Said) → Reads lines.said_of said_view line found → IsSaid line found
+said_found : (line : List ℕ) (found : Option EpochLine) → Reads lines.said_of said_view line found → IsSaid line found
 said_found line None reads = λ said p. let e : Some said ≡ None = sym p.2 ∙ sym (reads.0 p.0 p.1) in cc
 said_found line (Some s) reads = let has = reads.1 in (has.0, has.1, sym (reads.0 has.0 has.1))
 
-pub said_line : {E : Type 0} (line : List ℕ) (found : Result (Option Said) E) → IfOk found (Reads lines.said_of said_view line) → IfOk found (IsSaid line)
+pub said_line : {E : Type 0} (line : List ℕ) (found : Result (Option EpochLine) E) → IfOk found (Reads lines.said_of said_view line) → IfOk found (IsSaid line)
 said_line line (Ok f) reads = said_found line f reads
 said_line line (Err e) reads = tt
 

@@ -12,15 +12,15 @@ use Rattle.value_core.specs.Spelling.{SpellsInSome}
 use Rattle.value_core.proofs.Unique.{unique_in}
 use Rattle.audit_core.specs.Operations.{operation_names}
 use Rattle.std.proofs.lemmas.Option.{slice_get_within}
-use Rattle.audit_core.specs.declared.verdict.Verdict.{Verdict}
-use Rattle.audit_core.specs.declared.verdict.Verdict.TheVariants as verdicts
+use Rattle.audit_core.specs.declared.verdict.AuditVerdict.{AuditVerdict}
+use Rattle.audit_core.specs.declared.verdict.AuditVerdict.TheVariants as verdicts
 use Rattle.audit_core.specs.Verdicts.{IsVerdict}
 use Rattle.decl_core.specs.ObjectForm.{ObjectForm}
 use Rattle.apply_core.specs.declared.reply.Reply.{Reply}
 use Rattle.apply_core.specs.History.{End as Ended, IsReplyOn, left_by, leads_to, IsLegal}
 use Rattle.word_core.specs.Events.{Called, Happened, began, ended, trace_of, history_of, body_at}
-use Rattle.audit_core.specs.declared.verdict.Fault.{Fault}
-use Rattle.audit_core.specs.declared.verdict.Fault.TheVariants as faults
+use Rattle.audit_core.specs.declared.verdict.AuditFault.{AuditFault}
+use Rattle.audit_core.specs.declared.verdict.AuditFault.TheVariants as faults
 use Rattle.audit_core.specs.Said.{an_object, a_part, a_start, an_end}
 use Rattle.audit_core.specs.Tells.{Heard, nothing_heard, IsOpened, IsPart, Tells, Tell, object_told, part_told, start_told, end_told}
 use Rattle.audit_core.specs.Verdicts.{IsSound, IsFault, IsFirstFault, IsLegalTrace, IsStranger, IsBreach, IsWrong}
@@ -166,20 +166,20 @@ wrong_told o heard line next last later trace w told rest legal =
     let here : IsLegal (history_of o after.past) after.opening = subst (λ h. IsLegal (history_of o h.past) h.opening) same (tell_legal o next later last behind.0 rest legal) in
     w.wrong (legal_split (history_of o heard.past) (record { body = body_at o w.call.operation; arguments = w.call.arguments; reply = w.reply }) heard.opening here).1
 
-pub fault_excluded : (o : ObjectForm) (heard : Heard) (line : List ℕ) (next last : Heard) (later : List (List ℕ)) (fault : Fault) → IsTrace (trace_of heard.past) → IsFault o heard line fault → Tells o heard line next → Tell o next later last → IsSound o last → ⊥
+pub fault_excluded : (o : ObjectForm) (heard : Heard) (line : List ℕ) (next last : Heard) (later : List (List ℕ)) (fault : AuditFault) → IsTrace (trace_of heard.past) → IsFault o heard line fault → Tells o heard line next → Tell o next later last → IsSound o last → ⊥
 fault_excluded o heard line next last later faults.Bad trace f told rest sound = f.untold next told
 fault_excluded o heard line next last later (faults.Breaks number) trace f told rest sound = breach_told o heard line number next trace f told (tell_satisfied o next later last rest sound.satisfied)
 fault_excluded o heard line next last later faults.Wrong trace f told rest sound = wrong_told o heard line next last later trace f told rest sound.legal
 fault_excluded o heard line next last later faults.Stranger trace f told rest sound = stranger_told o heard line next f told
 
-pub legal_no_fault : (o : ObjectForm) (bytes : List ℕ) (entries number : ℕ) (fault : Fault) → IsLegalTrace o bytes entries → IsFirstFault o bytes number fault → ⊥
+pub legal_no_fault : (o : ObjectForm) (bytes : List ℕ) (entries number : ℕ) (fault : AuditFault) → IsLegalTrace o bytes entries → IsFirstFault o bytes number fault → ⊥
 legal_no_fault o bytes entries number fault l f =
     let whole : Tell o nothing_heard (f.before ++ f.line ∷ f.after) l.heard = subst (λ ls. Tell o nothing_heard ls l.heard) f.cut l.told in
     let front = tell_front o nothing_heard f.before f.line f.after f.heard l.heard tt f.told whole in
     fault_excluded o f.heard f.line front.0 l.heard f.after fault (tell_trace o nothing_heard f.before f.heard tt f.told) f.faulty front.1 front.2 l.sound
 
 -- A legal trace is answered so, unless memory is refused.
-pub exactly : (o : ObjectForm) (bytes : List ℕ) (v : Verdict) (entries : ℕ) → IsVerdict o bytes v → IsLegalTrace o bytes entries → (v ≡ verdicts.Legal entries) ⊎ (v ≡ verdicts.Memory)
+pub exactly : (o : ObjectForm) (bytes : List ℕ) (v : AuditVerdict) (entries : ℕ) → IsVerdict o bytes v → IsLegalTrace o bytes entries → (v ≡ verdicts.Legal entries) ⊎ (v ≡ verdicts.Memory)
 exactly o bytes (verdicts.Legal n) entries is l =
     let same : l.heard ≡ is.heard = tell_once o nothing_heard (lines bytes) l.heard is.heard tt l.told is.told in
     inl (ap verdicts.Legal (is.counted ∙ ap (λ h. length (history_of o h.past)) (sym same) ∙ sym l.counted))

@@ -8,10 +8,10 @@ use Rattle.decl_core.specs.ObjectForm.{ObjectForm}
 use Rattle.word_core.specs.Events.{Called, Happened, began, ended, trace_of, history_of}
 use Rattle.audit_core.specs.Counting.{RefusesFirst}
 use Rattle.audit_core.specs.Tells.{Heard, nothing_heard, IsOpened, Tells, Tell, object_told, part_told, start_told, end_told}
-use Rattle.audit_core.specs.declared.verdict.Fault.{Fault}
-use Rattle.audit_core.specs.declared.verdict.Fault.TheVariants as faults
-use Rattle.audit_core.specs.declared.verdict.Verdict.{Verdict}
-use Rattle.audit_core.specs.declared.verdict.Verdict.TheVariants as verdicts
+use Rattle.audit_core.specs.declared.verdict.AuditFault.{AuditFault}
+use Rattle.audit_core.specs.declared.verdict.AuditFault.TheVariants as faults
+use Rattle.audit_core.specs.declared.verdict.AuditVerdict.{AuditVerdict}
+use Rattle.audit_core.specs.declared.verdict.AuditVerdict.TheVariants as verdicts
 use Rattle.audit_core.specs.Verdicts.{IsBreach, IsWrong, IsFault, IsFirstFault, IsLegalTrace, EndsEarly, IsVerdict, verdict_for}
 use Rattle.audit_core.proofs.Exact.{tells_once, tell_trace, tell_front, tell_once, opened_step, end_opened, stranger_told, fault_excluded, legal_no_fault}
 
@@ -28,7 +28,7 @@ open_end o heard [] after opened told = subst (IsOpened o) (sym told) opened
 open_end o heard (line ∷ ls) after opened told = open_end o told.0 ls after (opened_step o heard line told.0 opened told.1).0 told.2
 
 -- where the last part is missing at the end, no line has a fault
-unopened_whole : (o : ObjectForm) (heard : Heard) (line : List ℕ) (next last : Heard) (later : List (List ℕ)) (fault : Fault) → IsFault o heard line fault → Tells o heard line next → Tell o next later last → (IsOpened o last → ⊥) → ⊥
+unopened_whole : (o : ObjectForm) (heard : Heard) (line : List ℕ) (next last : Heard) (later : List (List ℕ)) (fault : AuditFault) → IsFault o heard line fault → Tells o heard line next → Tell o next later last → (IsOpened o last → ⊥) → ⊥
 unopened_whole o heard line next last later faults.Bad f told rest un = f.untold next told
 unopened_whole o heard line next last later (faults.Breaks number) f told rest un =
     un (open_end o next later last (opened_step o heard line next (begin_opened o heard line _ f.call f.told refl) told).0 rest)
@@ -37,7 +37,7 @@ unopened_whole o heard line next last later faults.Wrong f told rest un =
 unopened_whole o heard line next last later faults.Stranger f told rest un =
     un (open_end o next later last (opened_step o heard line next f.opened told).0 rest)
 
-early_no_fault : (o : ObjectForm) (bytes : List ℕ) (end number : ℕ) (fault : Fault) → EndsEarly o bytes end → IsFirstFault o bytes number fault → ⊥
+early_no_fault : (o : ObjectForm) (bytes : List ℕ) (end number : ℕ) (fault : AuditFault) → EndsEarly o bytes end → IsFirstFault o bytes number fault → ⊥
 early_no_fault o bytes end number fault e f =
     let whole : Tell o nothing_heard (f.before ++ f.line ∷ f.after) e.heard = subst (λ ls. Tell o nothing_heard ls e.heard) f.cut e.told in
     let front = tell_front o nothing_heard f.before f.line f.after f.heard e.heard tt f.told whole in
@@ -69,7 +69,7 @@ not_both o heard line n trace p q =
     cc
 
 -- one fault of a line
-one_fault : (o : ObjectForm) (heard : Heard) (line : List ℕ) (f g : Fault) → IsTrace (trace_of heard.past) → IsFault o heard line f → IsFault o heard line g → f ≡ g
+one_fault : (o : ObjectForm) (heard : Heard) (line : List ℕ) (f g : AuditFault) → IsTrace (trace_of heard.past) → IsFault o heard line f → IsFault o heard line g → f ≡ g
 one_fault o heard line faults.Bad faults.Bad trace p q = refl
 one_fault o heard line faults.Bad (faults.Breaks m) trace p q = absurd (p.untold _ q.told)
 one_fault o heard line faults.Bad faults.Wrong trace p q = absurd (p.untold _ q.told)
@@ -110,13 +110,13 @@ cuts {A} (a ∷ xs) (b ∷ ys) x y xt yt e =
       one_more head (inr (inr more)) = let front : xs ≡ ys ++ y ∷ more.0 = more.1 in inr (inr (more.0, cc))
 
 -- no line before the first with a fault has one
-none_before : (o : ObjectForm) (bytes : List ℕ) (n m : ℕ) (f g : Fault) (a : IsFirstFault o bytes n f) (b : IsFirstFault o bytes m g) (more : List (List ℕ)) → b.before ≡ a.before ++ a.line ∷ more → ⊥
+none_before : (o : ObjectForm) (bytes : List ℕ) (n m : ℕ) (f g : AuditFault) (a : IsFirstFault o bytes n f) (b : IsFirstFault o bytes m g) (more : List (List ℕ)) → b.before ≡ a.before ++ a.line ∷ more → ⊥
 none_before o bytes n m f g a b more same =
     let whole : Tell o nothing_heard (a.before ++ a.line ∷ more) b.heard = subst (λ ls. Tell o nothing_heard ls b.heard) same b.told in
     let front = tell_front o nothing_heard a.before a.line more a.heard b.heard tt a.told whole in
     fault_excluded o a.heard a.line front.0 b.heard more f (tell_trace o nothing_heard a.before a.heard tt a.told) a.faulty front.1 front.2 b.sound
 
-one_first : (o : ObjectForm) (bytes : List ℕ) (n m : ℕ) (f g : Fault) → IsFirstFault o bytes n f → IsFirstFault o bytes m g → (n ≡ m) × (f ≡ g)
+one_first : (o : ObjectForm) (bytes : List ℕ) (n m : ℕ) (f g : AuditFault) → IsFirstFault o bytes n f → IsFirstFault o bytes m g → (n ≡ m) × (f ≡ g)
 one_first o bytes n m f g a b = by (cuts a.before b.before a.line b.line a.after b.after (sym a.cut ∙ b.cut)) where
   by : Cuts a.before b.before a.line b.line → (n ≡ m) × (f ≡ g)
   by (inl same) =
@@ -129,12 +129,12 @@ one_first o bytes n m f g a b = by (cuts a.before b.before a.line b.line a.after
   by (inr (inr more)) = absurd (none_before o bytes m n g f b a more.0 more.1)
 
 -- what a verdict that says something says
-data Sees (o : ObjectForm) (bytes : List ℕ) : Verdict → Type 0 where
+data Sees (o : ObjectForm) (bytes : List ℕ) : AuditVerdict → Type 0 where
   legal : (entries : ℕ) → IsLegalTrace o bytes entries → Sees o bytes (verdicts.Legal entries)
-  faulty : (number : ℕ) (fault : Fault) → IsFirstFault o bytes number fault → Sees o bytes (verdict_for number fault)
+  faulty : (number : ℕ) (fault : AuditFault) → IsFirstFault o bytes number fault → Sees o bytes (verdict_for number fault)
   early : (number : ℕ) → EndsEarly o bytes number → Sees o bytes (verdicts.BadLine number)
 
-sees : (o : ObjectForm) (bytes : List ℕ) (v : Verdict) → v ≢ verdicts.Memory → IsVerdict o bytes v → Sees o bytes v
+sees : (o : ObjectForm) (bytes : List ℕ) (v : AuditVerdict) → v ≢ verdicts.Memory → IsVerdict o bytes v → Sees o bytes v
 sees o bytes (verdicts.Legal n) some is = legal n is
 sees o bytes (verdicts.BadLine n) some (inl f) = faulty n faults.Bad f
 sees o bytes (verdicts.BadLine n) some (inr e) = early n e
@@ -143,7 +143,7 @@ sees o bytes (verdicts.WrongReply n) some f = faulty n faults.Wrong f
 sees o bytes (verdicts.NotRunning n) some f = faulty n faults.Stranger f
 sees o bytes verdicts.Memory some is = absurd (some refl)
 
-one_sight : (o : ObjectForm) (bytes : List ℕ) (v w : Verdict) → Sees o bytes v → Sees o bytes w → v ≡ w
+one_sight : (o : ObjectForm) (bytes : List ℕ) (v w : AuditVerdict) → Sees o bytes v → Sees o bytes w → v ≡ w
 one_sight o bytes v w (legal n a) (legal m b) =
     let same : a.heard ≡ b.heard = tell_once o nothing_heard (lines bytes) a.heard b.heard tt a.told b.told in
     ap verdicts.Legal (a.counted ∙ ap (λ h. length (history_of o h.past)) same ∙ sym b.counted)
@@ -159,6 +159,6 @@ one_sight o bytes v w (early n a) (legal m b) =
 one_sight o bytes v w (early n a) (faulty m g b) = absurd (early_no_fault o bytes n m g a b)
 one_sight o bytes v w (early n a) (early m b) = ap verdicts.BadLine (a.counted ∙ sym b.counted)
 
-pub one_verdict : (o : ObjectForm) (bytes : List ℕ) (first second : Verdict) → first ≢ verdicts.Memory → second ≢ verdicts.Memory
+pub one_verdict : (o : ObjectForm) (bytes : List ℕ) (first second : AuditVerdict) → first ≢ verdicts.Memory → second ≢ verdicts.Memory
     → IsVerdict o bytes first → IsVerdict o bytes second → first ≡ second
 one_verdict o bytes first second some other p q = one_sight o bytes first second (sees o bytes first some p) (sees o bytes second other q)

@@ -22,7 +22,7 @@ use Rattle.apply_core.specs.History.{IsReplyOn, left_by}
 use Rattle.apply_core.specs.declared.reply.Reply.{Reply}
 use Rattle.apply_core.specs.declared.reply.Reply.TheVariants.{Done, Refused, Failed}
 use Rattle.word_core.specs.Events.{body_at}
-use Rattle.audit_core.specs.declared.calls.Running.{Running}
+use Rattle.audit_core.specs.declared.calls.ActiveCall.{ActiveCall}
 use Rattle.audit_core.specs.Replies.{IsAnswer, Did, IsDoneSo, CanDo, Tries}
 use Rattle.audit_core.proofs.Forms.{body_is, fit_elsewhere}
 
@@ -62,13 +62,13 @@ value_there (v ∷ parts) zero kind is = (v, refl, ap (λ o. unwrap_or o (kind_o
 value_there (v ∷ parts) (suc p) kind is = value_there parts p kind is
 
 module _ (object : Object) (place : ℕ) (a : Arc Operation Global) (within : place < length object.operations.items) (is : a ≡ get_or object.operations.items place a) where
-  reads_fit : (r : Running) (parts : List Contents) → CanDo (object_of object) r parts → HoldsReads (arc_value a) parts
+  reads_fit : (r : ActiveCall) (parts : List Contents) → CanDo (object_of object) r parts → HoldsReads (arc_value a) parts
   reads_fit r parts can p kind named =
       let known = known_at (map (λ p. p.kind) object.parts.items) object.operations.items place a object.of_parts within is in
       let there : slice_get (map kind_of parts) p ≡ Some kind = ap (λ ks. slice_get ks p) (can.kinds ∙ kinds_same object.parts.items) ∙ known p kind named.held in
       value_there parts p kind there
 
-  tried_true : (r : Running) (reply : Reply) (before after : List Contents) → place ≡ r.operation → IsAnswer reply → Did (arc_value a) r.arguments.items before after reply → Tries (object_of object) r reply before after true
+  tried_true : (r : ActiveCall) (reply : Reply) (before after : List Contents) → place ≡ r.operation → IsAnswer reply → Did (arc_value a) r.arguments.items before after reply → Tries (object_of object) r reply before after true
   tried_true r reply before after here answer did can =
       let op = arc_value a in
       let body : body_at (object_of object) r.operation ≡ body_of op = ap (body_at (object_of object)) (sym here) ∙ body_is object.operations.items place a within is in
@@ -78,14 +78,14 @@ module _ (object : Object) (place : ℕ) (a : Arc Operation Global) (within : pl
         did.kinds,
       )
 
-  tried_false : (r : Running) (reply given : Reply) (before after : List Contents) → place ≡ r.operation → IsAnswer reply → (reply ≡ given → ⊥) → Did (arc_value a) r.arguments.items before after given
+  tried_false : (r : ActiveCall) (reply given : Reply) (before after : List Contents) → place ≡ r.operation → IsAnswer reply → (reply ≡ given → ⊥) → Did (arc_value a) r.arguments.items before after given
       → Tries (object_of object) r reply before after false
   tried_false r reply given before after here answer other did can right =
       let op = arc_value a in
       let body : body_at (object_of object) r.operation ≡ body_of op = ap (body_at (object_of object)) (sym here) ∙ body_is object.operations.items place a within is in
       other_is_not reply given (body_of op) r.arguments.items before answer did.tells other (subst (λ b. IsReplyOn reply b r.arguments.items before) body right)
 
-  tried : (op : Operation) (args : List Datum) (r : Running) (reply : Reply) (before after : List Contents) (b : Bool) → op ≡ arc_value a → args ≡ r.arguments.items → place ≡ r.operation → IsAnswer reply → IsDoneSo op args reply before after b
+  tried : (op : Operation) (args : List Datum) (r : ActiveCall) (reply : Reply) (before after : List Contents) (b : Bool) → op ≡ arc_value a → args ≡ r.arguments.items → place ≡ r.operation → IsAnswer reply → IsDoneSo op args reply before after b
       → Tries (object_of object) r reply before after b
   tried op args r reply before after true one two here answer did =
       tried_true r reply before after here answer (subst (λ xs. Did (arc_value a) xs before after reply) two (subst (λ o. Did o args before after reply) one did))
@@ -95,7 +95,7 @@ module _ (object : Object) (place : ℕ) (a : Arc Operation Global) (within : pl
       tried_false r reply other.0 before after here answer other.2 (subst (λ xs. Did (arc_value a) xs before after other.0) two (subst (λ o. Did o args before after other.0) one other.1)) can right
 
   -- what was found of a reply by doing the operation again is what is found of it
-  pub tried_ok : {E : Type 0} (op : Operation) (args : List Datum) (r : Running) (reply : Reply) (before after : List Contents) (found : Result Bool E) → op ≡ arc_value a → args ≡ r.arguments.items → place ≡ r.operation → IsAnswer reply
+  pub tried_ok : {E : Type 0} (op : Operation) (args : List Datum) (r : ActiveCall) (reply : Reply) (before after : List Contents) (found : Result Bool E) → op ≡ arc_value a → args ≡ r.arguments.items → place ≡ r.operation → IsAnswer reply
       → IfOk found (IsDoneSo op args reply before after) → IfOk found (Tries (object_of object) r reply before after)
   tried_ok op args r reply before after (Ok b) one two here answer done_so = tried op args r reply before after b one two here answer done_so
   tried_ok op args r reply before after (Err e) one two here answer done_so = tt

@@ -18,7 +18,7 @@ use Rattle.apply_core.specs.declared.reply.Reply.{Reply}
 use Rattle.apply_core.specs.History.{End as Ended, IsReplyOn, left_by, leads_to, IsLegal}
 use Rattle.word_core.specs.Events.{Called, Happened, began, ended, call_of, trace_of, history_of, IsRunning, body_at}
 use Rattle.audit_core.specs.declared.state.Audit.{Audit}
-use Rattle.audit_core.specs.declared.calls.Running.{Running}
+use Rattle.audit_core.specs.declared.calls.ActiveCall.{ActiveCall}
 use Rattle.audit_core.specs.Operations.{operation_names}
 use Rattle.audit_core.specs.Replies.{CanDo}
 use Rattle.audit_core.specs.Tells.{IsStart, Heard, nothing_heard, IsOpened}
@@ -26,7 +26,7 @@ use Rattle.audit_core.specs.Counting.{AreCounters}
 use Rattle.audit_core.specs.Calls.{called, AreSlots}
 use Rattle.audit_core.specs.Verdicts.{contents_of}
 use Rattle.audit_core.specs.Stands.{Stands, IsFit, AreFit}
-use Rattle.audit_core.specs.declared.calls.Slot.TheVariants.{Fresh, Runs, Ended as Over}
+use Rattle.audit_core.specs.declared.calls.CallSlot.TheVariants.{Fresh, Runs, Ended as Over}
 use Rattle.audit_core.proofs.Slots.{running_among, slot_runs, slots_begun, slots_ended}
 
 -- the contents after one end more
@@ -115,7 +115,7 @@ part_stands o audit new heard name kind value bytes s yes' there spells parts na
       counted = entries ∙ s.counted;
     }
 
-pub start_stands : (o : ObjectForm) (audit new : Audit) (heard : Heard) (number : ℕ) (r : Running) → Stands o audit heard → IsOpened o heard → IsFit o (called number r) → IsFresh number (trace_of heard.past)
+pub start_stands : (o : ObjectForm) (audit new : Audit) (heard : Heard) (number : ℕ) (r : ActiveCall) → Stands o audit heard → IsOpened o heard → IsFit o (called number r) → IsFresh number (trace_of heard.past)
     → slice_index_or new.calls.items number Fresh ≡ Runs r → ((n : ℕ) → n ≢ number → slice_index_or new.calls.items n Fresh ≡ slice_index_or audit.calls.items n Fresh)
     → AreCounters new.counters.items (length o.operations) o.paths (Start (call_of (called number r)) ∷ trace_of heard.past)
     → new.parts ≡ audit.parts → new.named ≡ audit.named → new.entries ≡ audit.entries → Stands o new (record heard { past = began (called number r) ∷ heard.past })
@@ -134,7 +134,7 @@ start_stands o audit new heard number r s opened fit fresh here others counters 
   counted = entries ∙ s.counted;
 }
 
-pub end_stands : (o : ObjectForm) (audit new : Audit) (heard : Heard) (number : ℕ) (r : Running) (reply : Reply) → Stands o audit heard → IsOpened o heard
+pub end_stands : (o : ObjectForm) (audit new : Audit) (heard : Heard) (number : ℕ) (r : ActiveCall) (reply : Reply) → Stands o audit heard → IsOpened o heard
     → slice_index_or audit.calls.items number Fresh ≡ Runs r → slice_index_or new.calls.items number Fresh ≡ Over → ((n : ℕ) → n ≢ number → slice_index_or new.calls.items n Fresh ≡ slice_index_or audit.calls.items n Fresh)
     → AreCounters new.counters.items (length o.operations) o.paths (End (call_of (called number r)) ∷ trace_of heard.past)
     → IsReplyOn reply (body_at o r.operation) r.arguments.items audit.parts.items → new.parts.items ≡ left_by reply (body_at o r.operation) r.arguments.items audit.parts.items → map kind_of new.parts.items ≡ map kind_of audit.parts.items
@@ -188,7 +188,7 @@ start_fit o heard number session name arguments place is = record {
   fit = is.fit;
 }
 
-pub can_do : (o : ObjectForm) (audit : Audit) (heard : Heard) (number : ℕ) (r : Running) → Stands o audit heard → IsOpened o heard → IsRunning (called number r) heard.past → CanDo o r audit.parts.items
+pub can_do : (o : ObjectForm) (audit : Audit) (heard : Heard) (number : ℕ) (r : ActiveCall) → Stands o audit heard → IsOpened o heard → IsRunning (called number r) heard.past → CanDo o r audit.parts.items
 can_do o audit heard number r s opened runs =
     let fit = running_fit o audit heard (called number r) s runs in
     record {

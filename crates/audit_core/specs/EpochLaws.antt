@@ -1,7 +1,7 @@
 -- Laws of lines behind a front.
 use Rattle.std.specs.Prelude.{ℕ, List, None, take}
 use Rattle.decl_core.specs.ObjectForm.{ObjectForm}
-use Rattle.audit_core.specs.declared.verdict.Fault.{Fault}
+use Rattle.audit_core.specs.declared.verdict.AuditFault.{AuditFault}
 use Rattle.audit_core.specs.Steps.{Step, Begun, Heard, nothing_heard}
 use Rattle.audit_core.specs.EpochTells.{Tell}
 use Rattle.audit_core.specs.Sound.{IsSound, IsPlayed, IsFirstFault}
@@ -14,5 +14,5 @@ CutIsPlayed = (o : ObjectForm) (e : Begun) (all : List (List ℕ)) (heard : Hear
 
 -- Of sound lines none has a fault, and none of the first ones, however many.
 abbrev pub SoundHasNoFault : Type 0
-SoundHasNoFault = (o : ObjectForm) (e : Begun) (all : List (List ℕ)) (heard : Heard) (k number : ℕ) (fault : Fault) →
+SoundHasNoFault = (o : ObjectForm) (e : Begun) (all : List (List ℕ)) (heard : Heard) (k number : ℕ) (fault : AuditFault) →
     Tell o e nothing_heard all heard → IsSound o e heard → IsFirstFault o e (take k all) number fault → ⊥

@@ -9,15 +9,15 @@ use Rattle.apply_core.specs.History.{IsLegal}
 use Rattle.word_core.specs.Events.{Called, history_of, body_at}
 use Rattle.path_count.specs.declared.past.PastEvent.{PastEvent}
 use Rattle.path_count.specs.Past.{events_of, AreBefore}
-use Rattle.audit_core.specs.declared.carried.Carried.{Carried}
+use Rattle.audit_core.specs.declared.carried.WaitedCall.{WaitedCall}
 use Rattle.audit_core.specs.Calls.{called}
 use Rattle.audit_core.specs.Counting.{AllMayStart}
 use Rattle.audit_core.specs.Tells.{IsCallNumber}
 use Rattle.audit_core.specs.View.{told_view}
-use Rattle.audit_core.specs.declared.verdict.Fault.{Fault}
+use Rattle.audit_core.specs.declared.verdict.AuditFault.{AuditFault}
 use Rattle.audit_core.specs.declared.epoch_replay.Known.{Known}
-use Rattle.audit_core.specs.declared.epoch_replay.Note.{Note}
-use Rattle.audit_core.specs.declared.epoch_replay.Note.TheVariants as notes
+use Rattle.audit_core.specs.declared.epoch_replay.ReplayNote.{ReplayNote}
+use Rattle.audit_core.specs.declared.epoch_replay.ReplayNote.TheVariants as notes
 use Rattle.audit_core.specs.declared.epoch_replay.Replay.{Replay}
 use Rattle.audit_core.specs.Steps.{ran, cancelled, named, Begun, Heard, IsUnused, happened_of, trace_by}
 use Rattle.audit_core.specs.Steps.{contents_by, long_past}
@@ -29,7 +29,7 @@ use Rattle.audit_core.specs.EpochTells.{Tells}
 use Rattle.audit_core.specs.Sound.{IsFault}
 
 -- an epoch with this past, these contents, and these calls that waited, numbered from 1
-abbrev pub begun_with : List PastEvent → List Contents → List Carried → Begun
+abbrev pub begun_with : List PastEvent → List Contents → List WaitedCall → Begun
 begun_with past opening carried = record { past = past; opening = opening; carried = carried_calls carried }
 
 -- a call that was told of
@@ -60,7 +60,7 @@ pub record Stands (o : ObjectForm) (e : Begun) (r : Replay) (heard : Heard) : Ty
   pub long : r.long.items ≡ long_past e heard.steps
 
 -- what a line told is what stands behind it more
-abbrev pub IsNote : Heard → Note → Heard → Type 0
+abbrev pub IsNote : Heard → ReplayNote → Heard → Type 0
 IsNote heard notes.Began after = after.steps ≡ heard.steps
 IsNote heard (notes.Ran known reply) after =
     after ≡ record { steps = ran (known_call known) (told_view reply) ∷ heard.steps; running = None }
@@ -69,16 +69,16 @@ IsNote heard (notes.Named session client) after =
     after ≡ record heard { steps = named session client ∷ heard.steps }
 
 -- what was found in a line behind those that told this
-abbrev pub Found : ObjectForm → Begun → Heard → List ℕ → Result Note Fault → Replay → Type 0
+abbrev pub Found : ObjectForm → Begun → Heard → List ℕ → Result ReplayNote AuditFault → Replay → Type 0
 Found o e heard line found new = MatchResult found
     (λ note. (after : Heard) × Tells o e heard line after × IsNote heard note after × Stands o e new after)
     (λ fault. IsFault o e heard line fault)
 
 -- what was found in a line
-abbrev pub Hears : ObjectForm → List ℕ → Replay → Result Note Fault → Replay → Type 0
+abbrev pub Hears : ObjectForm → List ℕ → Replay → Result ReplayNote AuditFault → Replay → Type 0
 Hears o line old found new = (e : Begun) (heard : Heard) → Stands o e old heard → Found o e heard line found new
 
 -- what was found in a line that says this
-abbrev pub HearsSaid : ObjectForm → said.Said → Replay → Result Note Fault → Replay → Type 0
+abbrev pub HearsSaid : ObjectForm → said.Said → Replay → Result ReplayNote AuditFault → Replay → Type 0
 HearsSaid o what old found new = (line : List ℕ) (e : Begun) (heard : Heard) → Stands o e old heard →
     said.Says line what → Found o e heard line found new

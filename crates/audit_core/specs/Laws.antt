@@ -12,8 +12,8 @@ use Rattle.word_core.specs.TraceLaws.{HasNames, IsReply}
 use Rattle.word_core.specs.Text.{operation_name, trace_text, told_of}
 use Rattle.audit_core.specs.Operations.{operation_names}
 use Rattle.audit_core.specs.Tells.{IsCallNumber, IsSession}
-use Rattle.audit_core.specs.declared.verdict.Verdict.{Verdict}
-use Rattle.audit_core.specs.declared.verdict.Verdict.TheVariants.{Memory}
+use Rattle.audit_core.specs.declared.verdict.AuditVerdict.{AuditVerdict}
+use Rattle.audit_core.specs.declared.verdict.AuditVerdict.TheVariants.{Memory}
 use Rattle.audit_core.specs.Verdicts.{IsLegalTrace, IsVerdict}
 
 -- a call within the limits, of an operation of the object that is the first of its name, with arguments that fit it
@@ -46,5 +46,5 @@ TextIsLegal =
 
 -- of the same bytes no two verdicts hold, but where memory was refused
 abbrev pub OneVerdict : Type 0
-OneVerdict = (o : ObjectForm) (bytes : List ℕ) (first second : Verdict) → first ≢ Memory → second ≢ Memory
+OneVerdict = (o : ObjectForm) (bytes : List ℕ) (first second : AuditVerdict) → first ≢ Memory → second ≢ Memory
     → IsVerdict o bytes first → IsVerdict o bytes second → first ≡ second

@@ -13,7 +13,7 @@ use Rattle.apply_core.specs.declared.reply.Reply.{Reply}
 use Rattle.apply_core.specs.declared.reply.Reply.TheVariants.{Done, Refused, Failed}
 use Rattle.apply_core.specs.History.{IsReplyOn, left_by}
 use Rattle.word_core.specs.Events.{body_at}
-use Rattle.audit_core.specs.declared.calls.Running.{Running}
+use Rattle.audit_core.specs.declared.calls.ActiveCall.{ActiveCall}
 
 -- a reply that is no failure
 abbrev pub IsAnswer : Reply → Type 0
@@ -41,13 +41,13 @@ IsDoneSo operation arguments reply before after false = ArgumentsFit operation a
     → (given : Reply) × Did operation arguments before after given × (reply ≡ given → ⊥)
 
 -- a call that the object can do on these contents
-pub record CanDo (o : ObjectForm) (r : Running) (parts : List Contents) : Type 0 where
+pub record CanDo (o : ObjectForm) (r : ActiveCall) (parts : List Contents) : Type 0 where
   pub there : r.operation < length o.operations
   pub fit : map elem_of r.arguments.items ≡ (body_at o r.operation).params
   pub kinds : map kind_of parts ≡ map (λ p. p.1) o.parts
 
 -- what was found of a reply, and the contents after it
-abbrev pub Tries : ObjectForm → Running → Reply → List Contents → List Contents → Bool → Type 0
+abbrev pub Tries : ObjectForm → ActiveCall → Reply → List Contents → List Contents → Bool → Type 0
 Tries o r reply before after true = CanDo o r before → IsReplyOn reply (body_at o r.operation) r.arguments.items before
     × (after ≡ left_by reply (body_at o r.operation) r.arguments.items before)
     × (map kind_of after ≡ map kind_of before)

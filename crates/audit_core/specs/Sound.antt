@@ -7,8 +7,8 @@ use Rattle.apply_core.specs.declared.reply.Reply.{Reply}
 use Rattle.apply_core.specs.History.{IsLegal, IsReplyOn}
 use Rattle.word_core.specs.Events.{Called, call_of, history_of, body_at}
 use Rattle.audit_core.specs.Counting.{RefusesFirst}
-use Rattle.audit_core.specs.declared.verdict.Fault.{Fault}
-use Rattle.audit_core.specs.declared.verdict.Fault.TheVariants as faults
+use Rattle.audit_core.specs.declared.verdict.AuditFault.{AuditFault}
+use Rattle.audit_core.specs.declared.verdict.AuditFault.TheVariants as faults
 use Rattle.audit_core.specs.EpochSaid.{Says, Asked, a_start, an_end}
 use Rattle.audit_core.specs.Steps.{Begun, Heard, ran, nothing_heard, happened_of, trace_by, contents_by}
 use Rattle.audit_core.specs.EpochTells.{Tells, Tell}
@@ -64,14 +64,14 @@ pub record IsBad (o : ObjectForm) (e : Begun) (heard : Heard) (line : List ℕ) 
   pub unended : IsStranger o e heard line → ⊥
 
 -- the fault of a line behind lines that told this
-abbrev pub IsFault : ObjectForm → Begun → Heard → List ℕ → Fault → Type 0
+abbrev pub IsFault : ObjectForm → Begun → Heard → List ℕ → AuditFault → Type 0
 IsFault o e heard line faults.Bad = IsBad o e heard line
 IsFault o e heard line (faults.Breaks path) = IsBreach o e heard line path
 IsFault o e heard line faults.Wrong = IsWrong o e heard line
 IsFault o e heard line faults.Stranger = IsStranger o e heard line
 
 -- The line of this number, of those behind a front, is the first with a fault: those before it are sound.
-pub record IsFirstFault (o : ObjectForm) (e : Begun) (all : List (List ℕ)) (number : ℕ) (fault : Fault) : Type 0 where
+pub record IsFirstFault (o : ObjectForm) (e : Begun) (all : List (List ℕ)) (number : ℕ) (fault : AuditFault) : Type 0 where
   pub before : List (List ℕ)
   pub line : List ℕ
   pub after : List (List ℕ)

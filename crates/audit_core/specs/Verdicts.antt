@@ -10,10 +10,10 @@ use Rattle.word_core.specs.Events.{Called, began, ended, trace_of, history_of, I
 use Rattle.audit_core.specs.Said.{Says, an_end}
 use Rattle.audit_core.specs.Counting.{RefusesFirst}
 use Rattle.audit_core.specs.Tells.{Heard, nothing_heard, IsOpened, IsCallNumber, Tells, Tell}
-use Rattle.audit_core.specs.declared.verdict.Fault.{Fault}
-use Rattle.audit_core.specs.declared.verdict.Fault.TheVariants as faults
-use Rattle.audit_core.specs.declared.verdict.Verdict.{Verdict}
-use Rattle.audit_core.specs.declared.verdict.Verdict.TheVariants as verdicts
+use Rattle.audit_core.specs.declared.verdict.AuditFault.{AuditFault}
+use Rattle.audit_core.specs.declared.verdict.AuditFault.TheVariants as faults
+use Rattle.audit_core.specs.declared.verdict.AuditVerdict.{AuditVerdict}
+use Rattle.audit_core.specs.declared.verdict.AuditVerdict.TheVariants as verdicts
 
 -- what happened satisfies every path, and its history is legal from the opening contents
 pub record IsSound (o : ObjectForm) (heard : Heard) : Type 0 where
@@ -54,7 +54,7 @@ pub record IsBad (o : ObjectForm) (heard : Heard) (line : List ℕ) : Type 0 whe
   pub unended : IsStranger o heard line → ⊥
 
 -- the fault of a line behind lines that told this
-abbrev pub IsFault : ObjectForm → Heard → List ℕ → Fault → Type 0
+abbrev pub IsFault : ObjectForm → Heard → List ℕ → AuditFault → Type 0
 IsFault o heard line faults.Bad = IsBad o heard line
 IsFault o heard line (faults.Breaks path) = IsBreach o heard line path
 IsFault o heard line faults.Wrong = IsWrong o heard line
@@ -69,7 +69,7 @@ pub record IsLegalTrace (o : ObjectForm) (bytes : List ℕ) (entries : ℕ) : Ty
   pub counted : entries ≡ length (history_of o heard.past)
 
 -- The line of this number is the first with a fault: those before it are the front of such a trace.
-pub record IsFirstFault (o : ObjectForm) (bytes : List ℕ) (number : ℕ) (fault : Fault) : Type 0 where
+pub record IsFirstFault (o : ObjectForm) (bytes : List ℕ) (number : ℕ) (fault : AuditFault) : Type 0 where
   pub before : List (List ℕ)
   pub line : List ℕ
   pub after : List (List ℕ)
@@ -88,14 +88,14 @@ pub record EndsEarly (o : ObjectForm) (bytes : List ℕ) (number : ℕ) : Type 0
   pub counted : number ≡ length (lines bytes) + 1
 
 -- what is answered of a line with this fault
-abbrev pub verdict_for : ℕ → Fault → Verdict
+abbrev pub verdict_for : ℕ → AuditFault → AuditVerdict
 verdict_for number faults.Bad = verdicts.BadLine number
 verdict_for number (faults.Breaks path) = verdicts.BreaksPath number path
 verdict_for number faults.Wrong = verdicts.WrongReply number
 verdict_for number faults.Stranger = verdicts.NotRunning number
 
 -- what an audit answers; want of memory says nothing
-abbrev pub IsVerdict : ObjectForm → List ℕ → Verdict → Type 0
+abbrev pub IsVerdict : ObjectForm → List ℕ → AuditVerdict → Type 0
 IsVerdict o bytes (verdicts.Legal entries) = IsLegalTrace o bytes entries
 IsVerdict o bytes (verdicts.BadLine number) = IsFirstFault o bytes number faults.Bad ⊎ EndsEarly o bytes number
 IsVerdict o bytes (verdicts.BreaksPath number path) = IsFirstFault o bytes number (faults.Breaks path)

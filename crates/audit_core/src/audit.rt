@@ -5,7 +5,7 @@ ghost use Rattle.decl_core.specs.ObjectMap.{object_of};
 ghost use Rattle.audit_core.specs.Verdicts.{IsVerdict, IsLegalTrace, verdict_for};
 
 use crate::state::Audit;
-use crate::verdict::{Fault, Verdict};
+use crate::verdict::{AuditFault, AuditVerdict};
 use decl_core::analyse::Accepted;
 use decl_core::object::Object;
 use std::alloc::{AllocError, Global};
@@ -17,20 +17,20 @@ use text_core::next_line;
 /// the history is legal from the contents that the part lines tell. Else the first faulty line is told, by its number
 /// from 1, and of a start that paths refuse the first such path, from 1; where the lines end before that of the last
 /// part, the line behind them is bad. `Memory` says nothing of the trace.
-pub fn audit(alloc: Global, accepted: &Accepted, trace: &[u8]) -> Verdict
+pub fn audit(alloc: Global, accepted: &Accepted, trace: &[u8]) -> AuditVerdict
     // What is answered is so, and a legal trace is answered as legal unless memory is refused.
     ensures verdict { IsVerdict (object_of accepted.now) trace.now result }
     ensures exact { (entries : ℕ) → IsLegalTrace (object_of accepted.now) trace.now entries →
-        (result ≡ Verdict.Legal entries) ⊎ (result ≡ Verdict.Memory) }
+        (result ≡ AuditVerdict.Legal entries) ⊎ (result ≡ AuditVerdict.Memory) }
 {
     match follow(alloc, accepted.object(), trace) {
         Ok(verdict) => verdict,
-        Err(_) => Verdict::Memory,
+        Err(_) => AuditVerdict::Memory,
     }
 }
 
 // The verdict, unless memory was refused.
-fn follow(alloc: Global, object: &Object, trace: &[u8]) -> Result<Verdict, AllocError>
+fn follow(alloc: Global, object: &Object, trace: &[u8]) -> Result<AuditVerdict, AllocError>
     ensures { IfOk result (IsVerdict (object_of object.now) trace.now) }
 {
     let mut audit = Audit::new(alloc, object)?;
@@ -44,21 +44,21 @@ fn follow(alloc: Global, object: &Object, trace: &[u8]) -> Result<Verdict, Alloc
         rest = tail;
     }
     if audit.is_opened(object) {
-        return Ok(Verdict::Legal {
+        return Ok(AuditVerdict::Legal {
             entries: audit.entries(),
         });
     }
-    Ok(Verdict::BadLine(number + 1))
+    Ok(AuditVerdict::BadLine(number + 1))
 }
 
 // What is answered where the line of this number has this fault.
-fn verdict_of(number: u64, fault: Fault) -> Verdict
+fn verdict_of(number: u64, fault: AuditFault) -> AuditVerdict
     ensures { result ≡ verdict_for number fault }
 {
     match fault {
-        Fault::Bad => Verdict::BadLine(number),
-        Fault::Breaks(path) => Verdict::BreaksPath(number, path),
-        Fault::Wrong => Verdict::WrongReply(number),
-        Fault::Stranger => Verdict::NotRunning(number),
+        AuditFault::Bad => AuditVerdict::BadLine(number),
+        AuditFault::Breaks(path) => AuditVerdict::BreaksPath(number, path),
+        AuditFault::Wrong => AuditVerdict::WrongReply(number),
+        AuditFault::Stranger => AuditVerdict::NotRunning(number),
     }
 }

@@ -9,7 +9,7 @@ use value_core::datum::Datum;
 
 /// A call that waited when an epoch began.
 #[derive(Drop)]
-pub struct Carried {
+pub struct WaitedCall {
     /// Its number in this epoch: the calls that waited have the numbers from 1.
     pub number: u32,
     /// Its session.
@@ -21,7 +21,7 @@ pub struct Carried {
 }
 
 // Whether a carried call is of this session, operation and arguments.
-fn is_of(carried: &Carried, session: u32, operation: OpId, arguments: &[Datum]) -> bool
+fn is_of(carried: &WaitedCall, session: u32, operation: OpId, arguments: &[Datum]) -> bool
     ensures { IsTrue result ↔ ((carried.now.session ≡ session) × (carried.now.operation ≡ operation)
         × (carried.now.arguments ≡ arguments.now)) }
 {
@@ -30,7 +30,7 @@ fn is_of(carried: &Carried, session: u32, operation: OpId, arguments: &[Datum]) 
 
 // Whether the carried call of this number, if there is one, is of this session, operation and arguments.
 pub(crate) fn is_as_carried(
-    carried: &[Carried],
+    carried: &[WaitedCall],
     number: u32,
     session: u32,
     operation: OpId,

@@ -12,15 +12,15 @@ ghost use Rattle.audit_core.specs.EpochStands.{known_call};
 ghost use Rattle.audit_core.specs.declared.epoch_replay.Known.{Known as Known_of};
 ghost use Rattle.decl_core.specs.ObjectMap.{object_of};
 
-use crate::calls::Running;
-use crate::carried::{Carried, is_as_carried};
+use crate::calls::ActiveCall;
+use crate::carried::{WaitedCall, is_as_carried};
 use crate::counts::Counts;
-use crate::epoch_said::{Asked, Said, read_line};
-use crate::numbers::Numbers;
+use crate::epoch_said::{AskedCall, EpochLine, read_line};
+use crate::numbers::NumberSet;
 use crate::replay::is_right;
 use crate::start::operation_for;
 use crate::told::ToldReply;
-use crate::verdict::Fault;
+use crate::verdict::AuditFault;
 use decl_core::object::{Object, Part};
 use path_count::counters::Counters;
 use path_count::past::PastEvent;
@@ -36,12 +36,12 @@ pub struct Known {
     /// Its number in this epoch.
     pub number: u32,
     /// Its session, operation and arguments.
-    pub call: Running,
+    pub call: ActiveCall,
 }
 
 /// What a line told.
 #[derive(Drop)]
-pub enum Note {
+pub enum ReplayNote {
     /// A call started. Its end is to follow.
     Began,
     /// The call that had started ended with this reply.
@@ -61,9 +61,9 @@ pub struct Replay {
     // the values of all parts
     parts: Vec<Value>,
     // the numbers of calls that ended or were cancelled
-    numbers: Numbers,
+    numbers: NumberSet,
     // the calls that waited when the epoch began: their numbers are those from 1
-    carried: Vec<Carried>,
+    carried: Vec<WaitedCall>,
     // the call that has started and not ended
     running: Option<Known>,
     // the past, and the starts and ends of calls that ended
@@ -72,7 +72,7 @@ pub struct Replay {
 
 /// What an epoch came to.
 #[derive(Drop)]
-pub struct Played {
+pub struct ReplayedEpoch {
     /// The values of all parts.
     pub contents: Vec<Value>,
     /// What the paths have counted of the past and of all calls since.
@@ -148,7 +148,7 @@ impl Replay {
         object: &Object,
         past: Vec<PastEvent>,
         parts: Vec<Value>,
-        carried: Vec<Carried>,
+        carried: Vec<WaitedCall>,
     ) -> Result<Option<Replay>, AllocError>
         ensures { IfOk result (λ found. IfSome found (λ r.
             Stands (object_of object.now) (begun_with past.items parts.items carried.items) r nothing_heard)) }
@@ -163,7 +163,7 @@ impl Replay {
             alloc,
             counts,
             parts,
-            numbers: Numbers::new(alloc),
+            numbers: NumberSet::new(alloc),
             carried,
             running: None,
             long: past,
@@ -172,14 +172,14 @@ impl Replay {
 
     /// Hears a line, and answers what it told, or its fault; after a fault, and where memory is refused, the state is
     /// open.
-    pub fn hear(&mut self, object: &Object, line: &[u8]) -> Result<Result<Note, Fault>, AllocError>
+    pub fn hear(&mut self, object: &Object, line: &[u8]) -> Result<Result<ReplayNote, AuditFault>, AllocError>
         ensures { IfOk result (λ found. Hears (object_of object.now) line.now self.old found self.new) }
     {
         match read_line(self.alloc, line)? {
-            None => Ok(Err(Fault::Bad)),
+            None => Ok(Err(AuditFault::Bad)),
             Some(
-                Said::Start(
-                    Asked {
+                EpochLine::Start(
+                    AskedCall {
                         number,
                         session,
                         name,
@@ -187,10 +187,10 @@ impl Replay {
                     },
                 ),
             ) => Ok(self.hear_start(object, number, session, name, arguments)),
-            Some(Said::End(number, told)) => self.hear_end(object, number, told),
+            Some(EpochLine::End(number, told)) => self.hear_end(object, number, told),
             Some(
-                Said::Cancel(
-                    Asked {
+                EpochLine::Cancel(
+                    AskedCall {
                         number,
                         session,
                         name,
@@ -198,7 +198,7 @@ impl Replay {
                     },
                 ),
             ) => self.hear_cancel(object, number, session, name, arguments),
-            Some(Said::Name(session, client)) => self.hear_name(session, client),
+            Some(EpochLine::Name(session, client)) => self.hear_name(session, client),
         }
     }
 
@@ -242,21 +242,21 @@ impl Replay {
         session: u32,
         name: &[u8],
         arguments: Vec<Datum>,
-    ) -> Result<Note, Fault>
+    ) -> Result<ReplayNote, AuditFault>
         ensures { HearsSaid (object_of object.now) (a_start (asks number session name.now arguments.items)) self.old result
             self.new }
     {
         let Some(operation) = self.place_for(object, number, session, name, &arguments) else {
-            return Err(Fault::Bad);
+            return Err(AuditFault::Bad);
         };
         if self.counts.is_spent() {
-            return Err(Fault::Bad);
+            return Err(AuditFault::Bad);
         }
         if let Some(path) = self.counts.refusing(operation) {
-            return Err(Fault::Breaks(path));
+            return Err(AuditFault::Breaks(path));
         }
         self.running = Some(make_known(number, session, operation, arguments));
-        Ok(Note::Began)
+        Ok(ReplayNote::Began)
     }
 
     // Hears an end.
@@ -265,18 +265,18 @@ impl Replay {
         object: &Object,
         number: u32,
         told: ToldReply,
-    ) -> Result<Result<Note, Fault>, AllocError>
+    ) -> Result<Result<ReplayNote, AuditFault>, AllocError>
         ensures { IfOk result (λ found.
             HearsSaid (object_of object.now) (an_end number (told_view told)) self.old found self.new) }
     {
         let Some(known) = self.take_running(number) else {
-            return Ok(Err(Fault::Stranger));
+            return Ok(Err(AuditFault::Stranger));
         };
         if !is_right(self.alloc, object, &known.call, &told, &mut self.parts)? {
-            return Ok(Err(Fault::Wrong));
+            return Ok(Err(AuditFault::Wrong));
         }
         self.count(number, known.call.operation)?;
-        Ok(Ok(Note::Ran(known, told)))
+        Ok(Ok(ReplayNote::Ran(known, told)))
     }
 
     // Hears that a call that waited was cancelled.
@@ -287,34 +287,34 @@ impl Replay {
         session: u32,
         name: &[u8],
         arguments: Vec<Datum>,
-    ) -> Result<Result<Note, Fault>, AllocError>
+    ) -> Result<Result<ReplayNote, AuditFault>, AllocError>
         ensures { IfOk result (λ found.
             HearsSaid (object_of object.now) (a_cancel (asks number session name.now arguments.items)) self.old found
             self.new) }
     {
         let Some(operation) = self.place_for(object, number, session, name, &arguments) else {
-            return Ok(Err(Fault::Bad));
+            return Ok(Err(AuditFault::Bad));
         };
         self.numbers.take(number)?;
-        Ok(Ok(Note::Cancelled(make_known(number, session, operation, arguments))))
+        Ok(Ok(ReplayNote::Cancelled(make_known(number, session, operation, arguments))))
     }
 
     // Hears that a session got a name.
-    fn hear_name(&self, session: u32, client: &[u8]) -> Result<Result<Note, Fault>, AllocError>
+    fn hear_name(&self, session: u32, client: &[u8]) -> Result<Result<ReplayNote, AuditFault>, AllocError>
         ensures { IfOk result (λ found. (o : ObjectForm) →
             HearsSaid o (a_name session client.now) self.now found self.now) }
     {
         if self.running.is_some() || !is_session(session) {
-            return Ok(Err(Fault::Bad));
+            return Ok(Err(AuditFault::Bad));
         }
         match Name::read(self.alloc, client)? {
-            None => Ok(Err(Fault::Bad)),
-            Some(name) => Ok(Ok(Note::Named(session, name))),
+            None => Ok(Err(AuditFault::Bad)),
+            Some(name) => Ok(Ok(ReplayNote::Named(session, name))),
         }
     }
 
     /// What the epoch came to, up to the last line at which no call runs.
-    pub fn end(self) -> Played
+    pub fn end(self) -> ReplayedEpoch
         ensures { result ≡ record {
           contents = self.parts;
           counters = self.counts.all;
@@ -329,7 +329,7 @@ impl Replay {
             long,
             ..
         } = self;
-        Played {
+        ReplayedEpoch {
             contents: parts,
             counters: counts.all(),
             long,
@@ -388,7 +388,7 @@ fn make_known(number: u32, session: u32, operation: OpId, arguments: Vec<Datum>)
 {
     Known {
         number,
-        call: Running {
+        call: ActiveCall {
             session,
             operation,
             arguments,

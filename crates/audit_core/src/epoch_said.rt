@@ -16,7 +16,7 @@ use word_core::number::session_of;
 
 /// A call that a line tells of.
 #[derive(Drop)]
-pub struct Asked<'a> {
+pub struct AskedCall<'a> {
     /// Its number in this epoch.
     pub number: u32,
     /// Its session.
@@ -29,19 +29,19 @@ pub struct Asked<'a> {
 
 /// What a line behind a front says.
 #[derive(Drop)]
-pub enum Said<'a> {
+pub enum EpochLine<'a> {
     /// `start N sK OP ARG ..`.
-    Start(Asked<'a>),
+    Start(AskedCall<'a>),
     /// `end N`, and the reply.
     End(u32, ToldReply),
     /// `cancel N sK OP ARG ..`.
-    Cancel(Asked<'a>),
+    Cancel(AskedCall<'a>),
     /// `name sK CLIENT`.
     Name(u32, &'a [u8]),
 }
 
 /// What a line says, or `None` where it is outside the format. The error is that memory was refused.
-pub fn read_line(alloc: Global, line: &[u8]) -> Result<Option<Said<'_>>, AllocError>
+pub fn read_line(alloc: Global, line: &[u8]) -> Result<Option<EpochLine<'_>>, AllocError>
     ensures { IfOk result (IsSaid line.now) }
 {
     match next_bare(line) {
@@ -51,7 +51,7 @@ pub fn read_line(alloc: Global, line: &[u8]) -> Result<Option<Said<'_>>, AllocEr
 }
 
 // What a line says of this word and of those behind it.
-fn said_by<'a>(alloc: Global, verb: &[u8], line: &'a [u8]) -> Result<Option<Said<'a>>, AllocError>
+fn said_by<'a>(alloc: Global, verb: &[u8], line: &'a [u8]) -> Result<Option<EpochLine<'a>>, AllocError>
     ensures { IfOk result (Reads (said_in verb.now) said_view line.now) }
 {
     if is_same_word(verb, b"start") {
@@ -70,11 +70,11 @@ fn said_by<'a>(alloc: Global, verb: &[u8], line: &'a [u8]) -> Result<Option<Said
 }
 
 // The call that stands behind `start` or `cancel`.
-fn call_said(alloc: Global, line: &[u8]) -> Result<Option<Asked<'_>>, AllocError>
+fn call_said(alloc: Global, line: &[u8]) -> Result<Option<AskedCall<'_>>, AllocError>
     ensures { IfOk result (Reads asked_of asked_view line.now) }
 {
     match lines::start_said(alloc, line)? {
-        Some(lines::Said::Start(number, session, name, arguments)) => Ok(Some(Asked {
+        Some(lines::ToldLine::Start(number, session, name, arguments)) => Ok(Some(AskedCall {
             number,
             session,
             name,
@@ -84,34 +84,34 @@ fn call_said(alloc: Global, line: &[u8]) -> Result<Option<Asked<'_>>, AllocError
     }
 }
 
-fn start_said(alloc: Global, line: &[u8]) -> Result<Option<Said<'_>>, AllocError>
+fn start_said(alloc: Global, line: &[u8]) -> Result<Option<EpochLine<'_>>, AllocError>
     ensures { IfOk result (Reads start_of said_view line.now) }
 {
     match call_said(alloc, line)? {
-        Some(asked) => Ok(Some(Said::Start(asked))),
+        Some(asked) => Ok(Some(EpochLine::Start(asked))),
         None => Ok(None),
     }
 }
 
-fn cancel_said(alloc: Global, line: &[u8]) -> Result<Option<Said<'_>>, AllocError>
+fn cancel_said(alloc: Global, line: &[u8]) -> Result<Option<EpochLine<'_>>, AllocError>
     ensures { IfOk result (Reads cancel_of said_view line.now) }
 {
     match call_said(alloc, line)? {
-        Some(asked) => Ok(Some(Said::Cancel(asked))),
+        Some(asked) => Ok(Some(EpochLine::Cancel(asked))),
         None => Ok(None),
     }
 }
 
-fn end_said(alloc: Global, line: &[u8]) -> Result<Option<Said<'_>>, AllocError>
+fn end_said(alloc: Global, line: &[u8]) -> Result<Option<EpochLine<'_>>, AllocError>
     ensures { IfOk result (Reads end_of said_view line.now) }
 {
     match lines::end_said(alloc, line)? {
-        Some(lines::Said::End(number, reply)) => Ok(Some(Said::End(number, reply))),
+        Some(lines::ToldLine::End(number, reply)) => Ok(Some(EpochLine::End(number, reply))),
         _ => Ok(None),
     }
 }
 
-fn name_said(line: &[u8]) -> Option<Said<'_>>
+fn name_said(line: &[u8]) -> Option<EpochLine<'_>>
     ensures { Reads name_in said_view line.now result }
 {
     match next_bare(line) {
@@ -121,12 +121,12 @@ fn name_said(line: &[u8]) -> Option<Said<'_>>
 }
 
 // The name of the session that this word names, with the words behind it.
-fn name_by<'a>(session: &[u8], line: &'a [u8]) -> Option<Said<'a>>
+fn name_by<'a>(session: &[u8], line: &'a [u8]) -> Option<EpochLine<'a>>
     ensures { Reads (name_by_words session.now) said_view line.now result }
 {
     match session_of(session) {
         Some(session) => match only_bare(line) {
-            Some(client) => Some(Said::Name(session, client)),
+            Some(client) => Some(EpochLine::Name(session, client)),
             None => None,
         },
         None => None,

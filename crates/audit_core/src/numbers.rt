@@ -9,7 +9,7 @@ use std::alloc::{AllocError, Global};
 
 // The numbers of calls that ended or were cancelled.
 #[derive(Drop)]
-pub(crate) struct Numbers {
+pub(crate) struct NumberSet {
     // for each number up to some one, whether it is one of them
     used: Vec<bool>,
     // the greatest of them, or 0
@@ -59,12 +59,12 @@ fn greater(a: u32, b: u32) -> u32
     a
 }
 
-impl Numbers {
+impl NumberSet {
     // No number.
-    pub(crate) fn new(alloc: Global) -> Numbers
+    pub(crate) fn new(alloc: Global) -> NumberSet
         ensures { AreNumbers result.used.items result.greatest [] }
     {
-        Numbers {
+        NumberSet {
             used: Vec::new(alloc),
             greatest: 0,
         }

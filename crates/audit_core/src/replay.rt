@@ -8,7 +8,7 @@ ghost use Rattle.apply_core.specs.Held.{HoldsItsKind};
 ghost use Rattle.audit_core.specs.Replies.{Tries, IsDoneSo, IsAnswer};
 ghost use Rattle.audit_core.specs.View.{told_view};
 
-use crate::calls::Running;
+use crate::calls::ActiveCall;
 use crate::told::ToldReply;
 use apply_core::fits::{arguments_fit, parts_fit};
 use decl_core::object::{Object, Operation};
@@ -23,7 +23,7 @@ use value_core::value::Value;
 pub fn is_right(
     alloc: Global,
     object: &Object,
-    running: &Running,
+    running: &ActiveCall,
     told: &ToldReply,
     parts: &mut Vec<Value>,
 ) -> Result<bool, AllocError>
@@ -40,7 +40,7 @@ pub fn is_right(
 fn is_given(
     alloc: Global,
     object: &Object,
-    running: &Running,
+    running: &ActiveCall,
     told: &ToldReply,
     parts: &mut Vec<Value>,
 ) -> Result<bool, AllocError>

@@ -17,7 +17,7 @@ use word_core::number::{integer_of, session_of};
 
 /// What a line of a trace says.
 #[derive(Drop)]
-pub enum Said<'a> {
+pub enum ToldLine<'a> {
     /// `object NAME`.
     Object(&'a [u8]),
     /// `part NAME HEX`.
@@ -29,7 +29,7 @@ pub enum Said<'a> {
 }
 
 /// What a line says, or `None` where it is outside the format.
-pub fn read_line(alloc: Global, line: &[u8]) -> Result<Option<Said<'_>>, AllocError>
+pub fn read_line(alloc: Global, line: &[u8]) -> Result<Option<ToldLine<'_>>, AllocError>
     ensures { IfOk result (IsSaid line.now) }
 {
     match next_bare(line) {
@@ -39,7 +39,7 @@ pub fn read_line(alloc: Global, line: &[u8]) -> Result<Option<Said<'_>>, AllocEr
 }
 
 // What a line says of this word and of those behind it.
-fn said_by<'a>(alloc: Global, verb: &[u8], line: &'a [u8]) -> Result<Option<Said<'a>>, AllocError>
+fn said_by<'a>(alloc: Global, verb: &[u8], line: &'a [u8]) -> Result<Option<ToldLine<'a>>, AllocError>
     ensures { IfOk result (Reads (said_in verb.now) said_view line.now) }
 {
     if is_same_word(verb, b"object") {
@@ -57,16 +57,16 @@ fn said_by<'a>(alloc: Global, verb: &[u8], line: &'a [u8]) -> Result<Option<Said
     Ok(None)
 }
 
-fn object_said(line: &[u8]) -> Option<Said<'_>>
+fn object_said(line: &[u8]) -> Option<ToldLine<'_>>
     ensures { Reads object_in said_view line.now result }
 {
     match only_bare(line) {
-        Some(name) => Some(Said::Object(name)),
+        Some(name) => Some(ToldLine::Object(name)),
         None => None,
     }
 }
 
-fn part_said(line: &[u8]) -> Option<Said<'_>>
+fn part_said(line: &[u8]) -> Option<ToldLine<'_>>
     ensures { Reads part_in said_view line.now result }
 {
     match next_bare(line) {
@@ -76,17 +76,17 @@ fn part_said(line: &[u8]) -> Option<Said<'_>>
 }
 
 // A part of this name, with the word behind the name.
-fn part_of<'a>(name: &'a [u8], line: &'a [u8]) -> Option<Said<'a>>
+fn part_of<'a>(name: &'a [u8], line: &'a [u8]) -> Option<ToldLine<'a>>
     ensures { Reads (part_behind name.now) said_view line.now result }
 {
     match only_bare(line) {
-        Some(hex) => Some(Said::Part(name, hex)),
+        Some(hex) => Some(ToldLine::Part(name, hex)),
         None => None,
     }
 }
 
 /// What the words behind `start` say.
-pub fn start_said(alloc: Global, line: &[u8]) -> Result<Option<Said<'_>>, AllocError>
+pub fn start_said(alloc: Global, line: &[u8]) -> Result<Option<ToldLine<'_>>, AllocError>
     ensures { IfOk result (Reads start_in said_view line.now) }
 {
     match next_bare(line) {
@@ -100,7 +100,7 @@ fn start_numbered<'a>(
     alloc: Global,
     number: &[u8],
     line: &'a [u8],
-) -> Result<Option<Said<'a>>, AllocError>
+) -> Result<Option<ToldLine<'a>>, AllocError>
     ensures { IfOk result (Reads (start_behind number.now) said_view line.now) }
 {
     match integer_of(number) {
@@ -118,7 +118,7 @@ fn start_by<'a>(
     number: u32,
     session: &[u8],
     line: &'a [u8],
-) -> Result<Option<Said<'a>>, AllocError>
+) -> Result<Option<ToldLine<'a>>, AllocError>
     ensures { IfOk result (Reads (start_by_word number session.now) said_view line.now) }
 {
     match session_of(session) {
@@ -137,17 +137,17 @@ fn start_of<'a>(
     session: u32,
     name: &'a [u8],
     line: &'a [u8],
-) -> Result<Option<Said<'a>>, AllocError>
+) -> Result<Option<ToldLine<'a>>, AllocError>
     ensures { IfOk result (Reads (start_of_words number session name.now) said_view line.now) }
 {
     match data_of(alloc, line)? {
-        Some(arguments) => Ok(Some(Said::Start(number, session, name, arguments))),
+        Some(arguments) => Ok(Some(ToldLine::Start(number, session, name, arguments))),
         None => Ok(None),
     }
 }
 
 /// What the words behind `end` say.
-pub fn end_said(alloc: Global, line: &[u8]) -> Result<Option<Said<'_>>, AllocError>
+pub fn end_said(alloc: Global, line: &[u8]) -> Result<Option<ToldLine<'_>>, AllocError>
     ensures { IfOk result (Reads end_in said_view line.now) }
 {
     match next_bare(line) {
@@ -161,12 +161,12 @@ fn end_numbered<'a>(
     alloc: Global,
     number: &[u8],
     line: &[u8],
-) -> Result<Option<Said<'a>>, AllocError>
+) -> Result<Option<ToldLine<'a>>, AllocError>
     ensures { IfOk result (Reads (end_behind number.now) said_view line.now) }
 {
     match integer_of(number) {
         Some(number) => match read_reply(alloc, line)? {
-            Some(reply) => Ok(Some(Said::End(number, reply))),
+            Some(reply) => Ok(Some(ToldLine::End(number, reply))),
             None => Ok(None),
         },
         None => Ok(None),

@@ -3,14 +3,14 @@
 ghost use Rattle.std.specs.Prelude.{◌≡◌, ◌+◌, ◌<◌, ◌≤◌, ◌^◌, ◌↔◌, IsTrue, IfOk, MatchOption, length};
 ghost use Rattle.decl_core.specs.ObjectMap.{object_of};
 
-use crate::calls::{Running, Slot, is_fresh, put, take_running};
+use crate::calls::{ActiveCall, CallSlot, is_fresh, put, take_running};
 use crate::counters::{compile_each, finish_each, refusing, start_each};
 use crate::part::read_value;
 use crate::replay::is_right;
-use crate::said::{Said, read_line};
+use crate::said::{ToldLine, read_line};
 use crate::start::operation_for;
 use crate::told::ToldReply;
-use crate::verdict::Fault;
+use crate::verdict::AuditFault;
 use decl_core::object::Object;
 use path_count::counters::Counters;
 use path_tree::node::OpId;
@@ -27,7 +27,7 @@ pub struct Audit {
     // The values of the parts that were told: the opening ones until the first end, then those after it.
     parts: Vec<Value>,
     // By their numbers, the calls up to some number.
-    calls: Vec<Slot>,
+    calls: Vec<CallSlot>,
     // Whether line 1 came.
     named: bool,
     // How many calls have ended.
@@ -74,29 +74,29 @@ impl Audit {
     }
 
     /// Hears a line, or tells its fault; after a fault the state is open.
-    pub fn hear(&mut self, object: &Object, line: &[u8]) -> Result<Option<Fault>, AllocError>
+    pub fn hear(&mut self, object: &Object, line: &[u8]) -> Result<Option<AuditFault>, AllocError>
         requires room { self.old.entries + 1 < 2 ^ 64 }
         ensures heard { IfOk result (λ found. Hears (object_of object.now) line.now self.old found self.new) }
         ensures entries { self.new.entries ≤ self.old.entries + 1 }
     {
         match read_line(self.alloc, line)? {
-            None => Ok(Some(Fault::Bad)),
-            Some(Said::Object(name)) => Ok(self.hear_object(object, name)),
-            Some(Said::Part(name, hex)) => self.hear_part(object, name, hex),
-            Some(Said::Start(number, session, name, arguments)) => {
+            None => Ok(Some(AuditFault::Bad)),
+            Some(ToldLine::Object(name)) => Ok(self.hear_object(object, name)),
+            Some(ToldLine::Part(name, hex)) => self.hear_part(object, name, hex),
+            Some(ToldLine::Start(number, session, name, arguments)) => {
                 self.hear_start(object, number, session, name, arguments)
             }
-            Some(Said::End(number, told)) => self.hear_end(object, number, &told),
+            Some(ToldLine::End(number, told)) => self.hear_end(object, number, &told),
         }
     }
 
     // Hears line 1.
-    fn hear_object(&mut self, object: &Object, name: &[u8]) -> Option<Fault>
+    fn hear_object(&mut self, object: &Object, name: &[u8]) -> Option<AuditFault>
         ensures heard { HearsSaid (object_of object.now) (an_object name.now) self.old result self.new }
         ensures entries { self.new.entries ≡ self.old.entries }
     {
         if self.named || !object.name.is_spelled_by(name) {
-            return Some(Fault::Bad);
+            return Some(AuditFault::Bad);
         }
         self.named = true;
         None
@@ -108,20 +108,20 @@ impl Audit {
         object: &Object,
         name: &[u8],
         hex: &[u8],
-    ) -> Result<Option<Fault>, AllocError>
+    ) -> Result<Option<AuditFault>, AllocError>
         ensures heard { IfOk result (λ found.
             HearsSaid (object_of object.now) (a_part name.now hex.now) self.old found self.new) }
         ensures entries { self.new.entries ≡ self.old.entries }
     {
         if !self.named {
-            return Ok(Some(Fault::Bad));
+            return Ok(Some(AuditFault::Bad));
         }
         match read_value(self.alloc, &object.parts, self.parts.len(), name, hex)? {
             Some(value) => {
                 self.parts.push(value)?;
                 Ok(None)
             }
-            None => Ok(Some(Fault::Bad)),
+            None => Ok(Some(AuditFault::Bad)),
         }
     }
 
@@ -133,24 +133,24 @@ impl Audit {
         session: u32,
         name: &[u8],
         arguments: Vec<Datum>,
-    ) -> Result<Option<Fault>, AllocError>
+    ) -> Result<Option<AuditFault>, AllocError>
         ensures heard { IfOk result (λ found.
             HearsSaid (object_of object.now) (a_start number session name.now arguments.items) self.old found
             self.new) }
         ensures entries { self.new.entries ≡ self.old.entries }
     {
         let Some(operation) = self.start_of(object, number, session, name, &arguments) else {
-            return Ok(Some(Fault::Bad));
+            return Ok(Some(AuditFault::Bad));
         };
         if let Some(path) = refusing(&self.counters, operation) {
-            return Ok(Some(Fault::Breaks(path)));
+            return Ok(Some(AuditFault::Breaks(path)));
         }
-        let running = Running {
+        let running = ActiveCall {
             session,
             operation,
             arguments,
         };
-        put(&mut self.calls, number, Slot::Runs(running))?;
+        put(&mut self.calls, number, CallSlot::Runs(running))?;
         start_each(&mut self.counters, operation);
         Ok(None)
     }
@@ -184,20 +184,20 @@ impl Audit {
         object: &Object,
         number: u32,
         told: &ToldReply,
-    ) -> Result<Option<Fault>, AllocError>
+    ) -> Result<Option<AuditFault>, AllocError>
         requires room { self.old.entries + 1 < 2 ^ 64 }
         ensures heard { IfOk result (λ found.
             HearsSaid (object_of object.now) (an_end number (told_view told.now)) self.old found self.new) }
         ensures entries { self.new.entries ≤ self.old.entries + 1 }
     {
         if !self.is_opened(object) || !is_call_number(number) {
-            return Ok(Some(Fault::Bad));
+            return Ok(Some(AuditFault::Bad));
         }
         let Some(running) = take_running(&mut self.calls, number) else {
-            return Ok(Some(Fault::Stranger));
+            return Ok(Some(AuditFault::Stranger));
         };
         if !is_right(self.alloc, object, &running, told, &mut self.parts)? {
-            return Ok(Some(Fault::Wrong));
+            return Ok(Some(AuditFault::Wrong));
         }
         finish_each(&mut self.counters, running.operation);
         self.entries += 1;

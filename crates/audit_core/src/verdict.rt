@@ -2,7 +2,7 @@
 
 /// What an audit answers. Lines count from 1, paths from 1.
 #[derive(Clone, Copy, Debug, PartialEq, Eq)]
-pub enum Verdict {
+pub enum AuditVerdict {
     /// The bytes are a trace that satisfies every path and whose history is legal.
     Legal {
         /// How many calls ended.
@@ -22,7 +22,7 @@ pub enum Verdict {
 
 /// What is wrong with a line.
 #[derive(Clone, Copy, Debug, PartialEq, Eq)]
-pub enum Fault {
+pub enum AuditFault {
     /// It is outside the format, or has no place where it stands.
     Bad,
     /// It is a start that this path is the first to refuse.

@@ -5,10 +5,10 @@ use Rattle.decl_core.specs.Exclusive.{IsExclusive}
 use Rattle.check_core.specs.Named.{NamesObject}
 use Rattle.check_core.specs.Opening.{IsObjectIn, IsTold, refused}
 use Rattle.check_core.specs.View.{IsOpened, IsJudged}
-use Rattle.check_core.specs.declared.open.Opened.{Opened}
-use Rattle.check_core.specs.declared.open.Opened.TheVariants as opened
+use Rattle.check_core.specs.declared.open.OpenedScript.{OpenedScript}
+use Rattle.check_core.specs.declared.open.OpenedScript.TheVariants as opened
 
-pub opened_by : (source text name : List ℕ) (o : ObjectForm) (r : Opened) → NamesObject text name → IsObjectIn source name o → IsJudged o r → IsOpened source text r
+pub opened_by : (source text name : List ℕ) (o : ObjectForm) (r : OpenedScript) → NamesObject text name → IsObjectIn source name o → IsJudged o r → IsOpened source text r
 opened_by source text name o (opened.Ready object) named found judged = record {
   name = name;
   named = named;

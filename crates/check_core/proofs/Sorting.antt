@@ -7,8 +7,8 @@ use Rattle.decl_core.specs.ObjectMap.{object_of, objects_of}
 use Rattle.check_core.specs.Report.{refused_line}
 use Rattle.decl_read.specs.Sources.{AreObjectsOf}
 use Rattle.check_core.specs.Judging.{AreJudged, no_object, and_accepted, and_refused, refused}
-use Rattle.check_core.specs.declared.judge.Judged.{Judged}
-use Rattle.check_core.specs.declared.judge.Judged.TheVariants as judged
+use Rattle.check_core.specs.declared.judge.JudgedSource.{JudgedSource}
+use Rattle.check_core.specs.declared.judge.JudgedSource.TheVariants as judged
 use Rattle.check_core.specs.SourceView.{IsAdded, IsJudgedObjects, IsJudgedSource}
 
 -- Of all objects those before the rest are judged.
@@ -60,6 +60,6 @@ pub ready_all : (all : List ObjectForm) (ready : List Object) (text : List ℕ) 
 ready_all all ready text judged none = all_ready judged none
 
 -- what objects of a source are, the source is
-pub judged_source : (source : List ℕ) (all : List ObjectForm) (j : Judged) → AreObjectsOf source all → IsJudgedObjects all j → IsJudgedSource source j
+pub judged_source : (source : List ℕ) (all : List ObjectForm) (j : JudgedSource) → AreObjectsOf source all → IsJudgedObjects all j → IsJudgedSource source j
 judged_source source all (judged.Ready ready) are (same, each) = (subst (AreObjectsOf source) (sym same) are, subst (λ r. AreJudged r r []) (sym same) each)
 judged_source source all (judged.Told text) are (ready, each, some) = refused are each some

@@ -6,16 +6,16 @@ use Rattle.decl_core.specs.ObjectMap.{object_of, objects_of}
 use Rattle.decl_core.specs.Exclusive.{IsExclusive}
 use Rattle.check_core.specs.View.{IsRefusedLine}
 use Rattle.check_core.specs.Judging.{AreJudged, IsServed, IsUnserved}
-use Rattle.check_core.specs.declared.judge.Judged.{Judged}
-use Rattle.check_core.specs.declared.judge.Judged.TheVariants as judged
+use Rattle.check_core.specs.declared.judge.JudgedSource.{JudgedSource}
+use Rattle.check_core.specs.declared.judge.JudgedSource.TheVariants as judged
 
 -- what a source is to a server
-abbrev pub IsJudgedSource : List ℕ → Judged → Type 0
+abbrev pub IsJudgedSource : List ℕ → JudgedSource → Type 0
 IsJudgedSource source (judged.Ready all) = IsServed source (objects_of all.items)
 IsJudgedSource source (judged.Told text) = IsUnserved source text.items
 
 -- what objects are to a server
-abbrev pub IsJudgedObjects : List ObjectForm → Judged → Type 0
+abbrev pub IsJudgedObjects : List ObjectForm → JudgedSource → Type 0
 IsJudgedObjects all (judged.Ready ready) = (objects_of ready.items ≡ all) × AreJudged all all []
 IsJudgedObjects all (judged.Told text) = (ready : List ObjectForm) × AreJudged all ready text.items × (text.items ≢ [])
 

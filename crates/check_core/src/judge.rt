@@ -6,7 +6,7 @@ ghost use Rattle.decl_core.specs.ObjectMap.{object_of, objects_of};
 ghost use Rattle.check_core.specs.Judging.{AreJudged};
 ghost use Rattle.check_core.specs.SourceView.{IsAdded, IsJudgedObjects, IsJudgedSource};
 
-use crate::open::{Opened, fault_text, judged};
+use crate::open::{OpenedScript, fault_text, judged};
 use decl_core::analyse::Accepted;
 use decl_core::object::Object;
 use decl_read::read::read_objects;
@@ -16,7 +16,7 @@ use std::alloc::{AllocError, Global};
 
 /// What a source is to a server.
 #[derive(Drop)]
-pub enum Judged {
+pub enum JudgedSource {
     /// Its objects, in order, each accepted.
     Ready(Vec<Accepted>),
     /// Not to be served, with the lines that say why: the one of the fault of the source, or one for each refused
@@ -26,24 +26,24 @@ pub enum Judged {
 
 // The objects that are accepted so far, and the lines of the others.
 #[derive(Drop)]
-struct Sorted {
+struct SortedObjects {
     ready: Vec<Accepted>,
     told: Vec<u8>,
 }
 
 // Adds what one object is judged.
-fn add(alloc: Global, object: Object, sorted: &mut Sorted) -> Result<(), AllocError>
+fn add(alloc: Global, object: Object, sorted: &mut SortedObjects) -> Result<(), AllocError>
     ensures { OnOk result (IsAdded (object_of object) sorted.old.ready.items sorted.old.told.items
         sorted.new.ready.items sorted.new.told.items) }
 {
     match judged(alloc, object)? {
-        Opened::Ready(accepted) => {
+        OpenedScript::Ready(accepted) => {
             let Ok(()) = sorted.ready.push(accepted) else {
                 return Err(AllocError);
             };
             Ok(())
         }
-        Opened::Told(line) => {
+        OpenedScript::Told(line) => {
             sorted.told.extend_from_slice(&line)?;
             Ok(())
         }
@@ -51,11 +51,11 @@ fn add(alloc: Global, object: Object, sorted: &mut Sorted) -> Result<(), AllocEr
 }
 
 // Judges each object.
-fn sort_all(alloc: Global, all: IndexMap<Name, Object>) -> Result<Sorted, AllocError>
+fn sort_all(alloc: Global, all: IndexMap<Name, Object>) -> Result<SortedObjects, AllocError>
     ensures { IfOk result (λ s. AreJudged (objects_of (values_of all.entries)) (objects_of s.ready.items)
         s.told.items) }
 {
-    let mut sorted = Sorted {
+    let mut sorted = SortedObjects {
         ready: Vec::new(alloc),
         told: Vec::new(alloc),
     };
@@ -66,20 +66,20 @@ fn sort_all(alloc: Global, all: IndexMap<Name, Object>) -> Result<Sorted, AllocE
 }
 
 // What objects are to a server.
-fn judge_all(alloc: Global, all: IndexMap<Name, Object>) -> Result<Judged, AllocError>
+fn judge_all(alloc: Global, all: IndexMap<Name, Object>) -> Result<JudgedSource, AllocError>
     ensures { IfOk result (λ j. IsJudgedObjects (objects_of (values_of all.entries)) j) }
 {
-    let Sorted { ready, told } = sort_all(alloc, all)?;
+    let SortedObjects { ready, told } = sort_all(alloc, all)?;
     if told.is_empty() {
-        return Ok(Judged::Ready(ready));
+        return Ok(JudgedSource::Ready(ready));
     }
-    Ok(Judged::Told(told))
+    Ok(JudgedSource::Told(told))
 }
 
 /// What a source is to a server: each of its objects has to be accepted.
 ///
 /// The error is that memory was refused.
-pub fn judge(alloc: Global, source: &[u8]) -> Result<Judged, AllocError>
+pub fn judge(alloc: Global, source: &[u8]) -> Result<JudgedSource, AllocError>
     ensures { IfOk result (IsJudgedSource source.now) }
 {
     match read_objects(alloc, source) {
@@ -89,7 +89,7 @@ pub fn judge(alloc: Global, source: &[u8]) -> Result<Judged, AllocError>
         }
         Err(fault) => {
             let text = fault_text(alloc, fault)?;
-            Ok(Judged::Told(text))
+            Ok(JudgedSource::Told(text))
         }
     }
 }

@@ -26,7 +26,7 @@ use word_core::answers::push_bad_line;
 
 /// What a script runs on.
 #[derive(Drop)]
-pub enum Opened {
+pub enum OpenedScript {
     /// The object that its first line names, accepted.
     Ready(Accepted),
     /// Nothing, and the line that says why: `bad line 1`; the fault of the source; `no object NAME`; or
@@ -113,31 +113,31 @@ fn bad_line_text(alloc: Global) -> Result<Vec<u8>, AllocError>
 }
 
 /// An object accepted, or the line that it is refused by. The error is that memory was refused.
-pub fn judged(alloc: Global, object: Object) -> Result<Opened, AllocError>
+pub fn judged(alloc: Global, object: Object) -> Result<OpenedScript, AllocError>
     ensures { IfOk result (IsJudged (object_of object)) }
 {
     match analyse(alloc, object) {
-        Ok(accepted) => Ok(Opened::Ready(accepted)),
+        Ok(accepted) => Ok(OpenedScript::Ready(accepted)),
         Err(refused) => {
             let text = refused_text(alloc, &refused)?;
-            Ok(Opened::Told(text))
+            Ok(OpenedScript::Told(text))
         }
     }
 }
 
 // What a source has of this name.
-fn opened_object(alloc: Global, source: &[u8], name: &Name) -> Result<Opened, AllocError>
+fn opened_object(alloc: Global, source: &[u8], name: &Name) -> Result<OpenedScript, AllocError>
     ensures { (text : List ℕ) → NamesObject text name.now → IfOk result (IsOpened source.now text) }
 {
     match read_objects(alloc, source) {
         Err(fault) => {
             let text = fault_text(alloc, fault)?;
-            Ok(Opened::Told(text))
+            Ok(OpenedScript::Told(text))
         }
         Ok(all) => match object_named(all, name) {
             None => {
                 let text = no_object_text(alloc, name)?;
-                Ok(Opened::Told(text))
+                Ok(OpenedScript::Told(text))
             }
             Some(object) => {
                 let opened = judged(alloc, object)?;
@@ -151,13 +151,13 @@ fn opened_object(alloc: Global, source: &[u8], name: &Name) -> Result<Opened, Al
 /// that says why. Of the other objects of the source it is not asked whether they are accepted.
 ///
 /// The error is that memory was refused.
-pub fn open_script(alloc: Global, source: &[u8], head: &[u8]) -> Result<Opened, AllocError>
+pub fn open_script(alloc: Global, source: &[u8], head: &[u8]) -> Result<OpenedScript, AllocError>
     ensures { IfOk result (IsOpened source.now head.now) }
 {
     match named_object(alloc, head)? {
         None => {
             let text = bad_line_text(alloc)?;
-            Ok(Opened::Told(text))
+            Ok(OpenedScript::Told(text))
         }
         Some(name) => {
             let opened = opened_object(alloc, source, &name)?;

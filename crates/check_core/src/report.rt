@@ -148,7 +148,7 @@ fn push_object(alloc: Global, out: &mut Vec<u8>, object: Object) -> Result<usize
 
 // What a check writes, and how it ends.
 #[derive(Drop)]
-struct Written {
+struct CheckReport {
     end: CheckEnd,
     text: Vec<u8>,
 }
@@ -169,7 +169,7 @@ fn report_objects(
 }
 
 // The report of the objects of a file.
-fn report_file(alloc: Global, all: IndexMap<Name, Object>) -> Result<Written, AllocError>
+fn report_file(alloc: Global, all: IndexMap<Name, Object>) -> Result<CheckReport, AllocError>
     ensures { IfOk result (λ r. (refused : ℕ) × (text : List ℕ)
         × AreReported (objects_of (values_of all.entries)) refused text
         × (r.end ≡ Counted (length (values_of all.entries)) refused)
@@ -180,7 +180,7 @@ fn report_file(alloc: Global, all: IndexMap<Name, Object>) -> Result<Written, Al
     push_number(&mut text, b"", objects as u64)?;
     push_number(&mut text, b" objects, ", refused as u64)?;
     text.extend_from_slice(b" refused\n")?;
-    Ok(Written {
+    Ok(CheckReport {
         end: CheckEnd::Counted { objects, refused },
         text,
     })
@@ -198,20 +198,20 @@ fn told_fault(fault: DeclFault) -> Result<DeclFault, AllocError>
 }
 
 // The report of a source that is no file of objects.
-fn report_fault(alloc: Global, fault: DeclFault) -> Result<Written, AllocError>
+fn report_fault(alloc: Global, fault: DeclFault) -> Result<CheckReport, AllocError>
     ensures { IfOk result (λ r. (IsWantOfMemory fault → ⊥) × (r.end ≡ Faulty) × (r.text.items ≡ fault_line fault)) }
 {
     let fault = told_fault(fault)?;
     let mut text = Vec::new(alloc);
     push_source_fault(&mut text, fault)?;
-    Ok(Written {
+    Ok(CheckReport {
         end: CheckEnd::Faulty,
         text,
     })
 }
 
 // The report of a source.
-fn report(alloc: Global, source: &[u8]) -> Result<Written, AllocError>
+fn report(alloc: Global, source: &[u8]) -> Result<CheckReport, AllocError>
     ensures is { IfOk result (λ r. IsCheck source.now r.end r.text.items) }
     ensures only { (objects : List ObjectForm) → AreObjectsOf source.now objects →
         IfOk result (λ r. (refused : ℕ) × (r.end ≡ Counted (length objects) refused)) }

@@ -42,7 +42,7 @@ pub struct StuckEnd {
 
 // What is said of an object: how many of it are refused, and whether an operation is lost.
 #[derive(Clone, Copy)]
-struct Said {
+struct StuckTally {
     refused: usize,
     lost: bool,
 }
@@ -68,17 +68,17 @@ fn push_told(alloc: Global, out: &mut Vec<u8>, object: &Object) -> Result<bool, 
 }
 
 // Adds the lines of an accepted object.
-fn push_kept(alloc: Global, out: &mut Vec<u8>, accepted: &Accepted) -> Result<Said, AllocError>
+fn push_kept(alloc: Global, out: &mut Vec<u8>, accepted: &Accepted) -> Result<StuckTally, AllocError>
     ensures { IfOk result (λ said. (text : List ℕ) × (out.new.items ≡ out.old.items ++ text)
         × IsSaid (object_of accepted.now) said.refused said.lost text) }
 {
     push_accepted(out, accepted)?;
     let lost = push_told(alloc, out, accepted.object())?;
-    Ok(Said { refused: 0, lost })
+    Ok(StuckTally { refused: 0, lost })
 }
 
 // Adds the line of an object that is refused.
-fn push_refused(out: &mut Vec<u8>, refused: &Refused) -> Result<Said, AllocError>
+fn push_refused(out: &mut Vec<u8>, refused: &Refused) -> Result<StuckTally, AllocError>
     requires { IsWhy (object_of refused.now.object) refused.now.why }
     ensures { IfOk result (λ said. (text : List ℕ) × (out.new.items ≡ out.old.items ++ text)
         × IsSaid (object_of refused.now.object) said.refused said.lost text) }
@@ -87,7 +87,7 @@ fn push_refused(out: &mut Vec<u8>, refused: &Refused) -> Result<Said, AllocError
         Refusal::Memory => Err(AllocError),
         Refusal::Unseparated(first, second, part) => {
             push_unseparated(out, &refused.object, first, second, part)?;
-            Ok(Said {
+            Ok(StuckTally {
                 refused: 1,
                 lost: false,
             })
@@ -96,7 +96,7 @@ fn push_refused(out: &mut Vec<u8>, refused: &Refused) -> Result<Said, AllocError
 }
 
 // Adds the lines of an object.
-fn push_object(alloc: Global, out: &mut Vec<u8>, object: Object) -> Result<Said, AllocError>
+fn push_object(alloc: Global, out: &mut Vec<u8>, object: Object) -> Result<StuckTally, AllocError>
     ensures { IfOk result (λ said. (text : List ℕ) × (out.new.items ≡ out.old.items ++ text)
         × IsSaid (object_of object) said.refused said.lost text) }
 {
@@ -114,7 +114,7 @@ fn push_object(alloc: Global, out: &mut Vec<u8>, object: Object) -> Result<Said,
 
 // What a check writes, and how it ends.
 #[derive(Drop)]
-struct Written {
+struct StuckText {
     end: CheckEnd,
     lost: bool,
     text: Vec<u8>,
@@ -122,7 +122,7 @@ struct Written {
 
 // The lines of objects, how many are refused, and whether one loses an operation.
 #[derive(Drop)]
-struct Lines {
+struct StuckLines {
     text: Vec<u8>,
     refused: usize,
     lost: bool,
@@ -136,7 +136,7 @@ fn either(one: bool, other: bool) -> bool
 }
 
 // The lines of all objects.
-fn report_objects(alloc: Global, all: IndexMap<Name, Object>) -> Result<Lines, AllocError>
+fn report_objects(alloc: Global, all: IndexMap<Name, Object>) -> Result<StuckLines, AllocError>
     ensures { IfOk result (λ r. AreSaid (objects_of (values_of all.entries)) r.refused r.lost r.text.items) }
 {
     let mut text = Vec::new(alloc);
@@ -147,7 +147,7 @@ fn report_objects(alloc: Global, all: IndexMap<Name, Object>) -> Result<Lines, A
         refused += said.refused;
         lost = either(lost, said.lost);
     }
-    Ok(Lines {
+    Ok(StuckLines {
         text,
         refused,
         lost,
@@ -155,14 +155,14 @@ fn report_objects(alloc: Global, all: IndexMap<Name, Object>) -> Result<Lines, A
 }
 
 // The report of the objects of a file.
-fn report_file(alloc: Global, all: IndexMap<Name, Object>) -> Result<Written, AllocError>
+fn report_file(alloc: Global, all: IndexMap<Name, Object>) -> Result<StuckText, AllocError>
     ensures { IfOk result (λ r. (refused : ℕ) × (text : List ℕ)
         × AreSaid (objects_of (values_of all.entries)) refused r.lost text
         × (r.end ≡ Counted (length (values_of all.entries)) refused)
         × (r.text.items ≡ text ++ count_line (length (values_of all.entries)) refused)) }
 {
     let objects = all.len();
-    let Lines {
+    let StuckLines {
         mut text,
         refused,
         lost,
@@ -170,7 +170,7 @@ fn report_file(alloc: Global, all: IndexMap<Name, Object>) -> Result<Written, Al
     push_number(&mut text, b"", objects as u64)?;
     push_number(&mut text, b" objects, ", refused as u64)?;
     text.extend_from_slice(b" refused\n")?;
-    Ok(Written {
+    Ok(StuckText {
         end: CheckEnd::Counted { objects, refused },
         lost,
         text,
@@ -189,14 +189,14 @@ fn told_fault(fault: DeclFault) -> Result<DeclFault, AllocError>
 }
 
 // The report of a source that is no file of objects.
-fn report_fault(alloc: Global, fault: DeclFault) -> Result<Written, AllocError>
+fn report_fault(alloc: Global, fault: DeclFault) -> Result<StuckText, AllocError>
     ensures { IfOk result (λ r. (IsWantOfMemory fault → ⊥) × (r.end ≡ Faulty) × (r.lost ≡ false)
         × (r.text.items ≡ fault_line fault)) }
 {
     let fault = told_fault(fault)?;
     let mut text = Vec::new(alloc);
     push_source_fault(&mut text, fault)?;
-    Ok(Written {
+    Ok(StuckText {
         end: CheckEnd::Faulty,
         lost: false,
         text,
@@ -204,7 +204,7 @@ fn report_fault(alloc: Global, fault: DeclFault) -> Result<Written, AllocError>
 }
 
 // The report of a source.
-fn report(alloc: Global, source: &[u8]) -> Result<Written, AllocError>
+fn report(alloc: Global, source: &[u8]) -> Result<StuckText, AllocError>
     ensures { IfOk result (λ r. IsStuckCheck source.now r.end r.lost r.text.items) }
 {
     match read_objects(alloc, source) {

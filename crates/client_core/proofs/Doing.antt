@@ -7,7 +7,7 @@ use Rattle.client_core.specs.declared.ask.Ask.{Ask}
 use Rattle.client_core.specs.declared.ask.Ask.TheVariants as asks
 use Rattle.client_core.specs.declared.ask.Sight.{Sight}
 use Rattle.client_core.specs.declared.ask.Sight.TheVariants as insides
-use Rattle.client_core.specs.declared.client.Opened.{Opened}
+use Rattle.client_core.specs.declared.client.OpenObject.{OpenObject}
 use Rattle.decl_core.specs.ObjectMap.{object_of}
 use Rattle.live_core.specs.Lines.{all_lines}
 use Rattle.hosted_core.specs.Lines.{entered_lines}
@@ -84,19 +84,19 @@ all_end_keeps at object (r ∷ all) old new said added (mid, first, rest, told, 
 pub follows_keeps : (at : ℕ) (object : Scene) (all : List Ran) (old new : State) → Follows at object all old new → new.objects ≡ old.objects
 follows_keeps at object all old new follows = ap (λ (s : State). s.objects) follows.left
 
-submits_moves : (place : ℕ) (seat : Opened) (operation : ℕ) (arguments : List Datum) → MovesBy (Submits place seat operation arguments)
+submits_moves : (place : ℕ) (seat : OpenObject) (operation : ℕ) (arguments : List Datum) → MovesBy (Submits place seat operation arguments)
 submits_moves place seat operation arguments old new said added is =
     let same = follows_keeps seat.object is.after is.taken.ran.items is.mid new is.follows ∙ (all_end_keeps seat.object is.after is.taken.ran.items _ is.mid is.ended [] is.ends).0 in
     subst (λ (a : Texts). Moves old.objects a new.objects) (sym is.lines)
     (subst (λ (l : List Scene). Moves old.objects ((seat.object, all_lines (object_of is.before.hall.object) is.taken.ran.items) ∷ []) l) (sym same)
     (moves_one old.objects seat.object is.before is.after _ is.there (does (calls seat.session operation arguments is.taken is.does))))
 
-gets_moves : (place : ℕ) (old : State) (opened seat : Opened) (new : State) → GetsNumber place old opened seat new → Moves old.objects [] new.objects
+gets_moves : (place : ℕ) (old : State) (opened seat : OpenObject) (new : State) → GetsNumber place old opened seat new → Moves old.objects [] new.objects
 gets_moves place old opened seat new is =
     subst (λ (s : State). Moves old.objects [] s.objects) (sym is.left)
     (moves_quiet old.objects opened.object is.object _ is.there (does (gets_number is.session is.free)))
 
-sits_moves : (place : ℕ) (old : State) (opened seat : Opened) (new : State) → Sits place old opened seat new → Moves old.objects [] new.objects
+sits_moves : (place : ℕ) (old : State) (opened seat : OpenObject) (new : State) → Sits place old opened seat new → Moves old.objects [] new.objects
 sits_moves place old opened seat new (inl is) = subst (λ (s : State). Moves old.objects [] s.objects) (sym is.1) (moves_none old.objects)
 sits_moves place old opened seat new (inr is) = gets_moves place old opened seat new is
 

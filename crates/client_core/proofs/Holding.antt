@@ -20,7 +20,7 @@ use Rattle.client_core.specs.declared.ask.Ask.{Ask}
 use Rattle.client_core.specs.declared.ask.Ask.TheVariants as asks
 use Rattle.client_core.specs.declared.ask.Sight.{Sight}
 use Rattle.client_core.specs.declared.ask.Sight.TheVariants as insides
-use Rattle.client_core.specs.declared.client.Opened.{Opened}
+use Rattle.client_core.specs.declared.client.OpenObject.{OpenObject}
 use Rattle.custody_core.specs.Custody.{Custody, Custodies, FollowsIn, HeldBehindAll, as_told, holding_now}
 use Rattle.client_core.specs.State.{State}
 use Rattle.client_core.specs.Deeds.{Texts, Deed, Nothing, OnlyTold, Then}
@@ -151,12 +151,12 @@ all_end_same at object [] old new said added n = ap (λ (s : State). s.custody) 
 all_end_same at object (r ∷ ran) old new said added (mid, first, rest, told, one, more) =
     all_end_same at object ran mid new rest added more ∙ ends_same at r.call.session _ _ old mid first [] one
 
-submits_holds : (place : ℕ) (seat : Opened) (operation : ℕ) (arguments : List Datum) → HoldsBy (Submits place seat operation arguments)
+submits_holds : (place : ℕ) (seat : OpenObject) (operation : ℕ) (arguments : List Datum) → HoldsBy (Submits place seat operation arguments)
 submits_holds place seat operation arguments old new said added is j rules past h =
     follows_holds seat.object is.after is.taken.ran.items is.mid new is.follows j rules past
     (same_holds old is.mid (all_end_same seat.object is.after is.taken.ran.items _ is.mid is.ended [] is.ends) j rules past h)
 
-sits_same : (place : ℕ) (old : State) (opened seat : Opened) (new : State) → Sits place old opened seat new → new.custody ≡ old.custody
+sits_same : (place : ℕ) (old : State) (opened seat : OpenObject) (new : State) → Sits place old opened seat new → new.custody ≡ old.custody
 sits_same place old opened seat new (inl is) = ap (λ (s : State). s.custody) is.1
 sits_same place old opened seat new (inr is) = ap (λ (s : State). s.custody) is.left
 

@@ -9,8 +9,8 @@ use Rattle.word_core.specs.Answers.{cancelled_line, kept_line}
 use Rattle.guest_core.specs.declared.answer.Cancelled.{Cancelled}
 use Rattle.guest_core.specs.declared.answer.Cancelled.TheVariants as cancels
 use Rattle.guest_core.specs.declared.answer.SubmitFault.TheVariants as faults
-use Rattle.session_text.specs.declared.line.Line.{Line}
-use Rattle.session_text.specs.declared.line.Line.TheVariants as lines
+use Rattle.session_text.specs.declared.line.ReplyLine.{ReplyLine}
+use Rattle.session_text.specs.declared.line.ReplyLine.TheVariants as lines
 use Rattle.session_text.specs.Lines.{accepted_text, bye_text, cancel_name, ended_text, line_text, opened_text, repeated_text, withdrawn_text}
 use Rattle.live_core.specs.declared.call.Ran.{Ran}
 use Rattle.live_core.specs.declared.live.Taken.{Taken}
@@ -20,8 +20,8 @@ use Rattle.guest_core.specs.declared.seats.Seat.TheVariants.{Nameless}
 use Rattle.guest_core.specs.Entering.{Enters, Leaves}
 use Rattle.guest_core.specs.Guests.{Guests, with_seat}
 use Rattle.guest_core.specs.Seats.{IsLeastFree}
-use Rattle.hosted_core.specs.declared.hosted.Keyed.{Keyed}
-use Rattle.hosted_core.specs.declared.hosted.Keyed.TheVariants as keys
+use Rattle.hosted_core.specs.declared.hosted.KeyState.{KeyState}
+use Rattle.hosted_core.specs.declared.hosted.KeyState.TheVariants as keys
 use Rattle.hosted_core.specs.Calls.{Does, Cancels}
 use Rattle.hosted_core.specs.Keys.{Says, WaitsAs}
 use Rattle.hosted_core.specs.Lines.{entered_lines}
@@ -29,21 +29,21 @@ use Rattle.hosted_core.specs.Scene.{Scene, told_of, with_guests}
 use Rattle.client_core.specs.declared.ask.Ask.{Ask}
 use Rattle.client_core.specs.declared.ask.Ask.TheVariants as asks
 use Rattle.client_core.specs.declared.ask.Sight.{Sight}
-use Rattle.client_core.specs.declared.client.Opened.{Opened}
+use Rattle.client_core.specs.declared.client.OpenObject.{OpenObject}
 use Rattle.custody_core.specs.Custody.{Custody, Custodies, MayMake, FollowsIn, IsFreeOf, HasSome, not_held_text}
 use Rattle.client_core.specs.State.{State, nobody, opening, waiting, opened_at, changed, with_object, with_custody, told_to, counted, session_by}
 use Rattle.client_core.specs.Deeds.{Texts, Deed, Nothing, OnlyTold}
 use Rattle.client_core.specs.ToldInside.{Sees}
 
 -- it is refused: it is told why, and nothing changes
-abbrev pub IsRefusal : Line → Type 0
+abbrev pub IsRefusal : ReplyLine → Type 0
 IsRefusal (lines.Refused refusal) = Unit {0}
 IsRefusal (lines.Unsubmitted fault) = Unit {0}
 IsRefusal (lines.Unkeyed fault) = Unit {0}
 IsRefusal line = ⊥
 
 abbrev pub IsRefused : ℕ → Deed
-IsRefused place old said added new = (line : Line) × IsRefusal line × OnlyTold place (line_text line) old said added new
+IsRefused place old said added new = (line : ReplyLine) × IsRefusal line × OnlyTold place (line_text line) old said added new
 
 -- it opens the object of this name without a name
 pub record OpensBare (place : ℕ) (name : List ℕ) (old : State) (said added : Texts) (new : State) : Type 0 where
@@ -77,7 +77,7 @@ Opens place name None old said added new = OpensBare place name old said added n
 Opens place name (Some client) old said added new = OpensAs place name client old said added new ⊎ IsRefused place old said added new
 
 -- it has opened the object at a place by this session, and a call of it waits of which it was told this number
-pub record IsFor (at session number : ℕ) (opened : Opened) : Type 0 where
+pub record IsFor (at session number : ℕ) (opened : OpenObject) : Type 0 where
   pub object : opened.object ≡ at
   pub session_is : opened.session ≡ session
   pub waits : opened.waits ≡ true
@@ -85,7 +85,7 @@ pub record IsFor (at session number : ℕ) (opened : Opened) : Type 0 where
 
 -- so does the one at a place
 pub record Waits (at session number : ℕ) (s : State) (place : ℕ) : Type 0 where
-  pub opened : Opened
+  pub opened : OpenObject
   pub by : opened_at s place ≡ Some opened
   pub is : IsFor at session number opened
 
@@ -117,7 +117,7 @@ pub record Follows (at : ℕ) (object : Scene) (ran : List Ran) (old new : State
 
 -- A call of the session is made, of this operation with these arguments: its number is told, and behind that the end of
 -- each call that ran. The lines are those of all that ran, and what is held follows from them.
-pub record Submits (place : ℕ) (seat : Opened) (operation : ℕ) (arguments : List Datum) (old : State) (said added : Texts) (new : State) : Type 0 where
+pub record Submits (place : ℕ) (seat : OpenObject) (operation : ℕ) (arguments : List Datum) (old : State) (said added : Texts) (new : State) : Type 0 where
   pub before : Scene
   pub there : slice_get old.objects seat.object ≡ Some before
   pub taken : Taken
@@ -131,7 +131,7 @@ pub record Submits (place : ℕ) (seat : Opened) (operation : ℕ) (arguments : 
   pub follows : Follows seat.object after taken.ran.items mid new
 
 -- a session gets a number with its first call
-pub record GetsNumber (place : ℕ) (old : State) (opened seat : Opened) (new : State) : Type 0 where
+pub record GetsNumber (place : ℕ) (old : State) (opened seat : OpenObject) (new : State) : Type 0 where
   pub none : opened.session ≡ 0
   pub object : Scene
   pub there : slice_get old.objects opened.object ≡ Some object
@@ -141,23 +141,23 @@ pub record GetsNumber (place : ℕ) (old : State) (opened seat : Opened) (new : 
   pub left : new ≡ changed (with_object old opened.object (with_guests object (with_seat object.guests session Nameless))) place (opening seat)
 
 -- the one that has opened an object has a session there
-abbrev pub Sits : ℕ → State → Opened → Opened → State → Type 0
+abbrev pub Sits : ℕ → State → OpenObject → OpenObject → State → Type 0
 Sits place old opened seat new = ((seat ≡ opened) × (new ≡ old)) ⊎ GetsNumber place old opened seat new
 
 -- a key says that a call under it was not made before; without a key nothing is asked
-abbrev pub IsNew : Scene → Opened → Option ℕ → ℕ → List Datum → Type 0
+abbrev pub IsNew : Scene → OpenObject → Option ℕ → ℕ → List Datum → Type 0
 IsNew object opened None operation arguments = Unit {0}
 IsNew object opened (Some key) operation arguments =
     Says object (session_by opened) opened.calls key (Some operation) arguments keys.New
 
 -- it may make a call of the object that it has opened, by what is held: where the call would end what not anybody may end,
 -- its session holds that
-abbrev pub MayCall : State → Opened → ℕ → List Datum → Type 0
+abbrev pub MayCall : State → OpenObject → ℕ → List Datum → Type 0
 MayCall s opened operation arguments = MayMake (slice_get s.custody opened.object) opened.session operation arguments
 
 -- the call that a line asks for is made: of the operation of this name, with these arguments, under a key that is new or none
 pub record Calls (place : ℕ) (key : Option ℕ) (name : List ℕ) (arguments : List Datum) (old : State) (said added : Texts) (new : State) : Type 0 where
-  pub opened : Opened
+  pub opened : OpenObject
   pub by : opened_at old place ≡ Some opened
   pub object : Scene
   pub there : slice_get old.objects opened.object ≡ Some object
@@ -165,14 +165,14 @@ pub record Calls (place : ℕ) (key : Option ℕ) (name : List ℕ) (arguments :
   pub named : operation_name (object_of object.hall.object) operation ≡ name
   pub fresh : IsNew object opened key operation arguments
   pub may : MayCall old opened operation arguments
-  pub seat : Opened
+  pub seat : OpenObject
   pub mid : State
   pub sits : Sits place old opened seat mid
   pub submits : Submits place seat operation arguments mid said added new
 
 -- it may not make the call: it is told so, and nothing is done
 pub record IsUnheld (place : ℕ) (key : Option ℕ) (name : List ℕ) (arguments : List Datum) (old : State) (said added : Texts) (new : State) : Type 0 where
-  pub opened : Opened
+  pub opened : OpenObject
   pub by : opened_at old place ≡ Some opened
   pub object : Scene
   pub there : slice_get old.objects opened.object ≡ Some object
@@ -183,7 +183,7 @@ pub record IsUnheld (place : ℕ) (key : Option ℕ) (name : List ℕ) (argument
   pub only : OnlyTold place not_held_text old said added new
 
 -- what is told of a call of which a key says that it was made before
-abbrev pub keyed_text : Keyed → List ℕ
+abbrev pub keyed_text : KeyState → List ℕ
 keyed_text keys.New = []
 keyed_text (keys.Repeated told reply) = repeated_text told reply
 keyed_text (keys.Cancelled told) = kept_line (codes "cancelled") told
@@ -192,13 +192,13 @@ keyed_text (keys.Refused fault) = line_text (lines.Unkeyed fault)
 
 -- what its key says of it is told, and nothing is done
 pub record Repeats (place key : ℕ) (name : List ℕ) (arguments : List Datum) (old : State) (said added : Texts) (new : State) : Type 0 where
-  pub opened : Opened
+  pub opened : OpenObject
   pub by : opened_at old place ≡ Some opened
   pub object : Scene
   pub there : slice_get old.objects opened.object ≡ Some object
   pub operation : Option ℕ
   pub named : IfSome operation (λ o. operation_name (object_of object.hall.object) o ≡ name)
-  pub keyed : Keyed
+  pub keyed : KeyState
   pub says : Says object (session_by opened) opened.calls key operation arguments keyed
   pub is_old : keyed ≡ keys.New → ⊥
   pub only : OnlyTold place (keyed_text keyed) old said added new
@@ -209,9 +209,9 @@ RepeatsUnder place (Some key) name arguments old said added new = Repeats place 
 
 -- it is refused, but may have got a number first
 pub record IsTurnedAway (place : ℕ) (old : State) (said added : Texts) (new : State) : Type 0 where
-  pub opened : Opened
+  pub opened : OpenObject
   pub by : opened_at old place ≡ Some opened
-  pub seat : Opened
+  pub seat : OpenObject
   pub mid : State
   pub gets : GetsNumber place old opened seat mid
   pub refused : IsRefused place mid said added new
@@ -234,7 +234,7 @@ pub record LetsGo (at session : ℕ) (number : ℕ) (old : State) (said added : 
 
 -- a call that waits is cancelled: it waits by this number, and who asked is told so before its client is
 pub record IsCancelled (place told : ℕ) (old : State) (said added : Texts) (new : State) : Type 0 where
-  pub opened : Opened
+  pub opened : OpenObject
   pub by : opened_at old place ≡ Some opened
   pub object : Scene
   pub there : slice_get old.objects opened.object ≡ Some object
@@ -263,7 +263,7 @@ AnswersInside place inside old said added new =
 
 -- its session leaves
 pub record LeavesObject (place : ℕ) (old new : State) : Type 0 where
-  pub opened : Opened
+  pub opened : OpenObject
   pub by : opened_at old place ≡ Some opened
   pub object : Scene
   pub there : slice_get old.objects opened.object ≡ Some object
@@ -276,11 +276,11 @@ pub record LeavesObject (place : ℕ) (old new : State) : Type 0 where
 
 -- it has no session
 abbrev pub HasNoSession : State → ℕ → Type 0
-HasNoSession s place = (opened : Opened) → opened_at s place ≡ Some opened → opened.session ≢ 0 → slice_get s.objects opened.object ≡ None
+HasNoSession s place = (opened : OpenObject) → opened_at s place ≡ Some opened → opened.session ≢ 0 → slice_get s.objects opened.object ≡ None
 
 -- it has a session without a name that holds something
 pub record HoldsStill (s : State) (place : ℕ) : Type 0 where
-  pub opened : Opened
+  pub opened : OpenObject
   pub by : opened_at s place ≡ Some opened
   pub bare : opened.is_named ≡ false
   pub custody : Custody

@@ -5,7 +5,7 @@ use Rattle.value_core.specs.declared.datum.Datum.{Datum}
 use Rattle.word_core.specs.Words.{Word, bare, IsFirst, AreWords}
 use Rattle.word_core.specs.Data.{data_of}
 use Rattle.session_text.specs.Table.{Takes, TakesLast}
-use Rattle.session_text.specs.declared.line.Refusal.TheVariants as refusals
+use Rattle.session_text.specs.declared.line.LineRefusal.TheVariants as refusals
 use Rattle.session_text.specs.declared.session.Action.{Action}
 use Rattle.session_text.specs.declared.session.Action.TheVariants as actions
 use Rattle.client_core.specs.declared.ask.Ask.{Ask}

@@ -12,7 +12,7 @@ use Rattle.guest_core.specs.Guests.{Guests, SomebodyHas, with_seat}
 use Rattle.guest_core.specs.Seats.{IsLeastFree}
 use Rattle.hosted_core.specs.Calls.{Does}
 use Rattle.hosted_core.specs.Scene.{Scene, with_guests}
-use Rattle.client_core.specs.declared.client.Opened.{Opened}
+use Rattle.client_core.specs.declared.client.OpenObject.{OpenObject}
 use Rattle.custody_core.specs.Custody.{Custody, IsOwed, HasNone}
 use Rattle.client_core.specs.State.{State, opened_at, with_object}
 use Rattle.client_core.specs.Deeds.{Texts}
@@ -22,7 +22,7 @@ use Rattle.client_core.specs.Turns.{GoesOn}
 -- no connection has a session
 abbrev pub NoneHas : ℕ → ℕ → State → Type 0
 NoneHas at session s =
-    (place : ℕ) (opened : Opened) → opened_at s place ≡ Some opened → opened.object ≡ at → opened.session ≡ session → ⊥
+    (place : ℕ) (opened : OpenObject) → opened_at s place ≡ Some opened → opened.object ≡ at → opened.session ≡ session → ⊥
 
 -- A call is made for a session that no connection has, of a client that is known. Nobody is told its number; each that waits for one that ran is told
 -- its end, and what is held follows from these.

@@ -1,7 +1,7 @@
 -- What is known of clients.
 use Rattle.std.specs.Prelude.{ℕ, List, Option, Some, None, map, option_map}
-use Rattle.client_core.specs.declared.client.Client.{Client}
-use Rattle.client_core.specs.declared.clients.Clients.{Clients}
+use Rattle.client_core.specs.declared.client.ClientPlace.{ClientPlace}
+use Rattle.client_core.specs.declared.clients.ClientPlaces.{ClientPlaces}
 
 -- the name of a client, the second in which it came, and that of its last call, or in which it came where it made none
 pub record Person : Type 0 where
@@ -9,14 +9,14 @@ pub record Person : Type 0 where
   pub since : ℕ
   pub called : ℕ
 
-abbrev pub person_of : Client → Person
+abbrev pub person_of : ClientPlace → Person
 person_of client = record { name = client.name; since = client.since; called = client.called }
 
 -- the one at the place
-abbrev pub person_in : Option Client → Option Person
+abbrev pub person_in : Option ClientPlace → Option Person
 person_in client = option_map person_of client
 
-abbrev pub people_of : Clients → List Person
+abbrev pub people_of : ClientPlaces → List Person
 people_of clients = map person_of clients.rows.items
 
 -- one that came in this second

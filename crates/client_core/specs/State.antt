@@ -1,8 +1,8 @@
 -- A table as its clients know it.
 use Rattle.std.specs.Prelude.{ℕ, zero, suc, ◌+◌, ◌-◌, ◌^◌, min, Bool, true, false, List, [], ◌∷◌, ◌++◌, Option, Some, None, drop, map, slice_get, slice_set, if◌then◌else◌}
-use Rattle.client_core.specs.declared.client.Client.{Client}
-use Rattle.client_core.specs.declared.client.Opened.{Opened}
-use Rattle.client_core.specs.declared.clients.Clients.{Clients}
+use Rattle.client_core.specs.declared.client.ClientPlace.{ClientPlace}
+use Rattle.client_core.specs.declared.client.OpenObject.{OpenObject}
+use Rattle.client_core.specs.declared.clients.ClientPlaces.{ClientPlaces}
 use Rattle.client_core.specs.Held.{is_not, waits_of, with_waits}
 use Rattle.hosted_core.specs.Scene.{Scene}
 use Rattle.custody_core.specs.Custody.{Custodies}
@@ -11,7 +11,7 @@ use Rattle.custody_core.specs.Custody.{Custodies}
 -- the LF of the last of them did not come.
 pub record Peer : Type 0 where
   pub who : Option ℕ
-  pub opened : Option Opened
+  pub opened : Option OpenObject
   pub held : List ℕ
   pub is_cut : Bool
 
@@ -35,7 +35,7 @@ cut_of [] is_cut = false
 cut_of (b ∷ held) is_cut = is_cut
 
 -- what is seen of a place of a table
-abbrev pub peer_of : Client → Peer
+abbrev pub peer_of : ClientPlace → Peer
 peer_of client = record {
   who = if client.is_here then Some client.who else None;
   opened = client.opened;
@@ -43,7 +43,7 @@ peer_of client = record {
   is_cut = cut_of (drop client.done client.held.items) client.is_cut;
 }
 
-abbrev pub peers_of : Clients → List Peer
+abbrev pub peers_of : ClientPlaces → List Peer
 peers_of clients = map peer_of clients.rows.items
 
 -- the one at a place becomes this, and the others are as they were
@@ -53,7 +53,7 @@ change (p ∷ peers) zero f = f p ∷ peers
 change (p ∷ peers) (suc place) f = p ∷ change peers place f
 
 -- what it has opened
-abbrev pub opening : Opened → Peer → Peer
+abbrev pub opening : OpenObject → Peer → Peer
 opening opened p = record p { opened = Some opened }
 
 -- its call waits, or waits no more
@@ -72,7 +72,7 @@ abbrev pub who_in : Option Peer → Option ℕ
 who_in None = None
 who_in (Some p) = p.who
 
-abbrev pub opened_in : Option Peer → Option Opened
+abbrev pub opened_in : Option Peer → Option OpenObject
 opened_in None = None
 opened_in (Some p) = p.opened
 
@@ -84,7 +84,7 @@ held_in (Some p) = p.held
 abbrev pub who_at : State → ℕ → Option ℕ
 who_at s place = who_in (slice_get s.peers place)
 
-abbrev pub opened_at : State → ℕ → Option Opened
+abbrev pub opened_at : State → ℕ → Option OpenObject
 opened_at s place = opened_in (slice_get s.peers place)
 
 abbrev pub held_at : State → ℕ → List ℕ
@@ -113,9 +113,9 @@ abbrev pub told_to : List Peer → ℕ → List ℕ → List (ℕ × List ℕ)
 told_to peers place bytes = one_text (who_in (slice_get peers place)) bytes
 
 -- one call more of it waits, of which this number was told
-abbrev pub counted : ℕ → Opened → Opened
+abbrev pub counted : ℕ → OpenObject → OpenObject
 counted told opened = record opened { waits = true; calls = min (opened.calls + 1) (2 ^ 64 - 1); told = told }
 
 -- the session by which it makes calls under keys, where its client has a name
-abbrev pub session_by : Opened → Option ℕ
+abbrev pub session_by : OpenObject → Option ℕ
 session_by opened = if opened.is_named then Some opened.session else None

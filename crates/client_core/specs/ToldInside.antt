@@ -9,12 +9,12 @@ use Rattle.live_core.specs.Hall.{Every, Told, IsHeld, trace}
 use Rattle.hosted_core.specs.Scene.{Scene, is_given, told_of}
 use Rattle.client_core.specs.declared.ask.Sight.{Sight}
 use Rattle.client_core.specs.declared.ask.Sight.TheVariants as insides
-use Rattle.client_core.specs.declared.client.Opened.{Opened}
+use Rattle.client_core.specs.declared.client.OpenObject.{OpenObject}
 use Rattle.client_core.specs.People.{Person, name_in, since_in, called_in}
 use Rattle.inside_text.specs.Lacks.{Why}
 use Rattle.inside_text.specs.Tells.{Tells}
-use Rattle.inside_text.specs.declared.why.State.{State as CallState}
-use Rattle.inside_text.specs.declared.why.State.TheVariants as states
+use Rattle.inside_text.specs.declared.why.CallStatus.{CallStatus as CallState}
+use Rattle.inside_text.specs.declared.why.CallStatus.TheVariants as states
 use Rattle.inside_text.specs.Why.{state_line, why_text}
 use Rattle.inside_text.specs.Who.{Sitting, Refused, who_line, seat_line, waits_line}
 use Rattle.inside_text.specs.List.{list_text}
@@ -55,7 +55,7 @@ abbrev pub IsWhy : Scene → ℕ → List ℕ → Type 0
 IsWhy object told text = SaysWhy object told text ⊎ SaysState object told text
 
 -- one that has opened the object at a place, by a session of this number or a greater one
-abbrev pub is_asked : ℕ → ℕ → Opened → Bool
+abbrev pub is_asked : ℕ → ℕ → OpenObject → Bool
 is_asked at from o = (o.object == at) && (nat_lt 0 o.session && not (nat_lt o.session from))
 
 -- The places of connections, what is known of the clients that are there, the second, and the place of the object that is
@@ -67,41 +67,41 @@ pub record Crowd : Type 0 where
   pub at : ℕ
 
 -- the one at a place, where it is asked for
-abbrev pub sits_in : ℕ → ℕ → ℕ → Option Opened → List (ℕ × Opened)
+abbrev pub sits_in : ℕ → ℕ → ℕ → Option OpenObject → List (ℕ × OpenObject)
 sits_in at from place None = []
 sits_in at from place (Some o) = if is_asked at from o then (place, o) ∷ [] else []
 
 -- all of them, each with its place, of which the first is this
-abbrev pub sitting_from : ℕ → ℕ → ℕ → List Peer → List (ℕ × Opened)
+abbrev pub sitting_from : ℕ → ℕ → ℕ → List Peer → List (ℕ × OpenObject)
 sitting_from place at from [] = []
 sitting_from place at from (p ∷ peers) = sits_in at from place p.opened ++ sitting_from (suc place) at from peers
 
 -- the same, by their numbers
-pub record AreSitting (at from : ℕ) (peers : List Peer) (all : List (ℕ × Opened)) : Type 0 where
+pub record AreSitting (at from : ℕ) (peers : List Peer) (all : List (ℕ × OpenObject)) : Type 0 where
   pub same : IsPermutation (sitting_from 0 at from peers) all
-  pub rising : IsNonDecreasingBy (λ (seat : ℕ × Opened). seat.1.session) all
+  pub rising : IsNonDecreasingBy (λ (seat : ℕ × OpenObject). seat.1.session) all
 
 -- the name by which the one at a place has opened an object, or none
-abbrev pub seat_name : Crowd → ℕ × Opened → Option (List ℕ)
+abbrev pub seat_name : Crowd → ℕ × OpenObject → Option (List ℕ)
 seat_name crowd seat = if seat.1.is_named then name_in (slice_get crowd.people seat.0) else None
 
 -- A row of an answer is of one that has opened an object: the number of its session and of its calls, its name where it has
 -- one, and for how many seconds it is there.
-pub record IsSeatOf (crowd : Crowd) (seat : ℕ × Opened) (s : Sitting) : Type 0 where
+pub record IsSeatOf (crowd : Crowd) (seat : ℕ × OpenObject) (s : Sitting) : Type 0 where
   pub session : s.seat.session ≡ seat.1.session
   pub calls : s.seat.calls ≡ seat.1.calls
   pub name : s.name ≡ seat_name crowd seat
   pub since : s.seat.seconds ≡ Some (crowd.now - since_in (slice_get crowd.people seat.0))
 
 -- rows are of these, one after the other
-abbrev pub AreSeats : Crowd → List (ℕ × Opened) → List Sitting → Type 0
+abbrev pub AreSeats : Crowd → List (ℕ × OpenObject) → List Sitting → Type 0
 AreSeats crowd [] [] = Unit {0}
 AreSeats crowd (o ∷ all) (s ∷ rows) = IsSeatOf crowd o s × AreSeats crowd all rows
 AreSeats crowd all rows = ⊥
 
 -- where 256 are told, the number of the last of them
-abbrev pub last_told : List (ℕ × Opened) → Option ℕ
-last_told all = option_map (λ (seat : ℕ × Opened). seat.1.session) (slice_get all 255)
+abbrev pub last_told : List (ℕ × OpenObject) → Option ℕ
+last_told all = option_map (λ (seat : ℕ × OpenObject). seat.1.session) (slice_get all 255)
 
 -- a session of this number is told of: it is this or a greater one, and at most the last one
 abbrev pub is_up_to : ℕ → Option ℕ → Bool
@@ -116,7 +116,7 @@ abbrev pub waiting_in : ℕ → Option ℕ → List Called → List Called
 waiting_in from last calls = flat_map (λ (c : Called). if is_between from last c.session then c ∷ [] else []) calls
 
 -- one waits for a call of this session, of which it was told this number
-abbrev pub is_caller : ℕ → ℕ → ℕ → Option Opened → Bool
+abbrev pub is_caller : ℕ → ℕ → ℕ → Option OpenObject → Bool
 is_caller at session told None = false
 is_caller at session told (Some o) = (o.object == at) && ((o.session == session) && (o.waits && (o.told == told)))
 
@@ -124,21 +124,21 @@ abbrev pub calls_at : Crowd → ℕ → ℕ → ℕ → Bool
 calls_at crowd session told place = is_caller crowd.at session told (opened_in (slice_get crowd.peers place))
 
 -- For how many seconds a call waits: since the one that waits for it made it. It is not told where none of these does.
-abbrev pub WaitsFor : Crowd → List (ℕ × Opened) → ℕ → ℕ → Option ℕ → Type 0
+abbrev pub WaitsFor : Crowd → List (ℕ × OpenObject) → ℕ → ℕ → Option ℕ → Type 0
 WaitsFor crowd seats session told seconds =
-    MatchOption seconds (Every (λ (seat : ℕ × Opened). calls_at crowd session told seat.0 ≡ false) seats)
+    MatchOption seconds (Every (λ (seat : ℕ × OpenObject). calls_at crowd session told seat.0 ≡ false) seats)
     (λ t. (place : ℕ) × (calls_at crowd session told place ≡ true) × (t ≡ crowd.now - called_in (slice_get crowd.people place)))
 
 -- A row of an answer is of a call that waits: the number that was told of it, its session and its operation, for how long,
 -- and why.
-pub record IsWaitOf (crowd : Crowd) (seats : List (ℕ × Opened)) (object : Scene) (c : Called) (r : Refused) : Type 0 where
+pub record IsWaitOf (crowd : Crowd) (seats : List (ℕ × OpenObject)) (object : Scene) (c : Called) (r : Refused) : Type 0 where
   pub number : r.call.number ≡ told_of object c.number
   pub session : r.call.session ≡ c.session
   pub operation : r.call.operation ≡ c.operation
   pub since : WaitsFor crowd seats c.session (told_of object c.number) r.call.seconds
   pub whys : AreWhys object c.operation r.whys
 
-abbrev pub AreWaits : Crowd → List (ℕ × Opened) → Scene → List Called → List Refused → Type 0
+abbrev pub AreWaits : Crowd → List (ℕ × OpenObject) → Scene → List Called → List Refused → Type 0
 AreWaits crowd seats object [] [] = Unit {0}
 AreWaits crowd seats object (c ∷ calls) (r ∷ rows) = IsWaitOf crowd seats object c r × AreWaits crowd seats object calls rows
 AreWaits crowd seats object calls rows = ⊥
@@ -156,7 +156,7 @@ who_held_text o holds seats calls held =
 -- What is said of those who are there, where the object has these holds and this is held: the first 256 sessions, what
 -- waits of these, and the first 256 of what these hold, and of what is held by who is gone.
 pub record IsWho (crowd : Crowd) (object : Scene) (holds : List HoldForm) (held : List HeldCall) (from : ℕ) (text : List ℕ) : Type 0 where
-  pub all : List (ℕ × Opened)
+  pub all : List (ℕ × OpenObject)
   pub are_all : AreSitting crowd.at from crowd.peers all
   pub seats : List Sitting
   pub are_seats : AreSeats crowd (take 256 all) seats
@@ -169,8 +169,8 @@ abbrev pub form_at : List Scene → Option ℕ → Option ObjectForm
 form_at objects None = None
 form_at objects (Some at) = option_map (λ (s : Scene). object_of s.hall.object) (slice_get objects at)
 
-abbrev pub object_in : Option Opened → Option ℕ
-object_in opened = option_map (λ (o : Opened). o.object) opened
+abbrev pub object_in : Option OpenObject → Option ℕ
+object_in opened = option_map (λ (o : OpenObject). o.object) opened
 
 -- What is said of objects: the names of all, in order, and the operations of the one that is open.
 abbrev pub IsList : List Scene → Option ℕ → List ℕ → Type 0
@@ -178,7 +178,7 @@ IsList objects at text = text ≡ list_text (map (λ (s : Scene). s.hall.object.
 
 -- the one at a place is told why a call waits of the object that it has opened
 pub record SeesWhy (place number : ℕ) (old : State) (said added : Texts) (new : State) : Type 0 where
-  pub opened : Opened
+  pub opened : OpenObject
   pub by : opened_at old place ≡ Some opened
   pub object : Scene
   pub there : slice_get old.objects opened.object ≡ Some object
@@ -188,7 +188,7 @@ pub record SeesWhy (place number : ℕ) (old : State) (said added : Texts) (new 
 
 -- or who is there, where these clients are, in this second
 pub record SeesWho (people : List Person) (now place from : ℕ) (old : State) (said added : Texts) (new : State) : Type 0 where
-  pub opened : Opened
+  pub opened : OpenObject
   pub by : opened_at old place ≡ Some opened
   pub object : Scene
   pub there : slice_get old.objects opened.object ≡ Some object

@@ -5,8 +5,8 @@ use Rattle.std.specs.Str.Lines.{strip_carriage_return}
 use Rattle.text_core.specs.Runs.{NoLineFeed}
 use Rattle.word_core.specs.Reads.{Reads}
 use Rattle.guest_core.specs.declared.answer.SubmitFault.TheVariants as faults
-use Rattle.session_text.specs.declared.line.Line.TheVariants as lines
-use Rattle.session_text.specs.declared.line.Refusal.TheVariants as refusals
+use Rattle.session_text.specs.declared.line.ReplyLine.TheVariants as lines
+use Rattle.session_text.specs.declared.line.LineRefusal.TheVariants as refusals
 use Rattle.session_text.specs.Lines.{bye_text, line_text}
 use Rattle.word_core.specs.Events.{Called}
 use Rattle.live_core.specs.Hall.{Every}
@@ -18,7 +18,7 @@ use Rattle.post_core.specs.declared.served.Note.TheVariants as notes
 use Rattle.client_core.specs.declared.ask.Ask.{Ask}
 use Rattle.client_core.specs.declared.ask.Ask.TheVariants as asks
 use Rattle.client_core.specs.declared.ask.Sight.{Sight}
-use Rattle.client_core.specs.declared.client.Opened.{Opened}
+use Rattle.client_core.specs.declared.client.OpenObject.{OpenObject}
 use Rattle.client_core.specs.Asks.{Asks}
 use Rattle.client_core.specs.Held.{IsFirstLine, is_some, is_whole_before}
 use Rattle.client_core.specs.Inside.{inside_in}
@@ -110,7 +110,7 @@ Withdraws at session old said added new =
 
 abbrev pub WithdrawsAt : ℕ → Deed
 WithdrawsAt place old said added new =
-    ((opened : Opened) × (opened_at old place ≡ Some opened) × (opened.waits ≡ true)
+    ((opened : OpenObject) × (opened_at old place ≡ Some opened) × (opened.waits ≡ true)
     × Withdraws opened.object opened.session old said added new)
     ⊎ ((waits_at old place ≡ false) × Nothing old said added new)
 

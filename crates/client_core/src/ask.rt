@@ -2,7 +2,7 @@
 
 ghost use Rattle.std.specs.Prelude.{◌≡◌, true, IfOk, IfSome};
 ghost use Rattle.word_core.specs.Reads.{Reads};
-ghost use Rattle.session_text.specs.declared.line.Refusal.TheVariants as refusals;
+ghost use Rattle.session_text.specs.declared.line.LineRefusal.TheVariants as refusals;
 ghost use Rattle.session_text.specs.declared.session.Action.TheVariants as actions;
 ghost use Rattle.client_core.specs.Asks.{TableDoes, asked_by, IsKeyed, IsLongCancel, IsWide, Asks};
 ghost use Rattle.client_core.specs.Asks.{IsCallVerb, IsKey, IsKeyFront, IsBehindKey};
@@ -12,7 +12,7 @@ ghost use Rattle.client_core.specs.Numbers.{only_long, cancel_in};
 
 use crate::number::number_of;
 use path_tree::name::Name;
-use session_text::line::Refusal;
+use session_text::line::LineRefusal;
 use session_text::session::{Action, Session};
 use std::alloc::{AllocError, Global};
 use text_core::words::is_same_word;
@@ -45,7 +45,7 @@ pub enum Ask {
     /// The session ends, behind its calls.
     Quit,
     /// The line is refused.
-    Answer(Refusal),
+    Answer(LineRefusal),
 }
 
 // The number that is the one word of a line.
@@ -238,7 +238,7 @@ fn wide(alloc: Global, is_open: bool, is_whole: bool, line: &[u8]) -> Result<Ask
         return Ok(wide_cancel(is_open, is_whole, line, number));
     }
     match keyed_call(alloc, line)? {
-        None => Ok(Ask::Answer(Refusal::BadLine)),
+        None => Ok(Ask::Answer(LineRefusal::BadLine)),
         Some(call) => Ok(wide_call(is_open, is_whole, line, call)),
     }
 }
@@ -248,10 +248,10 @@ fn wide_inside(is_open: bool, is_whole: bool, line: &[u8], inside: Sight) -> Ask
     ensures { IsWide is_open is_whole line.now result }
 {
     if !may_see(is_open, inside) {
-        return Ask::Answer(Refusal::NotOpen);
+        return Ask::Answer(LineRefusal::NotOpen);
     }
     if !is_whole {
-        return Ask::Answer(Refusal::BadLine);
+        return Ask::Answer(LineRefusal::BadLine);
     }
     Ask::Inside(inside)
 }
@@ -261,10 +261,10 @@ fn wide_cancel(is_open: bool, is_whole: bool, line: &[u8], number: u64) -> Ask
     ensures { IsWide is_open is_whole line.now result }
 {
     if !is_open {
-        return Ask::Answer(Refusal::NotOpen);
+        return Ask::Answer(LineRefusal::NotOpen);
     }
     if !is_whole {
-        return Ask::Answer(Refusal::BadLine);
+        return Ask::Answer(LineRefusal::BadLine);
     }
     Ask::Cancel(number)
 }
@@ -274,10 +274,10 @@ fn wide_call(is_open: bool, is_whole: bool, line: &[u8], call: Ask) -> Ask
     ensures { IsWide is_open is_whole line.now result }
 {
     if !is_open {
-        return Ask::Answer(Refusal::NotOpen);
+        return Ask::Answer(LineRefusal::NotOpen);
     }
     if !is_whole {
-        return Ask::Answer(Refusal::Gone);
+        return Ask::Answer(LineRefusal::Gone);
     }
     call
 }
@@ -287,7 +287,7 @@ fn is_bad(action: &Action) -> bool
     ensures { result ≡ true → action.now ≡ actions.Answer refusals.BadLine }
 {
     match action {
-        Action::Answer(Refusal::BadLine) => true,
+        Action::Answer(LineRefusal::BadLine) => true,
         _ => false,
     }
 }

@@ -16,7 +16,7 @@ const MOST_DONE: usize = 65_536;
 
 /// What a connection has opened.
 #[derive(Clone, Copy, Debug, PartialEq, Eq)]
-pub struct Opened {
+pub struct OpenObject {
     /// The place of the object.
     pub object: usize,
     /// The session, from 1; 0 where it has none yet.
@@ -33,11 +33,11 @@ pub struct Opened {
 
 /// A place of a connection.
 #[derive(Drop)]
-pub struct Client {
+pub struct ClientPlace {
     // the connection that has it, or had it last
     pub(crate) who: u64,
     pub(crate) is_here: bool,
-    pub(crate) opened: Option<Opened>,
+    pub(crate) opened: Option<OpenObject>,
     // lines that came behind a call that waits, each with its LF
     held: Vec<u8>,
     // so many bytes of them are done
@@ -99,15 +99,15 @@ fn cut(bytes: &mut Vec<u8>, n: usize)
     bytes.drain(..n);
 }
 
-impl Client {
+impl ClientPlace {
     /// A place that nobody has.
-    pub(crate) fn nobody(alloc: Global) -> Client
+    pub(crate) fn nobody(alloc: Global) -> ClientPlace
         ensures away { result.is_here ≡ false }
         ensures opened { result.opened ≡ None }
         ensures held { result.held.items ≡ [] }
         ensures person { person_of result ≡ stranger }
     {
-        Client {
+        ClientPlace {
             who: 0,
             is_here: false,
             opened: None,

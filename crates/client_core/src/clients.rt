@@ -9,7 +9,7 @@ ghost use Rattle.client_core.specs.People.{person_in, newcomer, stranger, named,
 ghost use Rattle.client_core.specs.Places.{has_in, is_here_in, opened_in, held_in, place_for, place_at, Elsewhere};
 
 use crate::ask::{Ask, ask_of};
-use crate::client::{Client, Opened};
+use crate::client::{ClientPlace, OpenObject};
 use path_tree::name::Name;
 use std::alloc::{AllocError, Global};
 
@@ -19,9 +19,9 @@ pub const MOST_HELD: usize = 65_536;
 /// The places of connections, each found by the number of its connection, and those whose held lines may be done, the
 /// one that waits longest first.
 #[derive(Drop)]
-pub struct Clients {
+pub struct ClientPlaces {
     alloc: Global,
-    rows: Vec<Client>,
+    rows: Vec<ClientPlace>,
     first: Option<usize>,
     last: Option<usize>,
     // whether held lines of some are done later
@@ -29,7 +29,7 @@ pub struct Clients {
 }
 
 // So many places, which nobody has.
-fn no_rows(alloc: Global, count: usize) -> Result<Vec<Client>, AllocError>
+fn no_rows(alloc: Global, count: usize) -> Result<Vec<ClientPlace>, AllocError>
     ensures count { IfOk result (λ rows. length rows.items ≡ count) }
     ensures nobody { IfOk result (λ rows. (k : ℕ) → is_here_in (slice_get rows.items k) ≡ false) }
     ensures opened { IfOk result (λ rows. (k : ℕ) → opened_in (slice_get rows.items k) ≡ None) }
@@ -37,13 +37,13 @@ fn no_rows(alloc: Global, count: usize) -> Result<Vec<Client>, AllocError>
 {
     let mut rows = Vec::with_capacity(alloc, count)?;
     for _row in 0..count {
-        rows.push(Client::nobody(alloc))?;
+        rows.push(ClientPlace::nobody(alloc))?;
     }
     Ok(rows)
 }
 
 // The one at a place comes in this second, under this number.
-fn come(rows: &mut Vec<Client>, at: usize, alloc: Global, who: u64, second: u64)
+fn come(rows: &mut Vec<ClientPlace>, at: usize, alloc: Global, who: u64, second: u64)
     requires { at < length rows.old.items }
     ensures count { length rows.new.items ≡ length rows.old.items }
     ensures here { has_in who (slice_get rows.new.items at) ≡ true }
@@ -56,7 +56,7 @@ fn come(rows: &mut Vec<Client>, at: usize, alloc: Global, who: u64, second: u64)
 }
 
 // The one at a place goes.
-fn go(rows: &mut Vec<Client>, at: usize, alloc: Global)
+fn go(rows: &mut Vec<ClientPlace>, at: usize, alloc: Global)
     requires { at < length rows.old.items }
     ensures count { length rows.new.items ≡ length rows.old.items }
     ensures away { is_here_in (slice_get rows.new.items at) ≡ false }
@@ -69,7 +69,7 @@ fn go(rows: &mut Vec<Client>, at: usize, alloc: Global)
 }
 
 // The one at a place has opened this.
-fn set_opened(rows: &mut Vec<Client>, at: usize, opened: Opened)
+fn set_opened(rows: &mut Vec<ClientPlace>, at: usize, opened: OpenObject)
     requires { at < length rows.old.items }
     ensures count { length rows.new.items ≡ length rows.old.items }
     ensures set { HasOpened opened (slice_get rows.old.items at) (slice_get rows.new.items at) }
@@ -79,7 +79,7 @@ fn set_opened(rows: &mut Vec<Client>, at: usize, opened: Opened)
 }
 
 // A call of the one at a place waits, or waits no more.
-fn set_waits(rows: &mut Vec<Client>, at: usize, waits: bool)
+fn set_waits(rows: &mut Vec<ClientPlace>, at: usize, waits: bool)
     requires { at < length rows.old.items }
     ensures count { length rows.new.items ≡ length rows.old.items }
     ensures set { IsSetTo waits (slice_get rows.old.items at) (slice_get rows.new.items at) }
@@ -89,7 +89,7 @@ fn set_waits(rows: &mut Vec<Client>, at: usize, waits: bool)
 }
 
 // Holds a line of the one at a place.
-fn hold(rows: &mut Vec<Client>, at: usize, line: &[u8], is_whole: bool) -> Result<(), AllocError>
+fn hold(rows: &mut Vec<ClientPlace>, at: usize, line: &[u8], is_whole: bool) -> Result<(), AllocError>
     requires { at < length rows.old.items }
     ensures count { length rows.new.items ≡ length rows.old.items }
     ensures ok { OnOk result (IsHeld line.now is_whole (slice_get rows.old.items at) (slice_get rows.new.items at)) }
@@ -100,7 +100,7 @@ fn hold(rows: &mut Vec<Client>, at: usize, line: &[u8], is_whole: bool) -> Resul
 }
 
 // The first bytes, so many, of the held lines of the one at a place are held no more.
-fn pass(rows: &mut Vec<Client>, at: usize, alloc: Global, count: usize)
+fn pass(rows: &mut Vec<ClientPlace>, at: usize, alloc: Global, count: usize)
     requires { at < length rows.old.items }
     ensures count { length rows.new.items ≡ length rows.old.items }
     ensures passed { IsPassed count (slice_get rows.old.items at) (slice_get rows.new.items at) }
@@ -110,7 +110,7 @@ fn pass(rows: &mut Vec<Client>, at: usize, alloc: Global, count: usize)
 }
 
 // The one at a place is ready, behind all others.
-fn set_ready(rows: &mut Vec<Client>, at: usize)
+fn set_ready(rows: &mut Vec<ClientPlace>, at: usize)
     requires { at < length rows.old.items }
     ensures { AreSameRows rows.old.items rows.new.items }
 {
@@ -121,7 +121,7 @@ fn set_ready(rows: &mut Vec<Client>, at: usize)
 }
 
 // One stands behind the one at a place.
-fn set_next(rows: &mut Vec<Client>, at: usize, next: usize)
+fn set_next(rows: &mut Vec<ClientPlace>, at: usize, next: usize)
     ensures { AreSameRows rows.old.items rows.new.items }
 {
     if at < rows.len() {
@@ -130,7 +130,7 @@ fn set_next(rows: &mut Vec<Client>, at: usize, next: usize)
 }
 
 // The one at a place is ready no more. It answers the place behind it.
-fn set_unready(rows: &mut Vec<Client>, at: usize) -> Option<usize>
+fn set_unready(rows: &mut Vec<ClientPlace>, at: usize) -> Option<usize>
     ensures { AreSameRows rows.old.items rows.new.items }
 {
     if at >= rows.len() {
@@ -141,7 +141,7 @@ fn set_unready(rows: &mut Vec<Client>, at: usize) -> Option<usize>
 }
 
 // The held lines of the one at a place are done later.
-fn set_stalled(rows: &mut Vec<Client>, at: usize)
+fn set_stalled(rows: &mut Vec<ClientPlace>, at: usize)
     ensures { AreSameRows rows.old.items rows.new.items }
 {
     if at < rows.len() {
@@ -150,7 +150,7 @@ fn set_stalled(rows: &mut Vec<Client>, at: usize)
 }
 
 // The client of the one at a place has this name, or none.
-fn set_name(rows: &mut Vec<Client>, at: usize, name: Option<Name>)
+fn set_name(rows: &mut Vec<ClientPlace>, at: usize, name: Option<Name>)
     requires { at < length rows.old.items }
     ensures count { length rows.new.items ≡ length rows.old.items }
     ensures set { ChangesPerson (named name) (slice_get rows.old.items at) (slice_get rows.new.items at) }
@@ -160,7 +160,7 @@ fn set_name(rows: &mut Vec<Client>, at: usize, name: Option<Name>)
 }
 
 // The last call of the one at a place was taken in this second.
-fn set_called(rows: &mut Vec<Client>, at: usize, second: u64)
+fn set_called(rows: &mut Vec<ClientPlace>, at: usize, second: u64)
     requires { at < length rows.old.items }
     ensures count { length rows.new.items ≡ length rows.old.items }
     ensures set { ChangesPerson (called_at second) (slice_get rows.old.items at) (slice_get rows.new.items at) }
@@ -169,16 +169,16 @@ fn set_called(rows: &mut Vec<Client>, at: usize, second: u64)
     rows[at].called = second;
 }
 
-impl Clients {
+impl ClientPlaces {
     /// So many places, which nobody has: nobody has opened an object, and no line is held. The error is that memory was refused.
-    pub fn new(alloc: Global, count: usize) -> Result<Clients, AllocError>
+    pub fn new(alloc: Global, count: usize) -> Result<ClientPlaces, AllocError>
         ensures count { IfOk result (λ clients. length clients.rows.items ≡ count) }
         ensures nobody { IfOk result (λ clients. (k : ℕ) → is_here_in (place_at clients k) ≡ false) }
         ensures opened { IfOk result (λ clients. (k : ℕ) → opened_in (place_at clients k) ≡ None) }
         ensures held { IfOk result (λ clients. (k : ℕ) → held_in (place_at clients k) ≡ []) }
     {
         let rows = no_rows(alloc, count)?;
-        Ok(Clients {
+        Ok(ClientPlaces {
             alloc,
             rows,
             first: None,
@@ -276,7 +276,7 @@ impl Clients {
     }
 
     /// What the one at a place has opened.
-    pub fn opened(&self, place: usize) -> Option<Opened>
+    pub fn opened(&self, place: usize) -> Option<OpenObject>
         ensures { result ≡ opened_in (place_at self.now place) }
     {
         if place >= self.rows.len() {
@@ -286,7 +286,7 @@ impl Clients {
     }
 
     /// The one at a place has opened this.
-    pub fn set_opened(&mut self, place: usize, opened: Opened)
+    pub fn set_opened(&mut self, place: usize, opened: OpenObject)
         ensures set { place < length self.old.rows.items →
             HasOpened opened (place_at self.old place) (place_at self.new place) }
         ensures others { Elsewhere self.old self.new place }

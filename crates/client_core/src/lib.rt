@@ -1,7 +1,7 @@
 //! The connections of a kept server: what a line asks for, the lines that answer, which lines are held, and what a turn
 //! tells to whom.
 //!
-//! `ask` reads a line. `clients::Clients` has a place for each connection: what it has opened, whether a call of it
+//! `ask` reads a line. `clients::ClientPlaces` has a place for each connection: what it has opened, whether a call of it
 //! waits, and the lines that came behind that call. Those whose held lines may be done stand in a row.
 //!
 //! What a turn of `keep` tells is said over the definitions alone. A `State` is a table as its clients know it: each

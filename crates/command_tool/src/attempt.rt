@@ -7,14 +7,14 @@ use answer_core::failure::Failure;
 use answer_core::inputs::source_at;
 use answer_core::lack::Wanted;
 use answer_core::said::{telling_of, told, told_unread, written};
-use check_core::open::{Opened, fault_text, judged, open_script};
+use check_core::open::{OpenedScript, fault_text, judged, open_script};
 use command_line::help::TRY_LINES;
 use command_line::request::Explain;
 use decl_core::analyse::Accepted;
 use decl_read::read::read_objects;
 use explain_trace::listed::listed;
 use explain_trace::prompt::{Asking, Manner};
-use note_core::kept::Kept;
+use note_core::kept::CopyingReader;
 use path_tree::name::is_identifier;
 use std::alloc::{AllocError, Global};
 use std::io::{self, IsTerminal};
@@ -30,22 +30,22 @@ fn head_of(alloc: Global, name: &[u8]) -> Result<Vec<u8>, AllocError> {
 }
 
 // What a script on an object of this name runs on.
-fn open_named(alloc: Global, source: &[u8], name: &[u8]) -> Result<Opened, AllocError> {
+fn open_named(alloc: Global, source: &[u8], name: &[u8]) -> Result<OpenedScript, AllocError> {
     let head = head_of(alloc, name)?;
     open_script(alloc, source, &head)
 }
 
 // A line that is told in place of an object.
-fn line_told(alloc: Global, front: &[u8], name: &[u8]) -> Result<Opened, AllocError> {
+fn line_told(alloc: Global, front: &[u8], name: &[u8]) -> Result<OpenedScript, AllocError> {
     let mut line = Vec::new(alloc);
     line.extend_from_slice(front)?;
     line.extend_from_slice(name)?;
     line.push(b'\n')?;
-    Ok(Opened::Told(line))
+    Ok(OpenedScript::Told(line))
 }
 
 // The object of this name in a source, or why there is none to call.
-fn open_given(alloc: Global, source: &[u8], name: &str) -> Result<Opened, AllocError> {
+fn open_given(alloc: Global, source: &[u8], name: &str) -> Result<OpenedScript, AllocError> {
     if is_identifier(name.as_bytes()) {
         open_named(alloc, source, name.as_bytes())
     } else {
@@ -54,11 +54,11 @@ fn open_given(alloc: Global, source: &[u8], name: &str) -> Result<Opened, AllocE
 }
 
 // The first object of a source, or why there is none to call.
-fn open_first(alloc: Global, source: &[u8]) -> Result<Opened, AllocError> {
+fn open_first(alloc: Global, source: &[u8]) -> Result<OpenedScript, AllocError> {
     match read_objects(alloc, source) {
         Err(fault) => {
             let line = fault_text(alloc, fault)?;
-            Ok(Opened::Told(line))
+            Ok(OpenedScript::Told(line))
         }
         Ok(all) => match all.into_values().next() {
             Some(object) => judged(alloc, object),
@@ -68,7 +68,7 @@ fn open_first(alloc: Global, source: &[u8]) -> Result<Opened, AllocError> {
 }
 
 // The object that is called.
-fn open(alloc: Global, source: &[u8], name: Option<&str>) -> Result<Opened, AllocError> {
+fn open(alloc: Global, source: &[u8], name: Option<&str>) -> Result<OpenedScript, AllocError> {
     match name {
         Some(name) => open_given(alloc, source, name),
         None => open_first(alloc, source),
@@ -124,7 +124,7 @@ fn answer_input(
     list: &[u8],
     manner: Manner,
 ) -> Result<u8, Failure> {
-    let mut kept = Kept::new(rt.alloc(), rt.stdin(), 0);
+    let mut kept = CopyingReader::new(rt.alloc(), rt.stdin(), 0);
     let mut asking = Asking::new(rt.alloc(), &mut kept, rt.stderr(), again, manner);
     let texts = Texts {
         help: TRY_LINES.as_bytes(),
@@ -151,11 +151,11 @@ fn answer_opened(
     telling: Telling,
 ) -> Result<u8, Failure> {
     match open(rt.alloc(), source, name)? {
-        Opened::Ready(again) => {
+        OpenedScript::Ready(again) => {
             let list = list_of(rt.alloc(), source, &again)?;
             answer_input(rt, accepted, again, &list, manner_of(rt, telling))
         }
-        Opened::Told(line) => tell_line(rt, source, &line, path, name, telling),
+        OpenedScript::Told(line) => tell_line(rt, source, &line, path, name, telling),
     }
 }
 
@@ -172,7 +172,7 @@ pub fn run_try(
     };
     let telling = telling_of(rt, when);
     match open(rt.alloc(), &source, name)? {
-        Opened::Ready(accepted) => answer_opened(rt, accepted, &source, path, name, telling),
-        Opened::Told(line) => tell_line(rt, &source, &line, path, name, telling),
+        OpenedScript::Ready(accepted) => answer_opened(rt, accepted, &source, path, name, telling),
+        OpenedScript::Told(line) => tell_line(rt, &source, &line, path, name, telling),
     }
 }

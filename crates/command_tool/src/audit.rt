@@ -10,7 +10,7 @@ use answer_core::inputs::{Inputs, inputs_of, is_folder, source_at};
 use answer_core::lack::{Lacking, Wanted};
 use answer_core::said::{telling_of, told, told_unread, written};
 use answer_core::sources::{Ruled, WithoutHolds, ruled_source, without_holds};
-use check_core::judge::{Judged, judge};
+use check_core::judge::{JudgedSource, judge};
 use command_line::request::Explain;
 use decl_core::analyse::Accepted;
 use decl_core::hold::Rules;
@@ -49,8 +49,8 @@ fn run_folder(rt: &HostRuntime, files: Files<'_>, when: Explain) -> Result<u8, F
         Ruled::Told(status) => return Ok(status),
     };
     match judge(rt.alloc(), &source)? {
-        Judged::Ready(objects) => tell_folder(rt, &objects, &rules, files.text),
-        Judged::Told(lines) => {
+        JudgedSource::Ready(objects) => tell_folder(rt, &objects, &rules, files.text),
+        JudgedSource::Told(lines) => {
             let ended = written(&lines, REFUSED, &mut io::writer(rt));
             explained(
                 rt.alloc(),

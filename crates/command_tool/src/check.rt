@@ -13,7 +13,7 @@ use answer_core::stuck::check_stuck;
 use command_line::request::Explain;
 use explain_fault::pairs::explain_pairs;
 use hold_read::read::{Look, look_at};
-use note_core::kept::Kept;
+use note_core::kept::CopyingReader;
 use std::io;
 use text_core::write_whole;
 
@@ -79,7 +79,7 @@ pub fn run_check(rt: &HostRuntime, path: &str, when: Explain, stuck: bool) -> Re
         Ok(file) => file,
         Err(lacking) => return Err(told(rt, lacking, path)),
     };
-    let mut kept = Kept::new(rt.alloc(), file, 0);
+    let mut kept = CopyingReader::new(rt.alloc(), file, 0);
     match read_source(rt.alloc(), &mut kept) {
         Ok(source) => {
             let pairs = pairs_of(rt, &source, path, when);

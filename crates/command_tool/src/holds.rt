@@ -6,7 +6,7 @@ use answer_core::failure::Failure;
 use answer_core::said::written;
 use check_core::head::read_head;
 use check_core::hold_report::held_report;
-use check_core::open::{Opened, open_script};
+use check_core::open::{OpenedScript, open_script};
 use check_core::report::CheckEnd;
 use decl_core::analyse::Accepted;
 use decl_core::hold::{Hold, Rules};
@@ -89,7 +89,7 @@ pub fn run_held<R: Read, W: Write, E: Write>(
         Err(fault) => return Err(Failure::from(fault)),
     };
     match open_script(alloc, cut, &head) {
-        Ok(Opened::Ready(accepted)) => {
+        Ok(OpenedScript::Ready(accepted)) => {
             let holds = holds_of(alloc, &accepted, objects, rules);
             let mut text = head.chain(reader);
             match run_held_script(alloc, accepted, holds, &mut text, writer) {
@@ -98,7 +98,7 @@ pub fn run_held<R: Read, W: Write, E: Write>(
                 Err(fault) => Err(Failure::from(fault)),
             }
         }
-        Ok(Opened::Told(line)) => {
+        Ok(OpenedScript::Told(line)) => {
             let ended = written(&line, REFUSED, writer);
             explained_script(alloc, ended, telling, file, cut, &head, error)
         }

@@ -18,7 +18,7 @@ use device_core::sealed::Sealed;
 use page_core::found::found_in;
 use page_core::values::DirValues;
 use serve_core::gate::Gate;
-use serve_core::serve::{Place, ServeEnd, serve_on};
+use serve_core::serve::{ServerFolder, ServeEnd, serve_on};
 use std::alloc::AllocError;
 use std::io::{ErrorKind, Write};
 use std::os::unix::fs::FileExt;
@@ -53,7 +53,7 @@ pub fn place_of<R: Files + AllocGlobal + Clone + Drop>(
     rt: &R,
     folder: &str,
     sessions: usize,
-) -> Result<Place<AheadHand<R>>, Failure> {
+) -> Result<ServerFolder<AheadHand<R>>, Failure> {
     let values = DirValues::new(rt.clone()?, folder)?;
     let found = found_in(&values, rt.alloc())?;
     let numbers = numbers_from(rt, found.first())?;
@@ -67,7 +67,7 @@ pub fn place_of<R: Files + AllocGlobal + Clone + Drop>(
         }
     }
     let folder = String::from_str(rt.alloc(), folder)?;
-    Ok(Place {
+    Ok(ServerFolder {
         folder,
         found,
         numbers,
@@ -122,7 +122,7 @@ pub fn serve_objects<
 >(
     rt: &R,
     source: &ServedSource,
-    place: Place<H>,
+    place: ServerFolder<H>,
     gate: &Gate,
     writer: &mut W,
     error: &mut E,

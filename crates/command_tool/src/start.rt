@@ -13,7 +13,7 @@ use answer_core::sources::{WithoutHolds, plain_source};
 use command_line::request::Serving;
 use device_core::ahead::AheadHand;
 use serve_core::gate::Gate;
-use serve_core::serve::Place;
+use serve_core::serve::ServerFolder;
 use std::alloc::AllocError;
 use std::fs::File;
 use std::io::{self, ErrorKind, Read};
@@ -24,7 +24,7 @@ pub struct ServerStart {
     /// What it serves.
     pub source: ServedSource,
     /// The folder, and a hand on it for each session.
-    pub place: Place<AheadHand<HostRuntime>>,
+    pub place: ServerFolder<AheadHand<HostRuntime>>,
     /// Where clients connect.
     pub gate: Arc<Gate>,
     /// The folder, which no other server has as long as this is open.

@@ -6,7 +6,7 @@ ghost use Rattle.std.specs.Prelude.{◌≡◌, ◌≢◌, ◌<◌, ◌+◌, ◌^
 
 use decl_core::object::Object;
 use guest_core::guests::Guests;
-use hosted_core::hosted::{Begun, Hosted};
+use hosted_core::hosted::{HostedStart, Hosted};
 use live_core::call::Limits;
 use live_core::live::Live;
 use live_core::source::source_of;
@@ -149,7 +149,7 @@ fn hosted_of(alloc: Global, object: Object) -> Result<Option<Hosted>, AllocError
     let Some(live) = found else {
         return Ok(None);
     };
-    let begun = Begun {
+    let begun = HostedStart {
         live,
         guests: Guests::new(alloc, LIMITS.sessions, 64)?,
         past: Vec::new(alloc),

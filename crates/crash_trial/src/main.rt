@@ -20,7 +20,7 @@ use std::env;
 use std::fs::File;
 use std::io::{self, Read, Write};
 use std::process::ExitCode;
-use trial::{Asked, Ended, run_trial};
+use trial::{TrialEnd, TrialInput, run_trial};
 
 fn number_of(word: &str) -> Option<u64> {
     word.parse::<u64>().ok()
@@ -53,15 +53,15 @@ fn run(rt: &HostRuntime) -> Result<u8, u8> {
     if rt.stdin().read_to_end(&mut scenario).is_err() {
         return Err(3);
     }
-    let asked = Asked {
+    let asked = TrialInput {
         source,
         scenario,
         crashes,
         seed,
     };
     match run_trial(alloc, &asked, &mut io::writer(rt)) {
-        Ok(Ended::Right) => Ok(0),
-        Ok(Ended::Wrong) => Ok(1),
+        Ok(TrialEnd::Right) => Ok(0),
+        Ok(TrialEnd::Wrong) => Ok(1),
         Err(_) => Err(4),
     }
 }

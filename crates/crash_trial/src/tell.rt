@@ -1,8 +1,8 @@
 //! What is told of a state that was recovered.
 
-use audit_core::epoch_replay::Played;
+use audit_core::epoch_replay::ReplayedEpoch;
 use decl_core::object::Object;
-use hosted_core::start::{Ended, begin_again};
+use hosted_core::start::{EndedEpoch, begin_again};
 use live_core::call::Limits;
 use live_core::source::source_of;
 use recover_core::recover::Recovered;
@@ -24,13 +24,13 @@ pub fn front_behind(
         guests,
         ..
     } = recovered;
-    let Played {
+    let ReplayedEpoch {
         contents,
         counters,
         long,
         greatest,
     } = played;
-    let ended = Ended {
+    let ended = EndedEpoch {
         epoch,
         base,
         greatest,

@@ -5,7 +5,7 @@ use crate::device::{Happened, RecordedFile};
 use crate::drive::{Drive, JournalCall, LIMITS, ScenarioStop, cut_line};
 use crate::judge::{CrashOutcome, follow, judge, standing_behind};
 use crate::tell::front_behind;
-use check_core::open::{Opened, open_script};
+use check_core::open::{OpenedScript, open_script};
 use decl_core::object::Object;
 use recover_core::recover::{House, Recovered};
 use std::alloc::{AllocError, AllocFailed, Global};
@@ -84,8 +84,8 @@ fn object_of(alloc: Global, asked: &TrialInput) -> Result<Option<Object>, AllocE
     let mut head = line.to_vec(alloc)?;
     head.push(b'\n')?;
     match open_script(alloc, &asked.source, &head)? {
-        Opened::Ready(accepted) => Ok(Some(accepted.into_object())),
-        Opened::Told(_) => Ok(None),
+        OpenedScript::Ready(accepted) => Ok(Some(accepted.into_object())),
+        OpenedScript::Told(_) => Ok(None),
     }
 }
 

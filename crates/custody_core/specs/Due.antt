@@ -1,7 +1,7 @@
 -- What is due of all objects, who may come to one, and what is noted of one.
 use Rattle.std.specs.Prelude.{◌≡◌, ◌≢◌, ◌⊎◌, ◌<◌, ℕ, List, [], ◌∷◌, Option, Some, None, All, map, slice_get, slice_set, take}
-use Rattle.session_text.specs.declared.line.Refusal.{Refusal}
-use Rattle.session_text.specs.declared.line.Refusal.TheVariants.{Full, InUse}
+use Rattle.session_text.specs.declared.line.LineRefusal.{LineRefusal}
+use Rattle.session_text.specs.declared.line.LineRefusal.TheVariants.{Full, InUse}
 use Rattle.decl_core.specs.ObjectForm.{ObjectForm}
 use Rattle.live_core.specs.declared.call.Ran.{Ran}
 use Rattle.hosted_core.specs.Scene.{Scene}
@@ -53,7 +53,7 @@ pub record IsFirst (second : ℕ) (all : List Holding) (due : DueCall) : Type 0 
 
 -- Why a client of a name may not come to an object: a new name would take the place of one that holds something; or a call
 -- that was made for the client waits. Of a place without an object nothing is said.
-abbrev pub IsUnwelcome : Option Holding → Option Scene → List ℕ → ℕ → Option Refusal → Type 0
+abbrev pub IsUnwelcome : Option Holding → Option Scene → List ℕ → ℕ → Option LineRefusal → Type 0
 IsUnwelcome None object name second why = why ≡ None
 IsUnwelcome (Some h) None name second why = why ≡ None
 IsUnwelcome (Some h) (Some object) name second why =

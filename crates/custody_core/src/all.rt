@@ -22,7 +22,7 @@ use hosted_core::hosted::Hosted;
 use live_core::call::Ran;
 use path_tree::name::Name;
 use path_tree::node::OpId;
-use session_text::line::Refusal;
+use session_text::line::LineRefusal;
 use std::alloc::{AllocError, Global};
 use std::marker::Model;
 use value_core::datum::Datum;
@@ -246,7 +246,7 @@ impl AllHeld {
         objects: &[Hosted],
         name: &Name,
         second: u64,
-    ) -> Option<Refusal>
+    ) -> Option<LineRefusal>
         ensures { IsUnwelcome (slice_get self.now at) (slice_get objects.now at) name.now second result }
     {
         match self.at(at) {

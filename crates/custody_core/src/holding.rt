@@ -30,7 +30,7 @@ use decl_core::hold::Rules;
 use decl_core::object::Object;
 use guest_core::held::{EndedCall, HeldCall, Holds, undo_of};
 use hosted_core::hosted::Hosted;
-use live_core::call::Call;
+use live_core::call::LiveCall;
 use path_tree::name::Name;
 use path_tree::node::OpId;
 use std::alloc::{AllocError, Global};
@@ -150,7 +150,7 @@ impl Holding {
 
     /// A call of which this number was told has ended with this reply. The error is that memory was refused, and nothing
     /// changes.
-    pub fn ended(&mut self, told: u64, call: &Call, reply: &Reply) -> Result<(), AllocError>
+    pub fn ended(&mut self, told: u64, call: &LiveCall, reply: &Reply) -> Result<(), AllocError>
         ensures ends { OnOk result (Ends self.old (told_as told call.now) reply.now self.new) }
         // What is held is what its calls have left that ended, in their order.
         ensures follows { OnOk result ((past : List Happened) → AreHeld self.old.rules.holds past self.old.held →

@@ -11,7 +11,7 @@ use crate::holding::Holding;
 use hosted_core::hosted::Hosted;
 use live_core::call::Ran;
 use path_tree::name::Name;
-use session_text::line::Refusal;
+use session_text::line::LineRefusal;
 use std::alloc::AllocError;
 
 /// What becomes of a session that is gone, or of a call that is made again and again.
@@ -107,14 +107,14 @@ pub(crate) fn unwelcome(
     object: &Hosted,
     name: &Name,
     second: u64,
-) -> Option<Refusal>
+) -> Option<LineRefusal>
     ensures { IsUnwelcome (Some holding.now) (Some object.now) name.now second result }
 {
     if holding.is_crowded(object, name, second) {
-        return Some(Refusal::Full);
+        return Some(LineRefusal::Full);
     }
     if holding.is_busy(object, name) {
-        return Some(Refusal::InUse);
+        return Some(LineRefusal::InUse);
     }
     None
 }

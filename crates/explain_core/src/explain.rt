@@ -1,14 +1,14 @@
 //! The explanation of a source.
 
 use crate::proposal::{Pair, place_for_path, proposal};
-use crate::refusal::{Case, push_case};
+use crate::refusal::{RefusalCase, push_case};
 use decl_core::analyse::{Refusal, Refused, analyse};
 use decl_core::object::Object;
 use decl_read::fault::DeclFault;
 use decl_read::read::read_objects;
 use explain_fault::fault::{is_want_of_memory, push_fault};
 use note_core::page::{Page, push_help, push_new_line, push_note};
-use note_core::said::Words;
+use note_core::said::MessageWords;
 use note_core::span::Span;
 use note_core::tokens::section;
 use path_tree::lex::lex;
@@ -47,7 +47,7 @@ fn push_proposal(
     line: Option<Vec<u8>>,
     at: usize,
     is_same: bool,
-    words: Words<'_>,
+    words: MessageWords<'_>,
 ) -> Result<(), AllocError> {
     match line {
         Some(line) => {
@@ -69,14 +69,14 @@ fn push_unseparated(
     pair: (usize, usize, usize),
 ) -> Result<(), AllocError> {
     let (first, second, part) = pair;
-    let names = Words {
+    let names = MessageWords {
         first: operation_name(object, first),
         second: operation_name(object, second),
         third: part_name(object, part),
         fourth: object.name.as_bytes(),
     };
     let tokens = section(page.tokens, Symbol::Object, number);
-    let case = Case {
+    let case = RefusalCase {
         tokens,
         first,
         second,

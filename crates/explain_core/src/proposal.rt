@@ -23,7 +23,7 @@ pub(crate) struct Pair {
 
 // What the analyser says of an object of a source.
 #[derive(Clone, Copy)]
-enum Judged {
+enum ProposalVerdict {
     Accepted,
     Refused(Pair),
     // The source has no such object.
@@ -31,27 +31,27 @@ enum Judged {
 }
 
 // What the analyser says of an object.
-fn judge(alloc: Global, object: Object) -> Result<Judged, AllocError> {
+fn judge(alloc: Global, object: Object) -> Result<ProposalVerdict, AllocError> {
     match analyse(alloc, object) {
-        Ok(_) => Ok(Judged::Accepted),
+        Ok(_) => Ok(ProposalVerdict::Accepted),
         Err(refused) => match refused.why {
             Refusal::Memory => Err(AllocError),
-            Refusal::Unseparated(first, second, _) => Ok(Judged::Refused(Pair { first, second })),
+            Refusal::Unseparated(first, second, _) => Ok(ProposalVerdict::Refused(Pair { first, second })),
         },
     }
 }
 
 // What is said where a source cannot be read, which is no want of memory.
-fn lacking(fault: DeclFault) -> Result<Judged, AllocError> {
+fn lacking(fault: DeclFault) -> Result<ProposalVerdict, AllocError> {
     if is_want_of_memory(fault) {
         Err(AllocError)
     } else {
-        Ok(Judged::Lacking)
+        Ok(ProposalVerdict::Lacking)
     }
 }
 
 // What the analyser says of the object of this number, from 0, of a source.
-fn judge_in(alloc: Global, source: &[u8], number: usize) -> Result<Judged, AllocError> {
+fn judge_in(alloc: Global, source: &[u8], number: usize) -> Result<ProposalVerdict, AllocError> {
     match read_objects(alloc, source) {
         Err(fault) => lacking(fault),
         Ok(all) => {
@@ -60,7 +60,7 @@ fn judge_in(alloc: Global, source: &[u8], number: usize) -> Result<Judged, Alloc
                     return judge(alloc, object);
                 }
             }
-            Ok(Judged::Lacking)
+            Ok(ProposalVerdict::Lacking)
         }
     }
 }
@@ -156,12 +156,12 @@ pub(crate) fn proposal(
         let line = path_over(alloc, object, &chosen)?;
         let longer = with_line(alloc, source, at, &line)?;
         match judge_in(alloc, &longer, number)? {
-            Judged::Accepted => return Ok(Some(line)),
-            Judged::Refused(pair) => {
+            ProposalVerdict::Accepted => return Ok(Some(line)),
+            ProposalVerdict::Refused(pair) => {
                 chosen.push(pair.first)?;
                 chosen.push(pair.second)?;
             }
-            Judged::Lacking => return Ok(None),
+            ProposalVerdict::Lacking => return Ok(None),
         }
     }
     Ok(None)

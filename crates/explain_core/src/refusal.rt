@@ -3,7 +3,7 @@
 use crate::around::{Around, why_in};
 use crate::touch::{Touch, touch_of};
 use note_core::page::{Page, push_help, push_note};
-use note_core::said::Words;
+use note_core::said::MessageWords;
 use note_core::span::span_of;
 use note_core::tokens::{count_to, find_name, first_tokens, from_symbol, section, tokens_from};
 use path_tree::token::{Symbol, Token};
@@ -14,14 +14,14 @@ const MOST_PATHS: usize = 16;
 
 /// An object of a page that is refused: its tokens, and the names in question.
 #[derive(Clone, Copy)]
-pub(crate) struct Case<'a> {
+pub(crate) struct RefusalCase<'a> {
     /// The tokens of the object, from the word `object` on.
     pub tokens: &'a [Token],
     /// The numbers of the two operations; the same one where two calls of it are not kept apart.
     pub first: usize,
     pub second: usize,
     /// The names: of the two operations, of the part at which they conflict, and of the object.
-    pub names: Words<'a>,
+    pub names: MessageWords<'a>,
 }
 
 // What is said of the two, by whether each of them changes the part.
@@ -38,7 +38,7 @@ fn sentence_of(is_same: bool, first_writes: bool, second_writes: bool) -> &'stat
 }
 
 // The tokens of an operation, from the word `entry` on.
-fn operation_tokens<'a>(case: Case<'a>, number: usize) -> &'a [Token] {
+fn operation_tokens<'a>(case: RefusalCase<'a>, number: usize) -> &'a [Token] {
     section(case.tokens, Symbol::Entry, number)
 }
 
@@ -49,7 +49,7 @@ fn push_at(
     tokens: &[Token],
     number: usize,
     sentence: &str,
-    words: Words<'_>,
+    words: MessageWords<'_>,
 ) -> Result<(), AllocError> {
     match tokens_from(tokens, number) {
         [token, ..] => push_note(out, page, span_of(token), sentence, words),
@@ -63,7 +63,7 @@ fn push_operation(
     page: Page<'_>,
     operation: &[Token],
     touch: Option<Touch>,
-    words: Words<'_>,
+    words: MessageWords<'_>,
 ) -> Result<(), AllocError> {
     push_at(out, page, operation, 2, "`%` is declared here", words)?;
     match touch {
@@ -80,7 +80,7 @@ fn push_operation(
 }
 
 // Adds both operations, or the one.
-fn push_operations(out: &mut Vec<u8>, page: Page<'_>, case: Case<'_>) -> Result<(), AllocError> {
+fn push_operations(out: &mut Vec<u8>, page: Page<'_>, case: RefusalCase<'_>) -> Result<(), AllocError> {
     let names = case.names;
     let first = operation_tokens(case, case.first);
     let second = operation_tokens(case, case.second);
@@ -93,7 +93,7 @@ fn push_operations(out: &mut Vec<u8>, page: Page<'_>, case: Case<'_>) -> Result<
     if is_same {
         return Ok(());
     }
-    let turned = Words {
+    let turned = MessageWords {
         first: names.second,
         second: names.first,
         third: names.third,
@@ -114,7 +114,7 @@ fn is_write(touch: Option<Touch>) -> bool {
 fn push_path(
     out: &mut Vec<u8>,
     page: Page<'_>,
-    case: Case<'_>,
+    case: RefusalCase<'_>,
     path: &[Token],
 ) -> Result<bool, AllocError> {
     let names = case.names;
@@ -159,7 +159,7 @@ fn push_path(
 fn push_around(
     out: &mut Vec<u8>,
     page: Page<'_>,
-    case: Case<'_>,
+    case: RefusalCase<'_>,
     path: &[Token],
     around: Around,
 ) -> Result<(), AllocError> {
@@ -194,7 +194,7 @@ fn push_around(
 }
 
 // Adds what the paths of the object say of the two.
-fn push_paths(out: &mut Vec<u8>, page: Page<'_>, case: Case<'_>) -> Result<(), AllocError> {
+fn push_paths(out: &mut Vec<u8>, page: Page<'_>, case: RefusalCase<'_>) -> Result<(), AllocError> {
     let mut names_both = false;
     for number in 0..MOST_PATHS {
         let rest = from_symbol(case.tokens, Symbol::Path, number);
@@ -218,7 +218,7 @@ fn push_paths(out: &mut Vec<u8>, page: Page<'_>, case: Case<'_>) -> Result<(), A
 pub(crate) fn push_case(
     out: &mut Vec<u8>,
     page: Page<'_>,
-    case: Case<'_>,
+    case: RefusalCase<'_>,
 ) -> Result<(), AllocError> {
     push_operations(out, page, case)?;
     push_paths(out, page, case)

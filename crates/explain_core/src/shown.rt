@@ -2,7 +2,7 @@
 
 use crate::case::{Case, name_of, path_tokens, push_number};
 use note_core::page::push_help;
-use note_core::said::Words;
+use note_core::said::MessageWords;
 use note_core::span::{span_of, text_at};
 use note_core::tokens::{
     begins, find_name, is_any_name, is_symbol, name_of as word_of, tokens_from,
@@ -92,7 +92,7 @@ fn push_event(out: &mut Vec<u8>, case: Case<'_>, word: &[u8], op: OpId) -> Resul
 
 /// Adds the lines, where the calls are few.
 pub(crate) fn push_shown(out: &mut Vec<u8>, case: Case<'_>) -> Result<(), AllocError> {
-    let none = Words {
+    let none = MessageWords {
         first: b"",
         second: b"",
         third: b"",

@@ -10,7 +10,7 @@ use decl_read::fault::DeclFault;
 use decl_read::read::read_objects;
 use explain_fault::fault::is_want_of_memory;
 use note_core::page::{Page, push_note};
-use note_core::said::Words;
+use note_core::said::MessageWords;
 use note_core::span::span_of;
 use note_core::tokens::section;
 use path_tree::lex::fault::LexFault;
@@ -41,7 +41,7 @@ fn push_case(
     let calls = calls_text(alloc, case.object, case.calls)?;
     let mut names = Vec::new(alloc);
     push_names(&mut names, case.object, case.lost, b" and ")?;
-    let words = Words {
+    let words = MessageWords {
         first: &calls,
         second: &names,
         third: b"",

@@ -2,7 +2,7 @@
 
 use crate::case::{Case, count_of, name_of, path_tokens, push_names};
 use note_core::page::push_note;
-use note_core::said::Words;
+use note_core::said::MessageWords;
 use note_core::span::span_of;
 use note_core::tokens::{find_name, tokens_from};
 use path_count::counters::{Counters, compile};
@@ -61,7 +61,7 @@ fn push_group(
     push_names(&mut names, case.object, &group.ops, b" and ")?;
     let mut needs = Vec::new(alloc);
     push_names(&mut needs, case.object, &group.needs, b" or ")?;
-    let words = Words {
+    let words = MessageWords {
         first: &names,
         second: &needs,
         third: b"",

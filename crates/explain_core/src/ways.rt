@@ -4,7 +4,7 @@ use crate::case::{Case, count_of, name_of, path_tokens, push_number};
 use crate::change::{Tries, is_way, no_tries};
 use crate::shown::{number_of, value_of};
 use note_core::page::{push_help, push_new_line, push_note};
-use note_core::said::Words;
+use note_core::said::MessageWords;
 use note_core::span::{Span, span_of, text_at};
 use note_core::tokens::{
     begins, from_last, from_symbol, is_any_name, is_symbol, name_of as word_of, tokens_from,
@@ -15,8 +15,8 @@ use path_tree::tree::PathTree;
 use std::alloc::{AllocError, Global};
 use stuck_core::wait::waits_of;
 
-fn words_of<'a>(case: Case<'a>, first: &'a [u8]) -> Words<'a> {
-    Words {
+fn words_of<'a>(case: Case<'a>, first: &'a [u8]) -> MessageWords<'a> {
+    MessageWords {
         first,
         second: b"",
         third: b"",

@@ -12,7 +12,7 @@ use note_core::finding::two;
 use note_core::name::declared;
 use note_core::nodes::large_path;
 use note_core::page::{Page, push_note, push_said};
-use note_core::said::{Said, say};
+use note_core::said::{Message, say};
 use note_core::span::{Span, behind, front, span_of, text_at};
 use note_core::tokens::{
     count_before, ends, find_name, first_tokens, from_last, is_symbol, last, name_of, section,
@@ -28,7 +28,7 @@ use std::alloc::{AllocError, Global};
 const MOST_BYTES: usize = 65_536;
 
 // What is said of a fault of objects.
-fn of_objects(fault: DeclFault, seen: Near<'_>) -> Option<Said> {
+fn of_objects(fault: DeclFault, seen: Near<'_>) -> Option<Message> {
     match fault {
         DeclFault::DuplicateName(_) => said_by(twice(), seen),
         DeclFault::WrongType(_) => said_by(wrong_kind(), seen),
@@ -152,7 +152,7 @@ pub(crate) fn push_here(
     page: Page<'_>,
     seen: Near<'_>,
     at: usize,
-    said: Said,
+    said: Message,
 ) -> Result<(), AllocError> {
     let words = two(text_of(page, seen.here), text_of(page, last(seen.before)));
     push_said(out, page, first_span(seen.here, at), said, words)

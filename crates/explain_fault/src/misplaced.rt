@@ -8,7 +8,7 @@ use crate::seen::Fact::{
 };
 use crate::seen::Near;
 use crate::seen::Where::{Here, Kind, Last, Last2, Last3, Next, Plain};
-use note_core::said::Said;
+use note_core::said::Message;
 
 /// What helps where a sum stands in the place of a constant.
 pub(crate) const SUM: &str = "sums stand in bodies alone: write the number itself, in digits";
@@ -267,7 +267,7 @@ fn kinds() -> Entries {
 }
 
 /// What is said of a token that is out of place in an object. One table of all rows would be past the prover's limit.
-pub(crate) fn misplaced(seen: Near<'_>) -> Option<Said> {
+pub(crate) fn misplaced(seen: Near<'_>) -> Option<Message> {
     if let Some(said) = said_by(values(), seen) {
         return Some(said);
     }

@@ -2,7 +2,7 @@
 
 use note_core::finding::two;
 use note_core::page::{Page, push_said};
-use note_core::said::{Said, say};
+use note_core::said::{Message, say};
 use note_core::span::{Span, span_of, text_at};
 use note_core::tokens::{
     begins, count_to, first_tokens, from_symbol, is_any_name, is_name, is_same_word, is_symbol,
@@ -83,7 +83,7 @@ fn pair_at(object: &[Token], here: &[Token]) -> Option<(Span, Span)> {
 }
 
 // What is said of a pair; `is_other` where a hold of it could not stand beside the one that is proposed above.
-fn said_of(is_other: bool) -> Said {
+fn said_of(is_other: bool) -> Message {
     let help = if is_other {
         "`hold % until $;` has it called then, in the place of the hold above: no operation stands in two"
     } else {

@@ -4,7 +4,7 @@
 //! the row above is said.
 
 use crate::seen::{Fact, Near, Where};
-use note_core::said::{Said, say};
+use note_core::said::{Message, say};
 
 /// Words and signs, with a space between two: that one of them stands there. `NAME`, `NUMBER`, `WORD` (a reserved one),
 /// `VALUE` (what can end one) and `NONE` (the end) stand for all of their kind.
@@ -59,7 +59,7 @@ fn fit(tests: &[Test], seen: Near<'_>) -> bool {
 }
 
 /// What the first row says that fits.
-pub(crate) fn said_by(rows: Entries, seen: Near<'_>) -> Option<Said> {
+pub(crate) fn said_by(rows: Entries, seen: Near<'_>) -> Option<Message> {
     let mut fits = true;
     let mut sentence = "";
     for item in rows {

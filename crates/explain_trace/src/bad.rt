@@ -6,12 +6,12 @@ use apply_core::fits::arguments_fit;
 use decl_core::object::{Object, Operation, Part};
 use note_core::alike::are_alike;
 use note_core::finding::{
-    Finding, only, push_finding, shown, surplus, two, wrong_call, wrong_data, wrong_name,
+    Diagnostic, only, push_finding, shown, surplus, two, wrong_call, wrong_data, wrong_name,
     wrong_session, wrong_word,
 };
 use note_core::line_words::LineWords;
 use note_core::page::{Page, push_help, push_note};
-use note_core::said::{Said, say};
+use note_core::said::{Message, say};
 use note_core::span::text_at;
 use std::alloc::{AllocError, Global};
 use text_core::words::is_same_word;
@@ -130,7 +130,7 @@ fn push_wrong_part(
 }
 
 // What is said of a number that no call may have.
-fn no_number() -> Said {
+fn no_number() -> Message {
     say(
         "`%` cannot be the number of a call",
         "calls are numbered from 1 to 65536",
@@ -138,12 +138,12 @@ fn no_number() -> Said {
 }
 
 // What is wrong with the words of a start up to its arguments, where that is seen by them alone.
-fn wrong_start(words: &LineWords<'_>) -> Option<Finding> {
+fn wrong_start(words: &LineWords<'_>) -> Option<Diagnostic> {
     if let Some(found) = wrong_call(words, 1) {
         return Some(found);
     }
     if number_in(words) == 0 || number_in(words) > MOST_CALLS {
-        return Some(Finding {
+        return Some(Diagnostic {
             span: words.span(1),
             said: no_number(),
         });
@@ -153,7 +153,7 @@ fn wrong_start(words: &LineWords<'_>) -> Option<Finding> {
     }
     let session = session_of(words.bare(2)).unwrap_or(0);
     if session == 0 || session > MOST_SESSIONS {
-        return Some(Finding {
+        return Some(Diagnostic {
             span: words.span(2),
             said: say("there is no session `%`", "sessions are s1 to s1024"),
         });
@@ -319,7 +319,7 @@ fn is_cause(word: &[u8]) -> bool {
 }
 
 // What is wrong with the words of a reply.
-fn wrong_ending(words: &LineWords<'_>) -> Option<Finding> {
+fn wrong_ending(words: &LineWords<'_>) -> Option<Diagnostic> {
     let verb = words.bare(2);
     let is_done = is_same_word(verb, b"done");
     let is_refused = is_same_word(verb, b"refused");
@@ -368,13 +368,13 @@ fn wrong_ending(words: &LineWords<'_>) -> Option<Finding> {
 }
 
 // What is wrong with a line `end`.
-fn wrong_end(words: &LineWords<'_>) -> Option<Finding> {
+fn wrong_end(words: &LineWords<'_>) -> Option<Diagnostic> {
     if let Some(found) = wrong_call(words, 1) {
         return Some(found);
     }
     let number = integer_of(words.bare(1)).unwrap_or(0);
     if number == 0 || number > MOST_CALLS {
-        return Some(Finding {
+        return Some(Diagnostic {
             span: words.span(1),
             said: no_number(),
         });
@@ -383,7 +383,7 @@ fn wrong_end(words: &LineWords<'_>) -> Option<Finding> {
 }
 
 // What is said of a line that begins with another word.
-fn of_first_word(words: &LineWords<'_>) -> Said {
+fn of_first_word(words: &LineWords<'_>) -> Message {
     let word = words.bare(0);
     if is_same_word(word, b"object") {
         return say(
@@ -410,7 +410,7 @@ fn of_first_word(words: &LineWords<'_>) -> Said {
 }
 
 // What is wrong with the first line, which names the object.
-fn of_line_one() -> Said {
+fn of_line_one() -> Message {
     say("line 1 is `object NAME` alone", "as in `object cell`")
 }
 
@@ -427,7 +427,7 @@ pub(crate) fn push_bad(
         words,
         number,
     } = faulty;
-    let whole = Finding {
+    let whole = Diagnostic {
         span: words.line,
         said: of_line_one(),
     };
@@ -456,7 +456,7 @@ pub(crate) fn push_bad(
             return push_finding(alloc, out, page, found);
         }
     }
-    let first = Finding {
+    let first = Diagnostic {
         span: words.span(0),
         said: of_first_word(words),
     };

@@ -1,12 +1,12 @@
 //! Starts that a path does not let.
 
 use crate::reply::{operation_name, push_counted, push_numbered};
-use crate::story::{FaultyLine, Seen, Story, operation_named};
+use crate::story::{FaultyLine, SeenCall, Story, operation_named};
 use decl_core::object::Object;
 use itoa::Buffer;
 use note_core::finding::{only, two};
 use note_core::page::{Page, push_help, push_note};
-use note_core::said::Words;
+use note_core::said::MessageWords;
 use note_core::span::Span;
 use note_core::tokens::{
     count_to, find_name, first_tokens, from_symbol, name_of, section, tokens_from,
@@ -62,7 +62,7 @@ fn names(object: &Object, path: &[Token], place: usize) -> bool {
 }
 
 // Whether a call is active: it has started, and has not ended.
-fn is_active(call: &Option<Seen>) -> bool {
+fn is_active(call: &Option<SeenCall>) -> bool {
     match call {
         Some(call) => call.ended.is_none(),
         None => false,
@@ -74,7 +74,7 @@ fn push_active(
     out: &mut Vec<u8>,
     page: Page<'_>,
     object: &Object,
-    call: &Option<Seen>,
+    call: &Option<SeenCall>,
     number: usize,
 ) -> Result<(), AllocError> {
     match call {
@@ -126,7 +126,7 @@ fn push_all_active(
 }
 
 // Whether a call is one of an operation that a path names.
-fn is_of(object: &Object, path: &[Token], call: &Option<Seen>) -> bool {
+fn is_of(object: &Object, path: &[Token], call: &Option<SeenCall>) -> bool {
     match call {
         Some(call) => names(object, path, call.operation),
         None => false,
@@ -154,7 +154,7 @@ fn counts(story: &Story, place: usize) -> (u64, u64) {
 fn push_count(out: &mut Vec<u8>, name: &[u8], started: u64, ended: u64) -> Result<(), AllocError> {
     let mut first = Buffer::new();
     let mut second = Buffer::new();
-    let words = Words {
+    let words = MessageWords {
         first: name,
         second: first.format(started).as_bytes(),
         third: second.format(ended).as_bytes(),

@@ -3,16 +3,16 @@
 use crate::verb::{Verb, verb_like, verb_of};
 use decl_core::object::Object;
 use note_core::finding::{
-    Finding, surplus, wrong_call, wrong_data, wrong_name, wrong_session, wrong_word,
+    Diagnostic, surplus, wrong_call, wrong_data, wrong_name, wrong_session, wrong_word,
 };
 use note_core::line_words::LineWords;
-use note_core::said::{Said, say};
+use note_core::said::{Message, say};
 use path_tree::name::is_identifier;
 use text_core::words::is_same_word;
 use word_core::number::{integer_of, session_of};
 
 // What is wrong with a line that begins with `call`.
-fn wrong_call_line(words: &LineWords<'_>) -> Option<Finding> {
+fn wrong_call_line(words: &LineWords<'_>) -> Option<Diagnostic> {
     if let Some(found) = wrong_session(words, 1) {
         return Some(found);
     }
@@ -26,7 +26,7 @@ fn wrong_call_line(words: &LineWords<'_>) -> Option<Finding> {
 }
 
 // What is wrong with the key of a call, which begins with `#`.
-fn wrong_key(words: &LineWords<'_>, is_right: bool) -> Option<Finding> {
+fn wrong_key(words: &LineWords<'_>, is_right: bool) -> Option<Diagnostic> {
     let wrong = say(
         "`%` is not the key of a call",
         "a key is `#` and a number: `#1` for the first call of the session, `#2` for its second one and so on",
@@ -35,7 +35,7 @@ fn wrong_key(words: &LineWords<'_>, is_right: bool) -> Option<Finding> {
 }
 
 // What is wrong with a line that begins with `do`.
-fn wrong_do_line(words: &LineWords<'_>) -> Option<Finding> {
+fn wrong_do_line(words: &LineWords<'_>) -> Option<Diagnostic> {
     if let Some(found) = wrong_session(words, 1) {
         return Some(found);
     }
@@ -50,7 +50,7 @@ fn wrong_do_line(words: &LineWords<'_>) -> Option<Finding> {
 }
 
 // What is wrong with an operation, which is the word of this number, and its arguments.
-fn wrong_operation(words: &LineWords<'_>, number: usize) -> Option<Finding> {
+fn wrong_operation(words: &LineWords<'_>, number: usize) -> Option<Diagnostic> {
     if let Some(found) = wrong_name(words, number, is_identifier(words.bare(number))) {
         return Some(found);
     }
@@ -58,7 +58,7 @@ fn wrong_operation(words: &LineWords<'_>, number: usize) -> Option<Finding> {
 }
 
 // What is wrong with a line that begins with `step`.
-fn wrong_step_line(words: &LineWords<'_>) -> Option<Finding> {
+fn wrong_step_line(words: &LineWords<'_>) -> Option<Diagnostic> {
     if let Some(found) = wrong_call(words, 1) {
         return Some(found);
     }
@@ -79,7 +79,7 @@ fn wrong_step_line(words: &LineWords<'_>) -> Option<Finding> {
 }
 
 // What is wrong with a line that begins with this verb.
-fn wrong_line(verb: Verb, words: &LineWords<'_>) -> Option<Finding> {
+fn wrong_line(verb: Verb, words: &LineWords<'_>) -> Option<Diagnostic> {
     match verb {
         Verb::Call => wrong_call_line(words),
         Verb::Do => wrong_do_line(words),
@@ -97,7 +97,7 @@ fn wrong_line(verb: Verb, words: &LineWords<'_>) -> Option<Finding> {
 }
 
 // What is said of a first word that begins lines of other texts.
-fn of_other_text(word: &[u8]) -> Option<Said> {
+fn of_other_text(word: &[u8]) -> Option<Message> {
     if is_same_word(word, b"object") {
         return Some(say(
             "line 1 alone names an object",
@@ -120,7 +120,7 @@ fn of_other_text(word: &[u8]) -> Option<Said> {
 }
 
 // What is said of a first word that begins answers.
-fn of_answer(word: &[u8]) -> Option<Said> {
+fn of_answer(word: &[u8]) -> Option<Message> {
     if is_same_word(word, b"started")
         || is_same_word(word, b"done")
         || is_same_word(word, b"refused")
@@ -146,7 +146,7 @@ fn is_operation(object: &Object, word: &[u8]) -> bool {
 }
 
 // What is said of a line of no verb.
-fn of_first_word(words: &LineWords<'_>, object: &Object) -> Said {
+fn of_first_word(words: &LineWords<'_>, object: &Object) -> Message {
     let word = words.bare(0);
     if let Some(said) = of_other_text(word) {
         return said;
@@ -176,7 +176,7 @@ pub(crate) enum Closest {
 }
 
 // The form that is to be told of a line of this verb: a step has two, which what is said of it has.
-fn form_told(verb: Verb, finding: Finding) -> Closest {
+fn form_told(verb: Verb, finding: Diagnostic) -> Closest {
     if verb == Verb::Step || finding.said.help == verb.form() {
         Closest::Told
     } else {
@@ -185,8 +185,8 @@ fn form_told(verb: Verb, finding: Finding) -> Closest {
 }
 
 /// What is wrong with a line that says nothing that a script may say, and the form that it comes closest to.
-pub(crate) fn wrong_in_line(words: &LineWords<'_>, object: &Object) -> (Finding, Closest) {
-    let first = Finding {
+pub(crate) fn wrong_in_line(words: &LineWords<'_>, object: &Object) -> (Diagnostic, Closest) {
+    let first = Diagnostic {
         span: words.span(0),
         said: of_first_word(words, object),
     };

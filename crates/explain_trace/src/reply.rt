@@ -1,6 +1,6 @@
 //! Ends that tell another reply than the object gives, and ends of calls that do not run.
 
-use crate::story::{LineAt, MOST_CALLS, Seen, Story, reply_to};
+use crate::story::{LineAt, MOST_CALLS, SeenCall, Story, reply_to};
 use decl_core::footprint::{is_in, reads};
 use decl_core::id::MOST_PARTS;
 use decl_core::object::Object;
@@ -92,7 +92,7 @@ pub(crate) fn number_in(words: &LineWords<'_>) -> u32 {
 }
 
 /// The call of this number.
-pub(crate) fn call_of(story: &Story, number: u32) -> Option<&Seen> {
+pub(crate) fn call_of(story: &Story, number: u32) -> Option<&SeenCall> {
     if number > MOST_CALLS {
         return None;
     }

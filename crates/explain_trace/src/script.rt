@@ -3,7 +3,7 @@
 use crate::called::push_called;
 use crate::forms::{Closest, wrong_in_line};
 use check_core::head::named_object;
-use check_core::open::{Opened, open_script};
+use check_core::open::{OpenedScript, open_script};
 use decl_core::object::Object;
 use note_core::files::Files;
 use note_core::finding::{only, push_finding};
@@ -167,8 +167,8 @@ pub fn explain_script(
     match named_object(alloc, text)? {
         None => push_unnamed(alloc, &mut out, page)?,
         Some(name) => match open_script(alloc, source, text)? {
-            Opened::Ready(accepted) => push_lines(alloc, &mut out, page, accepted.object())?,
-            Opened::Told(_) => push_lacking(alloc, &mut out, page, files, source, &name)?,
+            OpenedScript::Ready(accepted) => push_lines(alloc, &mut out, page, accepted.object())?,
+            OpenedScript::Told(_) => push_lacking(alloc, &mut out, page, files, source, &name)?,
         },
     }
     Ok(out)

@@ -30,7 +30,7 @@ pub(crate) struct LineAt {
 
 /// A call that a trace told.
 #[derive(Drop)]
-pub(crate) struct Seen {
+pub(crate) struct SeenCall {
     /// Its operation, by its place.
     pub operation: usize,
     pub arguments: Vec<Datum>,
@@ -42,7 +42,7 @@ pub(crate) struct Seen {
 #[derive(Drop)]
 pub(crate) struct Story {
     pub values: Vec<Value>,
-    pub calls: Vec<Option<Seen>>,
+    pub calls: Vec<Option<SeenCall>>,
 }
 
 /// The first faulty line of a trace of an object: its page, what the lines before it told, its words, and its number,
@@ -93,7 +93,7 @@ pub(crate) fn operation_named(object: &Object, name: &[u8]) -> Option<usize> {
 pub(crate) fn reply_to(
     alloc: Global,
     object: &Object,
-    call: &Seen,
+    call: &SeenCall,
     values: &mut Vec<Value>,
 ) -> Result<Option<Reply>, AllocError> {
     match object.operations.get(call.operation) {
@@ -142,7 +142,7 @@ fn hear_part(
 }
 
 // Puts a call in the place of its number.
-fn put(calls: &mut Vec<Option<Seen>>, number: u32, call: Seen) -> Result<(), AllocError> {
+fn put(calls: &mut Vec<Option<SeenCall>>, number: u32, call: SeenCall) -> Result<(), AllocError> {
     if number > MOST_CALLS {
         return Ok(());
     }
@@ -176,7 +176,7 @@ fn started<'a, 'b>(object: &Object, words: &'b [Word<'a>]) -> Option<(usize, &'b
 fn hear_start(
     alloc: Global,
     object: &Object,
-    calls: &mut Vec<Option<Seen>>,
+    calls: &mut Vec<Option<SeenCall>>,
     words: &[Word<'_>],
     line: LineAt,
 ) -> Result<(), AllocError> {
@@ -190,7 +190,7 @@ fn hear_start(
         Some(arguments) => put(
             calls,
             number,
-            Seen {
+            SeenCall {
                 operation,
                 arguments,
                 started: line,

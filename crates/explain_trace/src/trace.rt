@@ -5,9 +5,9 @@ use crate::breach::push_breach;
 use crate::reply::{push_not_running, push_wrong_reply};
 use crate::story::{FaultyLine, story_before};
 use audit_core::audit::audit;
-use audit_core::verdict::Verdict;
+use audit_core::verdict::AuditVerdict;
 use check_core::head::named_object;
-use check_core::open::{Opened, open_script};
+use check_core::open::{OpenedScript, open_script};
 use decl_core::analyse::Accepted;
 use decl_core::object::Object;
 use note_core::files::Files;
@@ -17,13 +17,13 @@ use note_core::page::Page;
 use std::alloc::{AllocError, Global};
 
 // The line of a verdict, if it tells one.
-fn line_of(verdict: Verdict) -> Option<u64> {
+fn line_of(verdict: AuditVerdict) -> Option<u64> {
     match verdict {
-        Verdict::BadLine(line) => Some(line),
-        Verdict::BreaksPath(line, _) => Some(line),
-        Verdict::WrongReply(line) => Some(line),
-        Verdict::NotRunning(line) => Some(line),
-        Verdict::Legal { .. } | Verdict::Memory => None,
+        AuditVerdict::BadLine(line) => Some(line),
+        AuditVerdict::BreaksPath(line, _) => Some(line),
+        AuditVerdict::WrongReply(line) => Some(line),
+        AuditVerdict::NotRunning(line) => Some(line),
+        AuditVerdict::Legal { .. } | AuditVerdict::Memory => None,
     }
 }
 
@@ -34,7 +34,7 @@ fn push_fault(
     page: Page<'_>,
     declared: Page<'_>,
     object: &Object,
-    verdict: Verdict,
+    verdict: AuditVerdict,
 ) -> Result<(), AllocError> {
     let Some(number) = line_of(verdict) else {
         return Ok(());
@@ -49,9 +49,9 @@ fn push_fault(
         number,
     };
     match verdict {
-        Verdict::BreaksPath(_, path) => push_breach(alloc, out, faulty, declared, path),
-        Verdict::WrongReply(_) => push_wrong_reply(alloc, out, page, object, &story, &words),
-        Verdict::NotRunning(_) => push_not_running(out, page, object, &story, &words),
+        AuditVerdict::BreaksPath(_, path) => push_breach(alloc, out, faulty, declared, path),
+        AuditVerdict::WrongReply(_) => push_wrong_reply(alloc, out, page, object, &story, &words),
+        AuditVerdict::NotRunning(_) => push_not_running(out, page, object, &story, &words),
         _ => push_bad(alloc, out, faulty),
     }
 }
@@ -91,10 +91,10 @@ pub fn explain_trace(
     match named_object(alloc, text)? {
         None => push_unnamed(alloc, &mut out, page)?,
         Some(name) => match open_script(alloc, source, text)? {
-            Opened::Ready(accepted) => {
+            OpenedScript::Ready(accepted) => {
                 push_verdict(alloc, &mut out, page, files, source, &accepted)?
             }
-            Opened::Told(_) => push_lacking(alloc, &mut out, page, files, source, &name)?,
+            OpenedScript::Told(_) => push_lacking(alloc, &mut out, page, files, source, &name)?,
         },
     }
     Ok(out)

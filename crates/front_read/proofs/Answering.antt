@@ -16,7 +16,7 @@ use Rattle.live_core.specs.Front.{IsAnswer}
 use Rattle.live_core.specs.Text.{answer_words}
 use Rattle.live_core.specs.declared.front.Answer.{Answer}
 use Rattle.live_core.specs.declared.front.Answer.TheVariants.{Replied, Cancelled}
-use Rattle.front_read.specs.declared.answer.Ended.TheVariants as ended
+use Rattle.front_read.specs.declared.answer.RememberedEnd.TheVariants as ended
 use Rattle.front_read.specs.Answers.{tells_datum, is_some, FindsAnswer}
 use Rattle.front_read.proofs.Calling.{some_same}
 

@@ -39,7 +39,7 @@ use Rattle.word_core.specs.Text.{operation_name}
 use Rattle.live_core.specs.declared.past.PastRun.{PastRun}
 use Rattle.live_core.specs.declared.past.PastRun.TheVariants.{Calls, Begins, Ends}
 use Rattle.live_core.specs.declared.front.CarriedCall.{CarriedCall}
-use Rattle.live_core.specs.declared.front.Client.{Client}
+use Rattle.live_core.specs.declared.front.NamedClient.{NamedClient}
 use Rattle.live_core.specs.declared.front.KeptCall.{KeptCall}
 use Rattle.live_core.specs.declared.front.Answer.{Answer}
 use Rattle.live_core.specs.declared.front.Answer.TheVariants.{Replied, Cancelled}
@@ -198,7 +198,7 @@ carried_clear o named c is = (
   ),
 )
 
-pub client_clear : (c : Client) → IsClient c → EachSafe (row_words (codes "client") client_words c)
+pub client_clear : (c : NamedClient) → IsClient c → EachSafe (row_words (codes "client") client_words c)
 client_clear c is = (known (codes "client") refl refl, (session_safe c.session (omega (arith, is.session.1)), (name_safe c.name is.name, (decimal_safe c.keys is.keys, tt))))
 
 answer_safe : (answer : Answer) → IsAnswer answer → EachSafe (answer_words answer)

@@ -12,7 +12,7 @@ use Rattle.word_core.specs.Text.{part_words, lines_of}
 use Rattle.live_core.specs.declared.past.PastRun.{PastRun}
 use Rattle.live_core.specs.declared.past.PastRun.TheVariants.{Calls, Begins, Ends}
 use Rattle.live_core.specs.declared.front.CarriedCall.{CarriedCall}
-use Rattle.live_core.specs.declared.front.Client.{Client}
+use Rattle.live_core.specs.declared.front.NamedClient.{NamedClient}
 use Rattle.live_core.specs.declared.front.KeptCall.{KeptCall}
 use Rattle.live_core.specs.Front.{Every, IsKey, IsLong, IsRun, IsCarried, IsClient, IsKept, Opening}
 use Rattle.live_core.specs.Text.{rows, object_words, source_words, base_words, run_words, carried_words, client_words, kept_words}
@@ -113,16 +113,16 @@ kept_not o verb text rest [] are other isnt = ap (has_verb verb) are.stand ∙ i
 kept_not o verb text rest (k ∷ ks) are other isnt =
     ap (has_verb verb) (are.stand ∙ split_first (codes "kept") (kept_words o) k ks rest) ∙ other k (lines_of (rows (codes "kept") (kept_words o) ks) ++ rest)
 
-clients_not : (o : ObjectForm) (verb text rest : List ℕ) (cs : List Client) → AreRows IsClient (codes "client") client_words text cs rest → ((c : Client) (t : List ℕ) → has_verb verb (line_of (row_words (codes "client") client_words c) ++ t) ≡ false)
+clients_not : (o : ObjectForm) (verb text rest : List ℕ) (cs : List NamedClient) → AreRows IsClient (codes "client") client_words text cs rest → ((c : NamedClient) (t : List ℕ) → has_verb verb (line_of (row_words (codes "client") client_words c) ++ t) ≡ false)
     → has_verb verb rest ≡ false → has_verb verb text ≡ false
 clients_not o verb text rest [] are other isnt = ap (has_verb verb) are.stand ∙ isnt
 clients_not o verb text rest (c ∷ cs) are other isnt =
     ap (has_verb verb) (are.stand ∙ split_first (codes "client") client_words c cs rest) ∙ other c (lines_of (rows (codes "client") client_words cs) ++ rest)
 
-no_client : (o : ObjectForm) (text rest : List ℕ) (cs : List Client) (ks : List KeptCall) (on : OnClients o text cs ks rest) → has_verb (codes "client") on.mid ≡ false
+no_client : (o : ObjectForm) (text rest : List ℕ) (cs : List NamedClient) (ks : List KeptCall) (on : OnClients o text cs ks rest) → has_verb (codes "client") on.mid ≡ false
 no_client o text rest cs ks on = kept_not o (codes "client") on.mid rest ks on.kept_are (λ k t. refl) (is_end rest on.ends).client
 
-no_carried : (o : ObjectForm) (text rest : List ℕ) (cs : List Client) (ks : List KeptCall) → OnClients o text cs ks rest → has_verb (codes "carried") text ≡ false
+no_carried : (o : ObjectForm) (text rest : List ℕ) (cs : List NamedClient) (ks : List KeptCall) → OnClients o text cs ks rest → has_verb (codes "carried") text ≡ false
 no_carried o text rest cs ks on =
     clients_not o (codes "carried") text on.mid cs on.clients_are (λ c t. refl) (kept_not o (codes "carried") on.mid rest ks on.kept_are (λ k t. refl) (is_end rest on.ends).carried)
 
@@ -141,10 +141,10 @@ pub clients_break : (o : ObjectForm) (text rest : List ℕ) → Breaks IsClient 
 clients_break o text rest breaks =
     ((λ cs ks r on. rows_stuck IsClient (codes "client") client_words text rest on.mid cs client_clear begin_client breaks on.clients_are (no_client o text r cs ks on)), breaks_cut IsClient (codes "client") client_words text rest breaks)
 
-clients_mid : (o : ObjectForm) (text mid r : List ℕ) (cs ds : List Client) (ks : List KeptCall) → AreRows IsClient (codes "client") client_words text cs mid → has_verb (codes "client") mid ≡ false → (on : OnClients o text ds ks r) → (cs ≡ ds) × (mid ≡ on.mid)
+clients_mid : (o : ObjectForm) (text mid r : List ℕ) (cs ds : List NamedClient) (ks : List KeptCall) → AreRows IsClient (codes "client") client_words text cs mid → has_verb (codes "client") mid ≡ false → (on : OnClients o text ds ks r) → (cs ≡ ds) × (mid ≡ on.mid)
 clients_mid o text mid r cs ds ks are isnt on = rows_same IsClient (codes "client") client_words text cs ds mid on.mid client_clear client_once begin_client are on.clients_are isnt (no_client o text r ds ks on)
 
-pub kept_break : (o : ObjectForm) (text mid rest : List ℕ) (cs : List Client) → HasNames o → AreRows IsClient (codes "client") client_words text cs mid → has_verb (codes "client") mid ≡ false → Breaks (IsKept o) (codes "kept") (kept_words o) mid rest
+pub kept_break : (o : ObjectForm) (text mid rest : List ℕ) (cs : List NamedClient) → HasNames o → AreRows IsClient (codes "client") client_words text cs mid → has_verb (codes "client") mid ≡ false → Breaks (IsKept o) (codes "kept") (kept_words o) mid rest
     → NoClients o text × IsCut text rest
 kept_break o text mid rest cs named are isnt breaks = (
   (λ ds ks r on.
@@ -157,7 +157,7 @@ rests_same : (o : ObjectForm) (mid rest r : List ℕ) (ks js : List KeptCall) �
     → has_verb (codes "kept") r ≡ false → (ks ≡ js) × (rest ≡ r)
 rests_same o mid rest r ks js named p no_a q no_b = rows_same (IsKept o) (codes "kept") (kept_words o) mid ks js rest r (kept_clear o named) (kept_once o named) (begin_kept o) p q no_a no_b
 
-pub goes_break : (o : ObjectForm) (text mid rest : List ℕ) (cs : List Client) (ks : List KeptCall) → HasNames o → AreRows IsClient (codes "client") client_words text cs mid → has_verb (codes "client") mid ≡ false
+pub goes_break : (o : ObjectForm) (text mid rest : List ℕ) (cs : List NamedClient) (ks : List KeptCall) → HasNames o → AreRows IsClient (codes "client") client_words text cs mid → has_verb (codes "client") mid ≡ false
     → AreRows (IsKept o) (codes "kept") (kept_words o) mid ks rest → has_verb (codes "kept") rest ≡ false → goes_on rest ≡ true → NoClients o text × IsCut text rest
 goes_break o text mid rest cs ks named are isnt kept_are no_kept goes = (
   (λ ds js r on.
@@ -167,7 +167,7 @@ goes_break o text mid rest cs ks named are isnt kept_are no_kept goes = (
   further text mid rest (lines_of (rows (codes "client") client_words cs)) are.stand (record { before = lines_of (rows (codes "kept") (kept_words o) ks); cut = kept_are.stand }),
 )
 
-clients_same : (o : ObjectForm) (text r s : List ℕ) (cs ds : List Client) (ks js : List KeptCall) → HasNames o → OnClients o text cs ks r → OnClients o text ds js s → (cs ≡ ds) × (ks ≡ js) × (r ≡ s)
+clients_same : (o : ObjectForm) (text r s : List ℕ) (cs ds : List NamedClient) (ks js : List KeptCall) → HasNames o → OnClients o text cs ks r → OnClients o text ds js s → (cs ≡ ds) × (ks ≡ js) × (r ≡ s)
 clients_same o text r s cs ds ks js named p q =
     let first = clients_mid o text p.mid s cs ds js p.clients_are (no_client o text r cs ks p) q in
     let second = rests_same o p.mid r s ks js named p.kept_are (is_end r p.ends).kept (subst (λ m. AreRows (IsKept o) (codes "kept") (kept_words o) m js s) (sym first.1) q.kept_are) (is_end s q.ends).kept in
@@ -180,7 +180,7 @@ carried_break o text rest named breaks = (
   breaks_cut (IsCarried o) (codes "carried") (carried_words o) text rest breaks,
 )
 
-carried_mid : (o : ObjectForm) (text mid r : List ℕ) (xs ys : List CarriedCall) (cs : List Client) (ks : List KeptCall) → HasNames o → AreRows (IsCarried o) (codes "carried") (carried_words o) text xs mid → has_verb (codes "carried") mid ≡ false
+carried_mid : (o : ObjectForm) (text mid r : List ℕ) (xs ys : List CarriedCall) (cs : List NamedClient) (ks : List KeptCall) → HasNames o → AreRows (IsCarried o) (codes "carried") (carried_words o) text xs mid → has_verb (codes "carried") mid ≡ false
     → (on : OnCalls o text ys cs ks r) → (xs ≡ ys) × (mid ≡ on.mid)
 carried_mid o text mid r xs ys cs ks named are isnt on =
     rows_same (IsCarried o) (codes "carried") (carried_words o) text xs ys mid on.mid (carried_clear o named) (carried_once o) (begin_carried o) are on.carried_are isnt (no_carried o on.mid r cs ks on.clients_on)
@@ -192,7 +192,7 @@ no_calls o text mid rest xs named are isnt none = (
   further text mid rest (lines_of (rows (codes "carried") (carried_words o) xs)) are.stand none.1,
 )
 
-calls_same : (o : ObjectForm) (text r s : List ℕ) (xs ys : List CarriedCall) (cs ds : List Client) (ks js : List KeptCall) → HasNames o → OnCalls o text xs cs ks r → OnCalls o text ys ds js s → (xs ≡ ys) × (cs ≡ ds) × (ks ≡ js) × (r ≡ s)
+calls_same : (o : ObjectForm) (text r s : List ℕ) (xs ys : List CarriedCall) (cs ds : List NamedClient) (ks js : List KeptCall) → HasNames o → OnCalls o text xs cs ks r → OnCalls o text ys ds js s → (xs ≡ ys) × (cs ≡ ds) × (ks ≡ js) × (r ≡ s)
 calls_same o text r s xs ys cs ds ks js named p q =
     let first = carried_mid o text p.mid s xs ys ds js named p.carried_are (no_carried o p.mid r cs ks p.clients_on) q in
     let more = clients_same o p.mid r s cs ds ks js named p.clients_on (subst (λ m. OnClients o m ds js s) (sym first.1) q.clients_on) in
@@ -205,7 +205,7 @@ no_base o text mid rest base row none = (
   further text mid rest (line_of (base_words base)) row.stands none.1,
 )
 
-base_same : (o : ObjectForm) (text r s : List ℕ) (b d : ℕ) (xs ys : List CarriedCall) (cs ds : List Client) (ks js : List KeptCall) → HasNames o → OnBase o text b xs cs ks r → OnBase o text d ys ds js s
+base_same : (o : ObjectForm) (text r s : List ℕ) (b d : ℕ) (xs ys : List CarriedCall) (cs ds : List NamedClient) (ks js : List KeptCall) → HasNames o → OnBase o text b xs cs ks r → OnBase o text d ys ds js s
     → (b ≡ d) × (xs ≡ ys) × (cs ≡ ds) × (ks ≡ js) × (r ≡ s)
 base_same o text r s b d xs ys cs ds ks js named p q =
     let first = row_cut IsLong base_words text p.mid q.mid b d base_clear p.base_is q.base_is in
@@ -217,7 +217,7 @@ pub past_break : (o : ObjectForm) (text rest : List ℕ) → HasNames o → Brea
 past_break o text rest named breaks =
     ((λ runs b xs cs ks r on. rows_stuck (IsRun o) (codes "past") (run_words o) text rest on.mid runs (run_clear o named) (begin_run o) breaks on.past_is (no_past on.mid on.base_on.mid b on.base_on.base_is)), breaks_cut (IsRun o) (codes "past") (run_words o) text rest breaks)
 
-past_mid : (o : ObjectForm) (text mid r : List ℕ) (runs others : List PastRun) (b : ℕ) (xs : List CarriedCall) (cs : List Client) (ks : List KeptCall) → HasNames o → AreRows (IsRun o) (codes "past") (run_words o) text runs mid → has_verb (codes "past") mid ≡ false
+past_mid : (o : ObjectForm) (text mid r : List ℕ) (runs others : List PastRun) (b : ℕ) (xs : List CarriedCall) (cs : List NamedClient) (ks : List KeptCall) → HasNames o → AreRows (IsRun o) (codes "past") (run_words o) text runs mid → has_verb (codes "past") mid ≡ false
     → (on : OnPast o text others b xs cs ks r) → (runs ≡ others) × (mid ≡ on.mid)
 past_mid o text mid r runs others b xs cs ks named are isnt on =
     rows_same (IsRun o) (codes "past") (run_words o) text runs others mid on.mid (run_clear o named) (run_once o named) (begin_run o) are on.past_is isnt (no_past on.mid on.base_on.mid b on.base_on.base_is)

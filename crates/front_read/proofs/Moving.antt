@@ -15,7 +15,7 @@ use Rattle.word_core.specs.TraceLaws.{HasNames}
 use Rattle.word_core.specs.Text.{part_words, parts_words, lines_of}
 use Rattle.live_core.specs.declared.past.PastRun.{PastRun}
 use Rattle.live_core.specs.declared.front.CarriedCall.{CarriedCall}
-use Rattle.live_core.specs.declared.front.Client.{Client}
+use Rattle.live_core.specs.declared.front.NamedClient.{NamedClient}
 use Rattle.live_core.specs.declared.front.KeptCall.{KeptCall}
 use Rattle.live_core.specs.Front.{Every, IsRun, IsCarried, IsClient, IsKept, IsKey, IsLong, Opening, HasRows}
 use Rattle.live_core.specs.Text.{rows, run_words, carried_words, client_words, kept_words, object_words, source_words, base_words, runs_text, carried_text, clients_text, kept_text, calls_text, behind_parts, front_text}
@@ -120,7 +120,7 @@ with_base o g base h e = record { epoch = h.epoch; source = h.source; kinds = h.
 with_carried : (o : ObjectForm) (g : Opening) (xs : List CarriedCall) → HasRows o g → Every (IsCarried o) xs → HasRows o (record g { carried = xs })
 with_carried o g xs h e = record { epoch = h.epoch; source = h.source; kinds = h.kinds; contents = h.contents; past = h.past; base = h.base; carried = e; clients = h.clients; kept = h.kept }
 
-with_clients : (o : ObjectForm) (g : Opening) (cs : List Client) → HasRows o g → Every IsClient cs → HasRows o (record g { clients = cs })
+with_clients : (o : ObjectForm) (g : Opening) (cs : List NamedClient) → HasRows o g → Every IsClient cs → HasRows o (record g { clients = cs })
 with_clients o g cs h e = record { epoch = h.epoch; source = h.source; kinds = h.kinds; contents = h.contents; past = h.past; base = h.base; carried = h.carried; clients = e; kept = h.kept }
 
 with_kept : (o : ObjectForm) (g : Opening) (ks : List KeptCall) → HasRows o g → Every (IsKept o) ks → HasRows o (record g { kept = ks })

@@ -5,7 +5,7 @@ use Rattle.value_core.specs.Contents.{Contents}
 use Rattle.decl_core.specs.ObjectForm.{ObjectForm}
 use Rattle.live_core.specs.declared.past.PastRun.{PastRun}
 use Rattle.live_core.specs.declared.front.CarriedCall.{CarriedCall}
-use Rattle.live_core.specs.declared.front.Client.{Client}
+use Rattle.live_core.specs.declared.front.NamedClient.{NamedClient}
 use Rattle.live_core.specs.declared.front.KeptCall.{KeptCall}
 use Rattle.live_core.specs.Front.{Opening}
 use Rattle.front_read.specs.Parts.{AreParts}
@@ -23,19 +23,19 @@ NoParts parts text = (values : List Contents) (rest : List ℕ) → AreParts par
 -- no rows from those of the clients on stand here, and so on
 abbrev pub NoClients : ObjectForm → List ℕ → Type 0
 NoClients o text =
-    (clients : List Client) (kept : List KeptCall) (rest : List ℕ) → OnClients o text clients kept rest → ⊥
+    (clients : List NamedClient) (kept : List KeptCall) (rest : List ℕ) → OnClients o text clients kept rest → ⊥
 
 abbrev pub NoCalls : ObjectForm → List ℕ → Type 0
-NoCalls o text = (carried : List CarriedCall) (clients : List Client) (kept : List KeptCall) (rest : List ℕ) →
+NoCalls o text = (carried : List CarriedCall) (clients : List NamedClient) (kept : List KeptCall) (rest : List ℕ) →
     OnCalls o text carried clients kept rest → ⊥
 
 abbrev pub NoBase : ObjectForm → List ℕ → Type 0
 NoBase o text =
-    (base : ℕ) (carried : List CarriedCall) (clients : List Client) (kept : List KeptCall) (rest : List ℕ) →
+    (base : ℕ) (carried : List CarriedCall) (clients : List NamedClient) (kept : List KeptCall) (rest : List ℕ) →
     OnBase o text base carried clients kept rest → ⊥
 
 abbrev pub NoPast : ObjectForm → List ℕ → Type 0
-NoPast o text = (past : List PastRun) (base : ℕ) (carried : List CarriedCall) (clients : List Client)
+NoPast o text = (past : List PastRun) (base : ℕ) (carried : List CarriedCall) (clients : List NamedClient)
     (kept : List KeptCall) (rest : List ℕ) → OnPast o text past base carried clients kept rest → ⊥
 
 abbrev pub NoneBehindSource : ObjectForm → List ℕ → Type 0

@@ -19,12 +19,12 @@ use Rattle.word_core.specs.TraceLaws.{HasNames}
 use Rattle.live_core.specs.declared.past.PastRun.{PastRun}
 use Rattle.live_core.specs.declared.past.PastRun.TheVariants.{Calls, Begins, Ends}
 use Rattle.live_core.specs.declared.front.CarriedCall.{CarriedCall}
-use Rattle.live_core.specs.declared.front.Client.{Client}
+use Rattle.live_core.specs.declared.front.NamedClient.{NamedClient}
 use Rattle.live_core.specs.declared.front.KeptCall.{KeptCall}
 use Rattle.live_core.specs.declared.front.Answer.{Answer}
 use Rattle.live_core.specs.Front.{IsOperation, IsCall, IsRun, IsCarried, IsClient, IsKept, IsAnswer}
 use Rattle.live_core.specs.Text.{run_words, call_words, carried_words, client_words, answer_words, kept_words}
-use Rattle.front_read.specs.declared.answer.Ended.{Ended}
+use Rattle.front_read.specs.declared.answer.RememberedEnd.{RememberedEnd}
 use Rattle.front_read.specs.declared.carried.CarriedHead.{CarriedHead}
 use Rattle.front_read.specs.declared.carried.CarriedRow.{CarriedRow}
 use Rattle.front_read.specs.declared.kept.KeptHead.{KeptHead}
@@ -72,16 +72,16 @@ no_head o ws none =
     ((λ x is same. absurd (not_some {X = CarriedHead × List Word} (record { number = x.number; told = x.told; session = x.session }, call_words o x.operation x.arguments) (none ∙ ap carried_head same ∙ carried_told o x is))), tt)
 
 -- clients
-abbrev pub named_row : Client → List ℕ → Client
+abbrev pub named_row : NamedClient → List ℕ → NamedClient
 named_row client name = record { session = client.session; name = name; keys = client.keys }
 
-pub client_takes : (client : Client) (ws : List Word) (text first : List ℕ) (old : List Client) (found : Option (Bor (List ℕ))) (new : List Client) → Some client ≡ client_of ws → IsFirstLine text first → AreWords first ws
+pub client_takes : (client : NamedClient) (ws : List Word) (text first : List ℕ) (old : List NamedClient) (found : Option (Bor (List ℕ))) (new : List NamedClient) → Some client ≡ client_of ws → IsFirstLine text first → AreWords first ws
     → TakesNamed client text old found new → Takes IsClient (row_words (codes "client") client_words) text old found new
 client_takes client ws text first old None new said is are takes =
     λ x rest row.
     let same = same_words text first rest ws (row_words (codes "client") client_words x) is are (client_clear x row.is) row.stands in
     let this : client ≡ x = some_same (said ∙ ap client_of same ∙ client_told x row.is) in
-    takes rest (subst (λ (c : Client). IsName c.name) (sym this) row.is.name) (row.stands ∙ ap (λ c. line_of (row_words (codes "client") client_words c) ++ rest) (sym this))
+    takes rest (subst (λ (c : NamedClient). IsName c.name) (sym this) row.is.name) (row.stands ∙ ap (λ c. line_of (row_words (codes "client") client_words c) ++ rest) (sym this))
 client_takes client ws text first old (Some rest) new said is are takes =
     let fits = client_is ws client (sym said) in
     (named_row client takes.0, record { is = record { session = fits.0; name = takes.1; keys = fits.1 }; stands = takes.2 }, takes.3)
@@ -238,13 +238,13 @@ pub call_no_datum : (o : ObjectForm) (op : ℕ) (arguments : List Datum) → Has
 call_no_datum o op arguments named is = ap (λ r. is_some (option_map Integer r)) (operation_no_integer o op named is.operation)
 
 -- the words behind the head of a remembered call
-behind_same : (o : ObjectForm) (ws rest : List Word) (head : KeptHead) (found : Option (Ended × ℕ)) (x : KeptCall) → HasNames o → Found head rest (kept_head ws) → FindsAnswer rest found → IsKept o x
+behind_same : (o : ObjectForm) (ws rest : List Word) (head : KeptHead) (found : Option (RememberedEnd × ℕ)) (x : KeptCall) → HasNames o → Found head rest (kept_head ws) → FindsAnswer rest found → IsKept o x
     → ws ≡ row_words (codes "kept") (kept_words o) x → (head ≡ record { session = x.session; key = x.key; told = x.told }) × (option_map (answered rest) found ≡ Some (x.answer, call_words o x.operation x.arguments))
 behind_same o ws rest head found x named first finds is same =
     let e = kept_same o ws rest head x first is same in
     (ap (λ (p : KeptHead × List Word). p.0) e, finds.0 x.answer (call_words o x.operation x.arguments) is.answer (call_no_datum o x.operation x.arguments named is.call) (ap (λ (p : KeptHead × List Word). p.1) e))
 
-pub kept_found : (o : ObjectForm) (ws rest : List Word) (head : KeptHead) (ended : Ended) (count : ℕ) (found : Option KeptRow) → HasNames o → Found head rest (kept_head ws) → FindsAnswer rest (Some (ended, count))
+pub kept_found : (o : ObjectForm) (ws rest : List Word) (head : KeptHead) (ended : RememberedEnd) (count : ℕ) (found : Option KeptRow) → HasNames o → Found head rest (kept_head ws) → FindsAnswer rest (Some (ended, count))
     → KeptBy o head (answer_of_end ended) (drop count rest) found → Finds (IsKept o) (row_words (codes "kept") (kept_words o)) kept_row ws found
 kept_found o ws rest head ended count None named first finds by = (
   (λ x is same.
@@ -281,7 +281,7 @@ no_kept_head o ws none =
     ((λ x is same. absurd (not_some {X = KeptHead × List Word} (record { session = x.session; key = x.key; told = x.told }, answer_words x.answer ++ call_words o x.operation x.arguments) (none ∙ ap kept_head same ∙ kept_told o x is))), tt)
 
 -- the client of a name that was read
-pub named_takes : (client : Client) (name text : List ℕ) (old : List Client) (found : Option (Bor (List ℕ))) (new : List Client) → IsName name → (IsName client.name → name ≡ client.name) → TakesThis (row_words (codes "client") client_words) (named_row client name) text old found new
+pub named_takes : (client : NamedClient) (name text : List ℕ) (old : List NamedClient) (found : Option (Bor (List ℕ))) (new : List NamedClient) → IsName name → (IsName client.name → name ≡ client.name) → TakesThis (row_words (codes "client") client_words) (named_row client name) text old found new
     → TakesNamed client text old found new
 named_takes client name text old None new is same takes = λ rest named stands. takes rest (stands ∙ ap (λ n. line_of (row_words (codes "client") client_words (named_row client n)) ++ rest) (sym (same named)))
 named_takes client name text old (Some rest) new is same takes = (name, is, takes.0, takes.1)
@@ -289,7 +289,7 @@ named_takes client name text old (Some rest) new is same takes = (name, is, take
 pub name_same : (bytes name : List ℕ) → name ≡ str_to_ascii_lowercase bytes → IsName bytes → name ≡ bytes
 name_same bytes name read is = read ∙ name_lower bytes is.1
 
-pub kept_ok : {E : Type 0} (o : ObjectForm) (ws rest behind : List Word) (head : KeptHead) (ended : Ended) (count : ℕ) (found : Result (Option KeptRow) E) → HasNames o → Found head rest (kept_head ws) → FindsAnswer rest (Some (ended, count)) → behind ≡ drop count rest
+pub kept_ok : {E : Type 0} (o : ObjectForm) (ws rest behind : List Word) (head : KeptHead) (ended : RememberedEnd) (count : ℕ) (found : Result (Option KeptRow) E) → HasNames o → Found head rest (kept_head ws) → FindsAnswer rest (Some (ended, count)) → behind ≡ drop count rest
     → IfOk found (KeptBy o head (answer_of_end ended) behind) → IfOk found (Finds (IsKept o) (row_words (codes "kept") (kept_words o)) kept_row ws)
 kept_ok o ws rest behind head ended count (Ok found) named first finds are by = kept_found o ws rest head ended count found named first finds (subst (λ b. KeptBy o head (answer_of_end ended) b found) are by)
 kept_ok o ws rest behind head ended count (Err e) named first finds are by = tt

@@ -7,7 +7,7 @@ use Rattle.word_core.specs.Words.{Word, bare}
 use Rattle.word_core.specs.Data.{◌>>=◌, bare_of, integer_of, session_of, session_word}
 use Rattle.word_core.proofs.Written.{written_integer, written_session}
 use Rattle.live_core.specs.declared.front.CarriedCall.{CarriedCall}
-use Rattle.live_core.specs.declared.front.Client.{Client}
+use Rattle.live_core.specs.declared.front.NamedClient.{NamedClient}
 use Rattle.live_core.specs.declared.front.KeptCall.{KeptCall}
 use Rattle.live_core.specs.Front.{IsSession, IsLong, IsCount, IsKey, IsCarried, IsClient, IsKept}
 use Rattle.live_core.specs.Text.{object_words, base_words, carried_words, client_words, kept_words, call_words, answer_words}
@@ -73,9 +73,9 @@ kept_told o k is =
     ∙ ap (λ r. r >>= λ (j : ℕ × List Word). long_first j.1 >>= head k.session j.0) (key_told k.key (bare (decimal k.told) ∷ rest) is.key)
     ∙ ap (λ r. r >>= head k.session k.key) (long_told k.told rest is.told)
 
-pub client_told : (c : Client) → IsClient c → client_of (row_words (codes "client") client_words c) ≡ Some c
+pub client_told : (c : NamedClient) → IsClient c → client_of (row_words (codes "client") client_words c) ≡ Some c
 client_told c is =
-    let make : ℕ → List ℕ → ℕ × List Word → Option Client = λ s n k. Some (record { session = s; name = n; keys = k.0 }) in
+    let make : ℕ → List ℕ → ℕ × List Word → Option NamedClient = λ s n k. Some (record { session = s; name = n; keys = k.0 }) in
     ap (λ r. r >>= λ (b : ℕ × List Word). bare_of b.1 >>= λ n. long_first n.1 >>= make b.0 n.0) (session_told c.session (bare c.name ∷ bare (decimal c.keys) ∷ []) is.session)
     ∙ ap (λ r. r >>= make c.session c.name) (long_told c.keys [] is.keys)
 
@@ -138,14 +138,14 @@ epoch_is ws epoch is =
     let e = bind_some (key_first d.0) _ epoch d.2 in
     subst IsKey (some_same e.2) (key_is d.0 e.0 e.1)
 
-pub client_is : (ws : List Word) (c : Client) → client_of ws ≡ Some c → IsSession c.session × IsLong c.keys
+pub client_is : (ws : List Word) (c : NamedClient) → client_of ws ≡ Some c → IsSession c.session × IsLong c.keys
 client_is ws c is =
     let a = bind_some (behind_verb (codes "client") ws) _ c is in
     let b = bind_some (session_first a.0) _ c a.2 in
     let n = bind_some (bare_of b.0.1) _ c b.2 in
     let k = bind_some (long_first n.0.1) _ c n.2 in
     let same = some_same k.2 in
-    (subst IsSession (ap (λ (x : Client). x.session) same) (session_is a.0 b.0 b.1), subst IsLong (ap (λ (x : Client). x.keys) same) (long_is n.0.1 k.0 k.1))
+    (subst IsSession (ap (λ (x : NamedClient). x.session) same) (session_is a.0 b.0 b.1), subst IsLong (ap (λ (x : NamedClient). x.keys) same) (long_is n.0.1 k.0 k.1))
 
 pub record IsCarriedHead (h : CarriedHead) : Type 0 where
   pub number : IsCount h.number

@@ -14,7 +14,7 @@ use Rattle.live_core.specs.Front.{Every, IsKey, IsLong, IsRun, IsCarried, IsClie
 use Rattle.live_core.specs.Text.{object_words, source_words, base_words, runs_text, carried_text, clients_text, kept_text, calls_text, behind_parts, front_text, run_words, carried_words, client_words, kept_words}
 use Rattle.live_core.specs.declared.past.PastRun.{PastRun}
 use Rattle.live_core.specs.declared.front.CarriedCall.{CarriedCall}
-use Rattle.live_core.specs.declared.front.Client.{Client}
+use Rattle.live_core.specs.declared.front.NamedClient.{NamedClient}
 use Rattle.live_core.specs.declared.front.KeptCall.{KeptCall}
 use Rattle.front_read.specs.Text.{goes_on}
 use Rattle.front_read.specs.Rows.{IsRow, AreRows, has_verb}
@@ -184,19 +184,19 @@ all_parts parts ps text old new rest takes same empty =
     subst (λ xs. AreParts parts text xs rest.now) (sym (takes.1 ∙ ap (λ xs. xs ++ takes.0) empty)) (subst (λ x. AreParts x text takes.0 rest.now) same takes.2)
 
 -- the clients, and nothing behind them
-pub end_takes : (o : ObjectForm) (text mid rest : List ℕ) (cs : List Client) (ks : List KeptCall) (found : Result (Bor (List ℕ)) (Bor (List ℕ))) → HasNames o → AreRows IsClient (codes "client") client_words text cs mid × (has_verb (codes "client") mid ≡ false)
+pub end_takes : (o : ObjectForm) (text mid rest : List ℕ) (cs : List NamedClient) (ks : List KeptCall) (found : Result (Bor (List ℕ)) (Bor (List ℕ))) → HasNames o → AreRows IsClient (codes "client") client_words text cs mid × (has_verb (codes "client") mid ≡ false)
     → AreRows (IsKept o) (codes "kept") (kept_words o) mid ks rest × (has_verb (codes "kept") rest ≡ false) → MatchResult found (λ r. (r.now ≡ rest) × (goes_on rest ≡ false)) (λ r. (r.now ≡ rest) × (goes_on rest ≡ true)) → TakesClients o text found cs ks
 end_takes o text mid rest cs ks (Ok r) named p q ends =
     subst (λ t. OnClients o text cs ks t) (sym ends.0) (record { mid = mid; clients_are = p.0; kept_are = q.0; ends = ends.1 })
 end_takes o text mid rest cs ks (Err r) named p q ends =
     subst (StuckClients o text) (sym ends.0) (row_again mid cs ks p.0 p.1 q.0 q.1 ends.1)
 
-pub calls_take : (o : ObjectForm) (text mid : List ℕ) (xs : List CarriedCall) (cs : List Client) (ks : List KeptCall) (found : Result (Bor (List ℕ)) (Bor (List ℕ))) → HasNames o
+pub calls_take : (o : ObjectForm) (text mid : List ℕ) (xs : List CarriedCall) (cs : List NamedClient) (ks : List KeptCall) (found : Result (Bor (List ℕ)) (Bor (List ℕ))) → HasNames o
     → AreRows (IsCarried o) (codes "carried") (carried_words o) text xs mid × (has_verb (codes "carried") mid ≡ false) → TakesClients o mid found cs ks → TakesCalls o text found xs cs ks
 calls_take o text mid xs cs ks (Ok r) named p takes = record { mid = mid; carried_are = p.0; clients_on = takes }
 calls_take o text mid xs cs ks (Err r) named p takes = clients_stuck mid xs p.0 p.1 takes
 
-pub past_takes : (o : ObjectForm) (text mid : List ℕ) (runs : List PastRun) (xs : List CarriedCall) (cs : List Client) (ks : List KeptCall) (found : Result (ℕ × Bor (List ℕ)) (Bor (List ℕ))) → HasNames o
+pub past_takes : (o : ObjectForm) (text mid : List ℕ) (runs : List PastRun) (xs : List CarriedCall) (cs : List NamedClient) (ks : List KeptCall) (found : Result (ℕ × Bor (List ℕ)) (Bor (List ℕ))) → HasNames o
     → AreRows (IsRun o) (codes "past") (run_words o) text runs mid × (has_verb (codes "past") mid ≡ false) → TakesBase o mid found xs cs ks → TakesPast o text found runs xs cs ks
 past_takes o text mid runs xs cs ks (Ok r) named p takes = record { mid = mid; past_is = p.0; base_on = takes }
 past_takes o text mid runs xs cs ks (Err r) named p takes = base_stuck mid runs p.0 p.1 takes

@@ -8,7 +8,7 @@ use Rattle.decl_core.specs.ObjectForm.{ObjectForm}
 use Rattle.word_core.specs.Text.{part_words}
 use Rattle.live_core.specs.declared.past.PastRun.{PastRun}
 use Rattle.live_core.specs.declared.front.CarriedCall.{CarriedCall}
-use Rattle.live_core.specs.declared.front.Client.{Client}
+use Rattle.live_core.specs.declared.front.NamedClient.{NamedClient}
 use Rattle.live_core.specs.declared.front.KeptCall.{KeptCall}
 use Rattle.live_core.specs.Front.{IsRun, IsCarried, IsClient, IsKept, IsKey, IsLong, Opening, HasRows}
 use Rattle.live_core.specs.Text.{run_words, carried_words, client_words, kept_words, object_words, source_words}
@@ -21,10 +21,10 @@ use Rattle.front_read.specs.Parts.{IsValueOf, AreParts}
 -- stands again
 pub data StuckClients (o : ObjectForm) (text rest : List ℕ) : Type 0 where
   client_breaks : Breaks IsClient (codes "client") client_words text rest → StuckClients o text rest
-  kept_breaks : (mid : List ℕ) (clients : List Client) → AreRows IsClient (codes "client") client_words text clients mid
+  kept_breaks : (mid : List ℕ) (clients : List NamedClient) → AreRows IsClient (codes "client") client_words text clients mid
       → has_verb (codes "client") mid ≡ false → Breaks (IsKept o) (codes "kept") (kept_words o) mid rest
       → StuckClients o text rest
-  row_again : (mid : List ℕ) (clients : List Client) (kept : List KeptCall) →
+  row_again : (mid : List ℕ) (clients : List NamedClient) (kept : List KeptCall) →
       AreRows IsClient (codes "client") client_words text clients mid → has_verb (codes "client") mid ≡ false →
       AreRows (IsKept o) (codes "kept") (kept_words o) mid kept rest → has_verb (codes "kept") rest ≡ false →
       goes_on rest ≡ true → StuckClients o text rest

@@ -6,7 +6,7 @@ use Rattle.decl_core.specs.ObjectForm.{ObjectForm}
 use Rattle.live_core.specs.declared.front.Front.{Front}
 use Rattle.live_core.specs.declared.past.PastRun.{PastRun}
 use Rattle.live_core.specs.declared.front.CarriedCall.{CarriedCall}
-use Rattle.live_core.specs.declared.front.Client.{Client}
+use Rattle.live_core.specs.declared.front.NamedClient.{NamedClient}
 use Rattle.live_core.specs.declared.front.KeptCall.{KeptCall}
 use Rattle.live_core.specs.Front.{IsRun, IsCarried, IsClient, IsKept, IsKey, IsLong, Opening, opening_of}
 use Rattle.live_core.specs.Text.{run_words, carried_words, client_words, kept_words, object_words, source_words}
@@ -17,7 +17,7 @@ use Rattle.front_read.specs.Parts.{AreParts}
 use Rattle.front_read.specs.Fault.{StuckClients, StuckCalls, StuckBase, StuckPast, StuckSource, StuckObject, StuckFront}
 
 -- from the rows of the clients on; behind them no row of a front stands
-pub record OnClients (o : ObjectForm) (text : List ℕ) (clients : List Client) (kept : List KeptCall)
+pub record OnClients (o : ObjectForm) (text : List ℕ) (clients : List NamedClient) (kept : List KeptCall)
     (rest : List ℕ) : Type 0 where
   pub mid : List ℕ
   pub clients_are : AreRows IsClient (codes "client") client_words text clients mid
@@ -25,14 +25,14 @@ pub record OnClients (o : ObjectForm) (text : List ℕ) (clients : List Client) 
   pub ends : goes_on rest ≡ false
 
 -- from the rows of the waiting calls on
-pub record OnCalls (o : ObjectForm) (text : List ℕ) (carried : List CarriedCall) (clients : List Client)
+pub record OnCalls (o : ObjectForm) (text : List ℕ) (carried : List CarriedCall) (clients : List NamedClient)
     (kept : List KeptCall) (rest : List ℕ) : Type 0 where
   pub mid : List ℕ
   pub carried_are : AreRows (IsCarried o) (codes "carried") (carried_words o) text carried mid
   pub clients_on : OnClients o mid clients kept rest
 
 -- from the row of the base on
-pub record OnBase (o : ObjectForm) (text : List ℕ) (base : ℕ) (carried : List CarriedCall) (clients : List Client)
+pub record OnBase (o : ObjectForm) (text : List ℕ) (base : ℕ) (carried : List CarriedCall) (clients : List NamedClient)
     (kept : List KeptCall) (rest : List ℕ) : Type 0 where
   pub mid : List ℕ
   pub base_is : IsRow IsLong base_words text base mid
@@ -40,7 +40,7 @@ pub record OnBase (o : ObjectForm) (text : List ℕ) (base : ℕ) (carried : Lis
 
 -- from the rows of the past on
 pub record OnPast (o : ObjectForm) (text : List ℕ) (past : List PastRun) (base : ℕ) (carried : List CarriedCall)
-    (clients : List Client) (kept : List KeptCall) (rest : List ℕ) : Type 0 where
+    (clients : List NamedClient) (kept : List KeptCall) (rest : List ℕ) : Type 0 where
   pub mid : List ℕ
   pub past_is : AreRows (IsRun o) (codes "past") (run_words o) text past mid
   pub base_on : OnBase o mid base carried clients kept rest
@@ -68,24 +68,24 @@ pub record OnFront (o : ObjectForm) (text : List ℕ) (f : Opening) (rest : List
   pub source_on : BehindObject o mid f rest
 
 -- these rows were taken, or at a rest of the text nothing goes on
-abbrev pub TakesClients : ObjectForm → List ℕ → Result (Bor (List ℕ)) (Bor (List ℕ)) → List Client → List KeptCall →
+abbrev pub TakesClients : ObjectForm → List ℕ → Result (Bor (List ℕ)) (Bor (List ℕ)) → List NamedClient → List KeptCall →
     Type 0
 TakesClients o text found clients kept =
     MatchResult found (λ rest. OnClients o text clients kept rest.now) (λ rest. StuckClients o text rest.now)
 
-abbrev pub TakesCalls : ObjectForm → List ℕ → Result (Bor (List ℕ)) (Bor (List ℕ)) → List CarriedCall → List Client →
+abbrev pub TakesCalls : ObjectForm → List ℕ → Result (Bor (List ℕ)) (Bor (List ℕ)) → List CarriedCall → List NamedClient →
     List KeptCall → Type 0
 TakesCalls o text found carried clients kept = MatchResult found (λ rest. OnCalls o text carried clients kept rest.now)
     (λ rest. StuckCalls o text rest.now)
 
 abbrev pub TakesBase : ObjectForm → List ℕ → Result (ℕ × Bor (List ℕ)) (Bor (List ℕ)) → List CarriedCall →
-    List Client → List KeptCall → Type 0
+    List NamedClient → List KeptCall → Type 0
 TakesBase o text found carried clients kept =
     MatchResult found (λ r. OnBase o text r.0 carried clients kept r.1.now)
     (λ rest. StuckBase o text rest.now)
 
 abbrev pub TakesPast : ObjectForm → List ℕ → Result (ℕ × Bor (List ℕ)) (Bor (List ℕ)) → List PastRun →
-    List CarriedCall → List Client → List KeptCall → Type 0
+    List CarriedCall → List NamedClient → List KeptCall → Type 0
 TakesPast o text found past carried clients kept =
     MatchResult found (λ r. OnPast o text past r.0 carried clients kept r.1.now)
     (λ rest. StuckPast o text rest.now)

@@ -11,7 +11,7 @@ use Rattle.word_core.specs.Data.{◌>>=◌, bare_of, only_bare, integer_of}
 use Rattle.live_core.specs.declared.past.PastRun.{PastRun}
 use Rattle.live_core.specs.declared.past.PastRun.TheVariants.{Begins, Ends}
 use Rattle.live_core.specs.declared.front.CarriedCall.{CarriedCall}
-use Rattle.live_core.specs.declared.front.Client.{Client}
+use Rattle.live_core.specs.declared.front.NamedClient.{NamedClient}
 use Rattle.live_core.specs.declared.front.KeptCall.{KeptCall}
 use Rattle.live_core.specs.declared.front.Answer.{Answer}
 use Rattle.live_core.specs.Front.{IsRun, IsCall}
@@ -56,17 +56,17 @@ carried_row row = record {
   arguments = row.arguments.items;
 }
 
-abbrev pub client_row : ClientRow → Client
+abbrev pub client_row : ClientRow → NamedClient
 client_row row = record { session = row.session; name = row.name.now; keys = row.keys }
 
 -- the client that words tell, whatever the bytes of its name are
-abbrev pub client_of : List Word → Option Client
+abbrev pub client_of : List Word → Option NamedClient
 client_of words =
     behind_verb (codes "client") words >>= λ a. session_first a >>= λ b. bare_of b.1 >>= λ c. long_first c.1
     >>= λ d. Some (record { session = b.0; name = c.0; keys = d.0 })
 
 -- the row of a client was taken that is said to be this one; where that has a name, it is this one
-abbrev pub TakesNamed : Client → List ℕ → List Client → Option (Bor (List ℕ)) → List Client → Type 0
+abbrev pub TakesNamed : NamedClient → List ℕ → List NamedClient → Option (Bor (List ℕ)) → List NamedClient → Type 0
 TakesNamed client text old found new = MatchOption found
     ((rest : List ℕ) → IsName client.name → text ≡ line_of (row_words (codes "client") client_words client) ++ rest → ⊥)
     (λ rest. (name : List ℕ) × IsName name × (text ≡ line_of (row_words (codes "client") client_words

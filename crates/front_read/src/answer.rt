@@ -24,7 +24,7 @@ use word_core::words::bare_of;
 
 // How a call ended.
 #[derive(Clone, Copy)]
-pub(crate) enum Ended {
+pub(crate) enum RememberedEnd {
     // It replied so.
     Replied(Reply),
     // It was cancelled.
@@ -32,7 +32,7 @@ pub(crate) enum Ended {
 }
 
 // How a call ended, as the first words say it, and how many these are.
-pub(crate) fn answer_first(words: &[Word]) -> Option<(Ended, usize)>
+pub(crate) fn answer_first(words: &[Word]) -> Option<(RememberedEnd, usize)>
     ensures { FindsAnswer (words_in words.now) result }
 {
     match bare_of(words) {
@@ -42,15 +42,15 @@ pub(crate) fn answer_first(words: &[Word]) -> Option<(Ended, usize)>
 }
 
 // How a call ended, as words say it whose first one stands bare.
-fn answer_by(words: &[Word], verb: &[u8], rest: &[Word]) -> Option<(Ended, usize)>
+fn answer_by(words: &[Word], verb: &[u8], rest: &[Word]) -> Option<(RememberedEnd, usize)>
     requires { bare_in (words_in words.now) ≡ Some (verb.now, words_in rest.now) }
     ensures { FindsAnswer (words_in words.now) result }
 {
     if is_same_word(verb, b"cancelled") {
-        return Some((Ended::Cancelled, 1));
+        return Some((RememberedEnd::Cancelled, 1));
     }
     if is_nothing(verb, rest) {
-        return Some((Ended::Replied(Reply::Done(None)), 1));
+        return Some((RememberedEnd::Replied(Reply::Done(None)), 1));
     }
     reply_in_two(words)
 }
@@ -85,7 +85,7 @@ fn tells_datum(words: &[Word]) -> bool
 }
 
 // The reply that the first two words tell.
-fn reply_in_two(words: &[Word]) -> Option<(Ended, usize)>
+fn reply_in_two(words: &[Word]) -> Option<(RememberedEnd, usize)>
     ensures { FindsInTwo (words_in words.now) result }
 {
     if words.len() < 2 {
@@ -93,7 +93,7 @@ fn reply_in_two(words: &[Word]) -> Option<(Ended, usize)>
     }
     let (two, _) = words.split_at(2);
     match reply_of_two(two) {
-        Some(reply) => Some((Ended::Replied(reply), 2)),
+        Some(reply) => Some((RememberedEnd::Replied(reply), 2)),
         None => None,
     }
 }

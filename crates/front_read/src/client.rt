@@ -9,7 +9,7 @@ ghost use Rattle.front_read.specs.Row.{client_row, client_of as client_in, Takes
 
 use crate::number::{behind_verb, long_first, session_first};
 use crate::text::{behind, first_line};
-use live_core::front::Client;
+use live_core::front::NamedClient;
 use live_core::write::push_client;
 use path_tree::name::Name;
 use std::alloc::{AllocError, Global};
@@ -42,7 +42,7 @@ fn client_of<'a>(words: &[Word<'a>]) -> Option<ClientRow<'a>>
 // Takes the row of a client.
 pub(crate) fn take_client<'a>(
     alloc: Global,
-    out: &mut Vec<Client>,
+    out: &mut Vec<NamedClient>,
     text: &'a [u8],
 ) -> Result<Option<&'a [u8]>, AllocError>
     ensures { IfOk result (λ found. Takes IsClient (row_words (codes "client") client_words) text.now out.old.items
@@ -63,7 +63,7 @@ pub(crate) fn take_client<'a>(
 // Takes the row of a client that is said to be this one, where it has a name.
 fn take_named<'a>(
     alloc: Global,
-    out: &mut Vec<Client>,
+    out: &mut Vec<NamedClient>,
     text: &'a [u8],
     row: ClientRow,
 ) -> Result<Option<&'a [u8]>, AllocError>
@@ -81,7 +81,7 @@ fn take_named<'a>(
 
 fn take_this_client<'a>(
     alloc: Global,
-    out: &mut Vec<Client>,
+    out: &mut Vec<NamedClient>,
     text: &'a [u8],
     session: u32,
     name: Name,
@@ -94,7 +94,7 @@ fn take_this_client<'a>(
     push_client(&mut line, session, name.as_bytes(), keys)?;
     match behind(text, &line) {
         Some(rest) => {
-            out.push(Client {
+            out.push(NamedClient {
                 session,
                 name,
                 keys,

@@ -11,7 +11,7 @@ ghost use Rattle.front_read.specs.Rows.{Finds, Takes, TakesThis, row_words};
 ghost use Rattle.front_read.specs.Answers.{answer_of_end};
 ghost use Rattle.front_read.specs.Row.{kept_row, KeptBy};
 
-use crate::answer::{Ended, answer_first, behind_first};
+use crate::answer::{RememberedEnd, answer_first, behind_first};
 use crate::call::call_of;
 use crate::names::object_has_names;
 use crate::number::{behind_verb, key_first, long_first, session_first};
@@ -51,7 +51,7 @@ fn kept_head<'a, 'b>(words: &'b [Word<'a>]) -> Option<(KeptHead, &'b [Word<'a>])
 #[derive(Drop)]
 struct KeptRow {
     head: KeptHead,
-    ended: Ended,
+    ended: RememberedEnd,
     operation: OpId,
     arguments: Vec<Datum>,
 }
@@ -78,7 +78,7 @@ fn kept_by(
     alloc: Global,
     object: &Object,
     head: KeptHead,
-    ended: &Ended,
+    ended: &RememberedEnd,
     words: &[Word],
 ) -> Result<Option<KeptRow>, AllocError>
     ensures { IfOk result (λ found. KeptBy (object_of object.now) head (answer_of_end ended.now) (words_in words.now) found) }
@@ -117,25 +117,25 @@ pub(crate) fn take_kept<'a>(
     }
 }
 
-fn reply_in(ended: &Ended) -> Option<&Reply>
+fn reply_in(ended: &RememberedEnd) -> Option<&Reply>
     ensures { answer_of result ≡ answer_of_end ended.now }
 {
     match ended {
-        Ended::Replied(reply) => Some(reply),
-        Ended::Cancelled => None,
+        RememberedEnd::Replied(reply) => Some(reply),
+        RememberedEnd::Cancelled => None,
     }
 }
 
 // How a call ended, in memory of its own length.
-fn kept_answer(alloc: Global, ended: &Ended) -> Result<Answer, AllocError>
+fn kept_answer(alloc: Global, ended: &RememberedEnd) -> Result<Answer, AllocError>
     ensures { IfOk result (λ answer. answer ≡ answer_of_end ended.now) }
 {
     match ended {
-        Ended::Replied(reply) => {
+        RememberedEnd::Replied(reply) => {
             let mut room = Vec::with_capacity(alloc, MOST_TEXT_BYTES)?;
             Ok(Answer::Replied(Short::within(alloc, &mut room, reply)))
         }
-        Ended::Cancelled => Ok(Answer::Cancelled),
+        RememberedEnd::Cancelled => Ok(Answer::Cancelled),
     }
 }
 

@@ -18,7 +18,7 @@ use crate::names::object_has_names;
 use crate::run::take_run;
 use crate::text::{begins_with, feeds_in, goes_on};
 use decl_core::object::{Object, Part};
-use live_core::front::{CarriedCall, Client, Front, KeptCall};
+use live_core::front::{CarriedCall, NamedClient, Front, KeptCall};
 use live_core::past::PastRun;
 use std::alloc::{AllocError, Global};
 use value_core::value::Value;
@@ -95,7 +95,7 @@ fn take_all_carried<'a>(
 // Takes the rows of clients likewise.
 fn take_all_clients<'a>(
     alloc: Global,
-    out: &mut Vec<Client>,
+    out: &mut Vec<NamedClient>,
     text: &'a [u8],
 ) -> Result<Result<&'a [u8], &'a [u8]>, AllocError>
     requires { out.old.items ≡ [] }
@@ -150,7 +150,7 @@ fn end_at(text: &[u8]) -> Result<&[u8], &[u8]>
 fn take_clients<'a>(
     alloc: Global,
     object: &Object,
-    clients: &mut Vec<Client>,
+    clients: &mut Vec<NamedClient>,
     kept: &mut Vec<KeptCall>,
     text: &'a [u8],
 ) -> Result<Result<&'a [u8], &'a [u8]>, AllocError>
@@ -174,7 +174,7 @@ fn take_calls<'a>(
     alloc: Global,
     object: &Object,
     carried: &mut Vec<CarriedCall>,
-    clients: &mut Vec<Client>,
+    clients: &mut Vec<NamedClient>,
     kept: &mut Vec<KeptCall>,
     text: &'a [u8],
 ) -> Result<Result<&'a [u8], &'a [u8]>, AllocError>
@@ -199,7 +199,7 @@ fn take_from_base<'a>(
     alloc: Global,
     object: &Object,
     carried: &mut Vec<CarriedCall>,
-    clients: &mut Vec<Client>,
+    clients: &mut Vec<NamedClient>,
     kept: &mut Vec<KeptCall>,
     text: &'a [u8],
 ) -> Result<Result<(u64, &'a [u8]), &'a [u8]>, AllocError>
@@ -225,7 +225,7 @@ fn take_from_past<'a>(
     object: &Object,
     past: &mut Vec<PastRun>,
     carried: &mut Vec<CarriedCall>,
-    clients: &mut Vec<Client>,
+    clients: &mut Vec<NamedClient>,
     kept: &mut Vec<KeptCall>,
     text: &'a [u8],
 ) -> Result<Result<(u64, &'a [u8]), &'a [u8]>, AllocError>

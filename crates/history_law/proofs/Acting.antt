@@ -10,13 +10,13 @@ use Rattle.decl_core.specs.declared.object.Object.{Object}
 use Rattle.decl_core.specs.ObjectMap.{object_of}
 use Rattle.word_core.specs.Text.{operation_name}
 use Rattle.guest_core.specs.declared.answer.SubmitFault.TheVariants as faults
-use Rattle.session_text.specs.declared.line.Line.TheVariants as lines
+use Rattle.session_text.specs.declared.line.ReplyLine.TheVariants as lines
 use Rattle.session_text.specs.Lines.{bye_text, line_text, opened_text}
 use Rattle.guest_core.specs.declared.seats.Seat.TheVariants.{Nameless}
 use Rattle.guest_core.specs.Guests.{with_seat}
 use Rattle.guest_core.specs.Keys.{asks as asks_for}
-use Rattle.hosted_core.specs.declared.hosted.Keyed.{Keyed}
-use Rattle.hosted_core.specs.declared.hosted.Keyed.TheVariants as keys
+use Rattle.hosted_core.specs.declared.hosted.KeyState.{KeyState}
+use Rattle.hosted_core.specs.declared.hosted.KeyState.TheVariants as keys
 use Rattle.hosted_core.specs.Keys.{Says as SaysOf, Repeats as IsRepeat, operation_or}
 use Rattle.hosted_core.specs.Lines.{entered_lines}
 use Rattle.hosted_core.specs.Scene.{Scene, with_guests}
@@ -24,7 +24,7 @@ use Rattle.hosted_core.specs.Steps.{does, comes, gets_number, leaves, rests}
 use Rattle.client_core.specs.declared.ask.Ask.{Ask}
 use Rattle.client_core.specs.declared.ask.Ask.TheVariants as asks
 use Rattle.client_core.specs.declared.ask.Sight.{Sight}
-use Rattle.client_core.specs.declared.client.Opened.{Opened}
+use Rattle.client_core.specs.declared.client.OpenObject.{OpenObject}
 use Rattle.client_core.specs.Asks.{Asks}
 use Rattle.client_core.specs.Held.{is_some, waits_of}
 use Rattle.client_core.specs.Asked.{OpensBare, OpensAs, Opens, GetsNumber, Sits, Calls, RepeatsUnder, AnswersCall, AnswersInside, LeavesObject, Goes, Quits, Acts, Heeds, keyed_text}
@@ -56,32 +56,32 @@ pub record IsWished (heard : Lines) (place : ℕ) (s : State) (ask : Ask) : Type
   pub idle : waits_at s place ≡ false
 
 -- one that has opened what it had opened, and waits no more than it did
-abbrev pub IsIdle : Opened → Type 0
+abbrev pub IsIdle : OpenObject → Type 0
 IsIdle o = o.waits ≡ false
 
 pub who_is_here : (x : Option Peer) (p : Peer) (who : ℕ) → x ≡ Some p → who_in x ≡ Some who → p.who ≡ Some who
 who_is_here x p who is here = sym (ap who_in is) ∙ here
 
-none_some : (o : Opened) → None ≡ Some o → ⊥
+none_some : (o : OpenObject) → None ≡ Some o → ⊥
 none_some o is = cc
 
 module _ (heard : Lines) where
   -- one opens something, by which it waits for nothing
-  opens_one : (past : Texts) (objects : List Scene) (peers : List Peer) (place : ℕ) (now : Opened) → IsIdle now → ((p : Peer) → slice_get peers place ≡ Some p → IsOpenedBy heard objects p.who now) →
+  opens_one : (past : Texts) (objects : List Scene) (peers : List Peer) (place : ℕ) (now : OpenObject) → IsIdle now → ((p : Peer) → slice_get peers place ≡ Some p → IsOpenedBy heard objects p.who now) →
       Awaits heard past objects peers → Awaits heard past objects (change peers place (opening now))
   opens_one past objects peers place now idle by a = record {
     held = a.held;
     alone = alone_changed peers place (opening now) a.alone
-        (λ p there o is waits. absurd (true_false o.waits waits (ap (λ (x : Opened). x.waits) (same_Some o now (sym is)) ∙ idle)));
+        (λ p there o is waits. absurd (true_false o.waits waits (ap (λ (x : OpenObject). x.waits) (same_Some o now (sym is)) ∙ idle)));
     seated = all_changed heard past objects (waits_in objects) peers place (opening now) a.seated
         (λ p there. record {
           held = (a.seated place p there).held;
-          opened = λ o is. subst (λ (x : Opened). IsOpenedBy heard objects p.who x) (same_Some now o is) (by p there);
-          waits = λ o is waits. absurd (true_false o.waits waits (ap (λ (x : Opened). x.waits) (same_Some o now (sym is)) ∙ idle));
+          opened = λ o is. subst (λ (x : OpenObject). IsOpenedBy heard objects p.who x) (same_Some now o is) (by p there);
+          waits = λ o is waits. absurd (true_false o.waits waits (ap (λ (x : OpenObject). x.waits) (same_Some o now (sym is)) ∙ idle));
         });
   }
 
-  opened_by : (place : ℕ) (name : List ℕ) (client : Option (List ℕ)) (s : State) (objects : List Scene) (at : ℕ) (object : Scene) (now : Opened) → now.object ≡ at → slice_get objects at ≡ Some object → object.hall.object.name ≡ name →
+  opened_by : (place : ℕ) (name : List ℕ) (client : Option (List ℕ)) (s : State) (objects : List Scene) (at : ℕ) (object : Scene) (now : OpenObject) → now.object ≡ at → slice_get objects at ≡ Some object → object.hall.object.name ≡ name →
       IsWished heard place s (asks.Open name client) → (p : Peer) → slice_get s.peers place ≡ Some p → IsOpenedBy heard objects p.who now
   opened_by place name client s objects at object now is there named w p at_place = record {
     here = w.who;
@@ -101,7 +101,7 @@ module _ (heard : Lines) where
   did_opens_bare : (place : ℕ) (name : List ℕ) (past : Texts) (old new : State) (said added : Texts) → Awaits heard past old.objects old.peers → IsWished heard place old (asks.Open name None) →
       OpensBare place name old said added new → Did heard past old said added new
   did_opens_bare place name past old new said added a w is =
-      let now : Opened = record { object = is.at; session = 0; is_named = false; waits = false; calls = 0; told = 0 } in
+      let now : OpenObject = record { object = is.at; session = 0; is_named = false; waits = false; calls = 0; told = 0 } in
       let shown = told_to old.peers place (opened_text name None) in
       did_as heard past old new said (shown ++ []) added [] (is.told ∙ sym (append-nil shown)) is.lines
       (did_before heard past shown old new [] [] (plain_to old.peers place (opened_text name None) (opened_plain name None))
@@ -114,7 +114,7 @@ module _ (heard : Lines) where
   did_opens_as : (place : ℕ) (name client : List ℕ) (past : Texts) (old new : State) (said added : Texts) → Awaits heard past old.objects old.peers → IsWished heard place old (asks.Open name (Some client)) →
       OpensAs place name client old said added new → Did heard past old said added new
   did_opens_as place name client past old new said added a w is =
-      let now : Opened = record { object = is.at; session = is.entered.session; is_named = true; waits = false; calls = 0; told = 0 } in
+      let now : OpenObject = record { object = is.at; session = is.entered.session; is_named = true; waits = false; calls = 0; told = 0 } in
       let after = with_guests is.object is.guests in
       let made = slice_set old.objects is.at after in
       let text = opened_text name (Some is.entered.next) in
@@ -134,13 +134,13 @@ module _ (heard : Lines) where
   did_opens place name (Some client) past old new said added a w (inl is) = did_opens_as place name client past old new said added a w is
   did_opens place name (Some client) past old new said added a w (inr is) = did_refused heard place past old new said added a is
 
-  pub did_gets : (place : ℕ) (past : Texts) (old : State) (opened seat : Opened) (new : State) → Awaits heard past old.objects old.peers → opened_at old place ≡ Some opened → IsIdle opened →
+  pub did_gets : (place : ℕ) (past : Texts) (old : State) (opened seat : OpenObject) (new : State) → Awaits heard past old.objects old.peers → opened_at old place ≡ Some opened → IsIdle opened →
       GetsNumber place old opened seat new → Did heard past old [] [] new
   did_gets place past old opened seat new a by idle is =
       let guests = with_seat is.object.guests is.session Nameless in
       let made = slice_set old.objects opened.object (with_guests is.object guests) in
       let changed_guests = guests_change heard past old.objects old.peers opened.object is.object guests is.there a in
-      let seat_idle : IsIdle seat = ap (λ (x : Opened). x.waits) is.seat_is ∙ idle in
+      let seat_idle : IsIdle seat = ap (λ (x : OpenObject). x.waits) is.seat_is ∙ idle in
       did_quiet heard past old new opened.object is.object _ is.there (does (gets_number is.session is.free)) (ap (λ (s : State). s.objects) is.left)
       (subst (λ (l : List Scene). Awaits heard (past ++ []) l new.peers) (sym (ap (λ (s : State). s.objects) is.left))
       (subst (λ (ps : List Peer). Awaits heard (past ++ []) made ps) (sym (ap (λ (s : State). s.peers) is.left))
@@ -152,12 +152,12 @@ module _ (heard : Lines) where
         here = peer.here;
         who_is = peer.who_is;
         object = peer.object;
-        there = ap (λ (x : Opened). slice_get made x.object) is.seat_is ∙ peer.there;
+        there = ap (λ (x : OpenObject). slice_get made x.object) is.seat_is ∙ peer.there;
         asked = peer.asked;
       }) changed_guests))))
 
   -- one that has opened something has a session there
-  pub record HasSat (place : ℕ) (past : Texts) (old : State) (opened seat : Opened) (mid : State) (who : ℕ) (object : Scene) : Type 0 where
+  pub record HasSat (place : ℕ) (past : Texts) (old : State) (opened seat : OpenObject) (mid : State) (who : ℕ) (object : Scene) : Type 0 where
     pub did : Did heard past old [] [] mid
     pub peer : Peer
     pub there : slice_get mid.peers place ≡ Some peer
@@ -165,7 +165,7 @@ module _ (heard : Lines) where
     pub by : peer.opened ≡ Some seat
     pub same : (before : Scene) → slice_get mid.objects seat.object ≡ Some before → before.hall.object ≡ object.hall.object
 
-  pub has_sat : (place : ℕ) (past : Texts) (old : State) (opened seat : Opened) (mid : State) (who : ℕ) (object : Scene) → Awaits heard past old.objects old.peers → opened_at old place ≡ Some opened → IsIdle opened →
+  pub has_sat : (place : ℕ) (past : Texts) (old : State) (opened seat : OpenObject) (mid : State) (who : ℕ) (object : Scene) → Awaits heard past old.objects old.peers → opened_at old place ≡ Some opened → IsIdle opened →
       who_at old place ≡ Some who → slice_get old.objects opened.object ≡ Some object → Sits place old opened seat mid → HasSat place past old opened seat mid who object
   has_sat place past old opened seat mid who object a by idle here there (inl is) =
       let peer = has_peer (slice_get old.peers place) opened by in
@@ -176,7 +176,7 @@ module _ (heard : Lines) where
         here = who_is_here (slice_get old.peers place) peer.0 who peer.1 here;
         by = peer.2 ∙ ap Some (sym is.0);
         same = λ before now. ap (λ (s : Scene). s.hall.object)
-            (same_Some before object (sym now ∙ ap (λ (s : State). slice_get s.objects seat.object) is.1 ∙ ap (λ (x : Opened). slice_get old.objects x.object) is.0 ∙ there));
+            (same_Some before object (sym now ∙ ap (λ (s : State). slice_get s.objects seat.object) is.1 ∙ ap (λ (x : OpenObject). slice_get old.objects x.object) is.0 ∙ there));
       }
   has_sat place past old opened seat mid who object a by idle here there (inr is) =
       let peer = has_peer (slice_get old.peers place) opened by in
@@ -189,11 +189,11 @@ module _ (heard : Lines) where
         by = refl;
         same = λ before now.
             let before_is : before ≡ after = same_Some before after (sym now ∙ ap (λ (s : State). slice_get s.objects seat.object) is.left
-            ∙ ap (λ (x : Opened). slice_get (slice_set old.objects opened.object after) x.object) is.seat_is ∙ set_at old.objects opened.object after is.object is.there) in
+            ∙ ap (λ (x : OpenObject). slice_get (slice_set old.objects opened.object after) x.object) is.seat_is ∙ set_at old.objects opened.object after is.object is.there) in
             ap (λ (s : Scene). s.hall.object) before_is ∙ ap (λ (s : Scene). s.hall.object) (same_Some is.object object (sym is.there ∙ there));
       }
 
-  pub idle_of : (x : Option Opened) (o : Opened) → x ≡ Some o → waits_of x ≡ false → o.waits ≡ false
+  pub idle_of : (x : Option OpenObject) (o : OpenObject) → x ≡ Some o → waits_of x ≡ false → o.waits ≡ false
   idle_of x o is idle = sym (ap waits_of is) ∙ idle
 
   did_makes : (place : ℕ) (key : Option ℕ) (name : List ℕ) (arguments : Vec Datum) (past : Texts) (old new : State) (said added : Texts) → Awaits heard past old.objects old.peers →
@@ -204,7 +204,7 @@ module _ (heard : Lines) where
       let whole : w.is_whole ≡ true = call_is_whole (is_some (opened_at old place)) w.is_whole w.line key name arguments w.asks_so in
       let asks_so : Asks true true w.line (asks.Call key name arguments) =
       subst (λ (b : Bool). Asks true b w.line (asks.Call key name arguments)) whole
-      (subst (λ (x : Option Opened). Asks (is_some x) w.is_whole w.line (asks.Call key name arguments)) is.by w.asks_so) in
+      (subst (λ (x : Option OpenObject). Asks (is_some x) w.is_whole w.line (asks.Call key name arguments)) is.by w.asks_so) in
       let same : is.submits.before.hall.object ≡ is.object.hall.object = sat.same is.submits.before is.submits.there in
       did_from heard past old is.mid new said added sat.did
       (did_submits heard place is.seat is.operation arguments.items (past ++ []) is.mid new said added sat.did.awaits is.submits (record {
@@ -228,7 +228,7 @@ module _ (heard : Lines) where
   repeat_of object (Some s) count key operation arguments told reply says = (s, says)
   repeat_of object None count key operation arguments told reply says = absurd says
 
-  again_told : (old : State) (past : Texts) (who at : ℕ) (object : Scene) (session : Option ℕ) (count key : ℕ) (operation : Option ℕ) (arguments : List Datum) (keyed : Keyed) → slice_get old.objects at ≡ Some object →
+  again_told : (old : State) (past : Texts) (who at : ℕ) (object : Scene) (session : Option ℕ) (count key : ℕ) (operation : Option ℕ) (arguments : List Datum) (keyed : KeyState) → slice_get old.objects at ≡ Some object →
       SaysOf object session count key operation arguments keyed → (keyed ≡ keys.New → ⊥) → IsTold heard past old.objects no_account who (keyed_text keyed)
   again_told old past who at object session count key operation arguments keys.New there says new = absurd (new refl)
   again_told old past who at object session count key operation arguments (keys.Repeated told reply) there says new =

@@ -1,7 +1,7 @@
 -- Clients, and what is known of their calls, change by change.
 use Rattle.std.proofs.Common.{◌≡◌, ◌≢◌, ◌⊎◌, inl, inr, ◌∙◌, ap, sym, subst, refl, arith, ℕ, zero, suc, ◌+◌, ◌-◌, List, [], ◌∷◌, take, Option, Some}
 use Rattle.std.specs.Prelude.{map, slice_get, slice_set, unwrap_or}
-use Rattle.live_core.specs.declared.front.Client.{Client}
+use Rattle.live_core.specs.declared.front.NamedClient.{NamedClient}
 use Rattle.live_core.specs.Front.{Opening}
 use Rattle.guest_core.specs.declared.guest.Guest.{Guest}
 use Rattle.guest_core.specs.declared.kept.Kept.{Kept}
@@ -82,7 +82,7 @@ one_call c d is = cc
 no_call : (name : List ℕ) (c : KeyedCall) → name_came name ≡ call_ended c → ⊥
 no_call name c is = cc
 
-no_began : (clients : List Client) (c : KeyedCall) → epoch_began clients ≡ call_ended c → ⊥
+no_began : (clients : List NamedClient) (c : KeyedCall) → epoch_began clients ≡ call_ended c → ⊥
 no_began clients c is = cc
 
 -- a call of a client ended
@@ -166,7 +166,7 @@ get_map [] p g is = absurd cc
 get_map (h ∷ guests) zero g is = ap (λ o. Some (client_from (unwrap_or o h))) is
 get_map (h ∷ guests) (suc p) g is = get_map guests p g is
 
-from_map : (guests : List Guest) (p : ℕ) (c : Client) → slice_get (map client_from guests) p ≡ Some c → (g : Guest) × (slice_get guests p ≡ Some g) × (client_from g ≡ c)
+from_map : (guests : List Guest) (p : ℕ) (c : NamedClient) → slice_get (map client_from guests) p ≡ Some c → (g : Guest) × (slice_get guests p ≡ Some g) × (client_from g ≡ c)
 from_map [] p c is = absurd cc
 from_map (h ∷ guests) zero c is = (h, refl, ap (λ o. unwrap_or o c) is)
 from_map (h ∷ guests) (suc p) c is = from_map guests p c is
@@ -176,7 +176,7 @@ pub keys_began : (f : Opening) (told : Events) (v : Guests) → HaveKeys f told 
 keys_began f told v h =
     let clients = map client_from v.guests in
     let calls : CallsAreNext (epoch_began clients ∷ told) = calls_on (epoch_began clients) told h.keyed.calls (λ c is. absurd (no_began clients c is)) in
-    let among : (p : ℕ) (g : Guest) → slice_get v.guests p ≡ Some g → (c : Client) × IsAmong clients g.name c =
+    let among : (p : ℕ) (g : Guest) → slice_get v.guests p ≡ Some g → (c : NamedClient) × IsAmong clients g.name c =
     λ p g at. (client_from g, record { place = p; there = get_map v.guests p g at; is_named = refl }) in
     record {
       sound = h.sound;
@@ -188,11 +188,11 @@ keys_began f told v h =
       kept = λ p g key k c at has. still_kept f (epoch_began clients) told g.name key c (λ newer stays. (among p g at, stays)) (h.kept p g key k c at has);
     }
   where
-    one : (p : ℕ) (g : Guest) → slice_get v.guests p ≡ Some g → (c : Client) → IsAmong (map client_from v.guests) g.name c → g.keys.next ≡ c.keys + 1
+    one : (p : ℕ) (g : Guest) → slice_get v.guests p ≡ Some g → (c : NamedClient) → IsAmong (map client_from v.guests) g.name c → g.keys.next ≡ c.keys + 1
     one p g at c is =
         let from = from_map v.guests is.place c is.there in
         let x : Guest = from.0 in
-        let named : x.name ≡ g.name = ap (λ (y : Client). y.name) from.2 ∙ is.is_named in
+        let named : x.name ≡ g.name = ap (λ (y : NamedClient). y.name) from.2 ∙ is.is_named in
         let same : is.place ≡ p = h.sound.once is.place p x g from.1 at named in
         let own : x ≡ g = ap (λ o. unwrap_or o x) (sym from.1 ∙ ap (slice_get v.guests) same ∙ at) in
-        sym (next_behind told g.name g.keys.next (h.keyed.now p g at)) ∙ ap (λ (y : Guest). (y.keys.next - 1) + 1) (sym own) ∙ ap (λ (y : Client). y.keys + 1) from.2
+        sym (next_behind told g.name g.keys.next (h.keyed.now p g at)) ∙ ap (λ (y : Guest). (y.keys.next - 1) + 1) (sym own) ∙ ap (λ (y : NamedClient). y.keys + 1) from.2

@@ -5,11 +5,11 @@ use Rattle.std.specs.Global.{Vec}
 use Rattle.std.specs.declared.alloc.AllocError.{AllocError}
 use Rattle.value_core.specs.declared.datum.Datum.{Datum}
 use Rattle.apply_core.specs.declared.reply.Reply.{Reply}
-use Rattle.session_text.specs.declared.line.Line.TheVariants as lines
+use Rattle.session_text.specs.declared.line.ReplyLine.TheVariants as lines
 use Rattle.session_text.specs.Lines.{cancel_name, repeated_text}
 use Rattle.guest_core.specs.Keys.{asks as asks_for}
-use Rattle.hosted_core.specs.declared.hosted.Keyed.{Keyed}
-use Rattle.hosted_core.specs.declared.hosted.Keyed.TheVariants as keys
+use Rattle.hosted_core.specs.declared.hosted.KeyState.{KeyState}
+use Rattle.hosted_core.specs.declared.hosted.KeyState.TheVariants as keys
 use Rattle.hosted_core.specs.Keys.{Repeats, Says, operation_or}
 use Rattle.hosted_core.specs.Scene.{Scene}
 use Rattle.post_core.specs.Turns.{Turn}
@@ -113,7 +113,7 @@ module _ (first last : Table) (turns : List Turn) (h : HaveOneHistory first last
             (k, repeats_stand first last turns d.before h text again f events k);
       }
 
-  by_key : (opened : Bool) (key : ℕ) (name : List ℕ) (arguments : Vec Datum) (keyed : Keyed) → Asks opened line.is_whole line.text (asks.Call (Some key) name arguments) →
+  by_key : (opened : Bool) (key : ℕ) (name : List ℕ) (arguments : Vec Datum) (keyed : KeyState) → Asks opened line.is_whole line.text (asks.Call (Some key) name arguments) →
       IsSaidOf until c d.mid.objects.items d.account key name arguments.items keyed → text ≡ keyed_text keyed → IsRepeatOf first last turns h c line text
   by_key opened key name arguments keys.New asks_so said same = absurd (said.is_old refl)
   by_key opened key name arguments (keys.Repeated told own) asks_so said same = of_key opened key name arguments told own asks_so said same

@@ -23,11 +23,11 @@ use Rattle.guest_core.proofs.Items.{get_here}
 use Rattle.audit_core.specs.Steps.{Step, ran}
 use Rattle.guest_core.specs.declared.answer.Cancelled.TheVariants as cancels_by
 use Rattle.guest_core.specs.declared.answer.SubmitFault.TheVariants as faults
-use Rattle.session_text.specs.declared.line.Line.TheVariants as lines
+use Rattle.session_text.specs.declared.line.ReplyLine.TheVariants as lines
 use Rattle.session_text.specs.Lines.{accepted_text, bye_text, cancel_name, ended_text, line_text, opened_text, withdrawn_text}
 use Rattle.word_core.specs.Answers.{cancelled_line}
-use Rattle.hosted_core.specs.declared.hosted.Keyed.{Keyed}
-use Rattle.hosted_core.specs.declared.hosted.Keyed.TheVariants as keys
+use Rattle.hosted_core.specs.declared.hosted.KeyState.{KeyState}
+use Rattle.hosted_core.specs.declared.hosted.KeyState.TheVariants as keys
 use Rattle.hosted_core.specs.Calls.{Does}
 use Rattle.hosted_core.specs.Keys.{IsNext, Says as SaysOf, Repeats as IsRepeat, operation_or}
 use Rattle.hosted_core.specs.Lines.{entered_lines}
@@ -37,7 +37,7 @@ use Rattle.client_core.specs.declared.ask.Ask.{Ask}
 use Rattle.client_core.specs.declared.ask.Ask.TheVariants as asks
 use Rattle.client_core.specs.declared.ask.Sight.{Sight}
 use Rattle.client_core.specs.declared.ask.Sight.TheVariants as insides
-use Rattle.client_core.specs.declared.client.Opened.{Opened}
+use Rattle.client_core.specs.declared.client.OpenObject.{OpenObject}
 use Rattle.client_core.specs.Held.{waits_of}
 use Rattle.history_law.specs.Happens.{with_ran, all_happen}
 use Rattle.client_core.specs.State.{Peer, State, change, changed, counted, nobody, opened_at, opened_in, opening, told_to, waits_at, who_at, who_in, with_object, session_by}
@@ -113,7 +113,7 @@ why_none object number text (inr is) = subst SaysNoReply (sym is.text_is) (state
 
 -- no call waits of the session without a name of the one at a place
 abbrev pub IsIdleAt : ℕ → State → Type 0
-IsIdleAt place s = (o : Opened) (object : Scene) (c : Called) → opened_at s place ≡ Some o → slice_get s.objects o.object ≡ Some object → IsIn c object.hall.waiting →
+IsIdleAt place s = (o : OpenObject) (object : Scene) (c : Called) → opened_at s place ≡ Some o → slice_get s.objects o.object ≡ Some object → IsIn c object.hall.waiting →
     slice_get object.guests.seats o.session ≡ Some Nameless → c.session ≢ o.session
 
 module _ (claims : Claims) where
@@ -211,7 +211,7 @@ module _ (claims : Claims) where
   -- and of a call that is made, without a key, or under the key of the next call of the client
   abbrev pub TellsCall : ℕ → State → Option ℕ → List ℕ → List Datum → Type 0
   TellsCall place s key name arguments =
-      (o : Opened) (object : Scene) (operation : ℕ) (client : List ℕ) (next : ℕ) → opened_at s place ≡ Some o → slice_get s.objects o.object ≡ Some object →
+      (o : OpenObject) (object : Scene) (operation : ℕ) (client : List ℕ) (next : ℕ) → opened_at s place ≡ Some o → slice_get s.objects o.object ≡ Some object →
       operation_name (object_of object.hall.object) operation ≡ name → (key ≡ None) ⊎ (key ≡ Some next) → claims.named (who_at s place) o.object client →
       claims.called o.object (asks_for operation arguments) client next
 
@@ -227,7 +227,7 @@ module _ (claims : Claims) where
   -- one opens an object
   opens_bare : (place : ℕ) (name : List ℕ) → DoneBy (OpensBare place name)
   opens_bare place name old new said added a is =
-      let now : Opened = record { object = is.at; session = 0; is_named = false; waits = false; calls = 0; told = 0 } in
+      let now : OpenObject = record { object = is.at; session = 0; is_named = false; waits = false; calls = 0; told = 0 } in
       let objects = ap (λ (s : State). s.objects) is.left in
       done_still old new said (told_to old.peers place (opened_text name None)) added is.told is.lines objects
       (to_true (IsOwn claims old.objects no_account) old.peers place (opened_text name None) (inr (opened_plain name None)))
@@ -240,7 +240,7 @@ module _ (claims : Claims) where
 
   opens_as : (place : ℕ) (name client : List ℕ) (old new : State) (said added : Texts) → AllAsked claims old.objects old.peers → TellsOpen place old name client → OpensAs place name client old said added new → Done old said added new
   opens_as place name client old new said added a tells is =
-      let now : Opened = record { object = is.at; session = is.entered.session; is_named = true; waits = false; calls = 0; told = 0 } in
+      let now : OpenObject = record { object = is.at; session = is.entered.session; is_named = true; waits = false; calls = 0; told = 0 } in
       let after = with_guests is.object is.guests in
       let text = opened_text name (Some is.entered.next) in
       done_goes old new said added is.at is.object after (entered_lines client (Ok is.entered)) is.there
@@ -257,14 +257,14 @@ module _ (claims : Claims) where
   opens place name (Some client) old new said added a tells (inr is) = done_refused place old new said added a is
 
   -- a session gets a number
-  gets : (place : ℕ) (old : State) (opened seat : Opened) (new : State) → AllAsked claims old.objects old.peers → GetsNumber place old opened seat new → Done old [] [] new
+  gets : (place : ℕ) (old : State) (opened seat : OpenObject) (new : State) → AllAsked claims old.objects old.peers → GetsNumber place old opened seat new → Done old [] [] new
   gets place old opened seat new a is =
       let guests = with_seat is.object.guests is.session Nameless in
       let after = with_guests is.object guests in
       done_quiet old new opened.object is.object after is.there (does (gets_number is.session is.free)) tt (ap (λ (s : State). s.objects) is.left)
       (same_asked claims (changed (with_object old opened.object after) place (opening seat)) new (ap (λ (s : State). s.objects) is.left) (ap (λ (s : State). s.peers) is.left)
       (joins_asked claims old.objects old.peers place opened.object is.object guests is.session None seat is.there (set_at old.objects opened.object after is.object is.there)
-      (ap (λ (x : Opened). x.object) is.seat_is) (ap (λ (x : Opened). x.session) is.seat_is)
+      (ap (λ (x : OpenObject). x.object) is.seat_is) (ap (λ (x : OpenObject). x.session) is.seat_is)
       (has_number (claims.called opened.object) is.object.guests is.session is.free (a.asked opened.object is.object is.there).seated) tt a))
 
   pub seats_one : (at session : ℕ) → DoneBy (SeatsOne at session)
@@ -345,7 +345,7 @@ module _ (claims : Claims) where
       said is.ends (ap (λ (s : State). s.objects) is.follows.left) (ap (λ (s : State). s.peers) is.follows.left) [] said added tt refl is.lines
 
   -- a connection makes a call
-  submits : (place : ℕ) (seat : Opened) (operation : ℕ) (arguments : List Datum) (old new : State) (said added : Texts) → AllAsked claims old.objects old.peers → opened_at old place ≡ Some seat →
+  submits : (place : ℕ) (seat : OpenObject) (operation : ℕ) (arguments : List Datum) (old new : State) (said added : Texts) → AllAsked claims old.objects old.peers → opened_at old place ≡ Some seat →
       (is : Submits place seat operation arguments old said added new) → TellsOf (claims.called seat.object) is.before.guests (asked is.before.hall seat.session operation arguments) → Done old said added new
   submits place seat operation arguments old new said added a by is tells =
       let at = seat.object in
@@ -369,17 +369,17 @@ module _ (claims : Claims) where
         | inr mine ↦
             let session_is : o.session ≡ session = sym same ∙ sym (ap (λ (x : Called). x.session) mine) in
             let here : q ≡ place = waits.alone q place o now by_o own (λ none. some (sym session_is ∙ none)) at_o session_is in
-            ap (λ (x : Opened). x.waits) (same_Some o now (sym by_o ∙ ap (λ n. opened_in (slice_get peers n)) here ∙ own))
+            ap (λ (x : OpenObject). x.waits) (same_Some o now (sym by_o ∙ ap (λ n. opened_in (slice_get peers n)) here ∙ own))
       ]) waits)
       is.ended is.ends (ap (λ (s : State). s.objects) is.follows.left) (ap (λ (s : State). s.peers) is.follows.left) (told_to old.peers place text) said added
       (to_true SaysNoReply old.peers place text (accepted_plain (told_of is.after is.taken.number))) is.told is.lines
 
   -- one that has opened something has a session there
-  record HasSat (place : ℕ) (old : State) (seat : Opened) (mid : State) : Type 0 where
+  record HasSat (place : ℕ) (old : State) (seat : OpenObject) (mid : State) : Type 0 where
     done : Done old [] [] mid
     by : opened_at mid place ≡ Some seat
 
-  has_sat : (place : ℕ) (old : State) (opened seat : Opened) (mid : State) → AllAsked claims old.objects old.peers → opened_at old place ≡ Some opened → Sits place old opened seat mid → HasSat place old seat mid
+  has_sat : (place : ℕ) (old : State) (opened seat : OpenObject) (mid : State) → AllAsked claims old.objects old.peers → opened_at old place ≡ Some opened → Sits place old opened seat mid → HasSat place old seat mid
   has_sat place old opened seat mid a by (inl is) = record {
     done = done_nothing old mid [] [] a (record { told = refl; lines = refl; left = is.1 });
     by = ap (λ (s : State). opened_at s place) is.1 ∙ by ∙ ap Some (sym is.0);
@@ -401,18 +401,18 @@ module _ (claims : Claims) where
 
       -- the session has a number
       had : is.seat ≡ is.opened → is.mid ≡ old → Wanted
-      had seat_is mid_is = subst (λ (o : Opened). claims.called o.object (asks_for is.operation arguments) g.name g.keys.next) (sym seat_is) (of (a.here place is.opened is.object is.by some is.there))
+      had seat_is mid_is = subst (λ (o : OpenObject). claims.called o.object (asks_for is.operation arguments) g.name g.keys.next) (sym seat_is) (of (a.here place is.opened is.object is.by some is.there))
         where
           some : is.opened.session ≢ 0
-          some none = is.submits.does.takes.taken.here (inl (ap (λ (o : Opened). o.session) seat_is ∙ none))
+          some none = is.submits.does.takes.taken.here (inl (ap (λ (o : OpenObject). o.session) seat_is ∙ none))
 
           before_is : is.submits.before ≡ is.object
           before_is =
               same_Some is.submits.before is.object
-              (sym is.submits.there ∙ ap (λ (s : State). slice_get s.objects is.seat.object) mid_is ∙ ap (λ (o : Opened). slice_get old.objects o.object) seat_is ∙ is.there)
+              (sym is.submits.there ∙ ap (λ (s : State). slice_get s.objects is.seat.object) mid_is ∙ ap (λ (o : OpenObject). slice_get old.objects o.object) seat_is ∙ is.there)
 
           own : IsNamed is.object.guests is.opened.session p g
-          own = subst (λ (s : Scene). IsNamed s.guests is.opened.session p g) before_is (subst (λ (o : Opened). IsNamed is.submits.before.guests o.session p g) seat_is by)
+          own = subst (λ (s : Scene). IsNamed s.guests is.opened.session p g) before_is (subst (λ (o : OpenObject). IsNamed is.submits.before.guests o.session p g) seat_is by)
 
           key_is : (k : Option ℕ) → is.opened.is_named ≡ true → IsNew is.object is.opened k is.operation arguments → (k ≡ None) ⊎ (k ≡ Some g.keys.next)
           key_is None named new_key = inl refl
@@ -436,11 +436,11 @@ module _ (claims : Claims) where
           let after = with_guests gets.object (with_seat gets.object.guests gets.session Nameless) in
           let before_is : is.submits.before ≡ after =
           same_Some is.submits.before after
-          (sym is.submits.there ∙ ap (λ (s : State). slice_get s.objects is.seat.object) gets.left ∙ ap (λ (x : Opened). slice_get (slice_set old.objects is.opened.object after) x.object) gets.seat_is
+          (sym is.submits.there ∙ ap (λ (s : State). slice_get s.objects is.seat.object) gets.left ∙ ap (λ (x : OpenObject). slice_get (slice_set old.objects is.opened.object after) x.object) gets.seat_is
           ∙ set_at old.objects is.opened.object after gets.object gets.there) in
           let seat : slice_get after.guests.seats gets.session ≡ Some (Named p) =
           subst (λ (s : Scene). slice_get s.guests.seats gets.session ≡ Some (Named p)) before_is
-          (subst (λ (o : Opened). slice_get is.submits.before.guests.seats o.session ≡ Some (Named p)) gets.seat_is by.seat) in
+          (subst (λ (o : OpenObject). slice_get is.submits.before.guests.seats o.session ≡ Some (Named p)) gets.seat_is by.seat) in
           absurd (nameless_is p (sym (get_here gets.object.guests.seats gets.session Free Nameless gets.free.free) ∙ seat))
 
   makes : (place : ℕ) (key : Option ℕ) (name : List ℕ) (arguments : List Datum) (old new : State) (said added : Texts) → AllAsked claims old.objects old.peers → TellsCall place old key name arguments →
@@ -450,7 +450,7 @@ module _ (claims : Claims) where
       done_two old is.mid new [] said [] added sat.done (submits place is.seat is.operation arguments is.mid new said added sat.done.asked sat.by is.submits
       (known_call place key name arguments old new said added a tells is))
 
-  again_true : (old : State) (at : ℕ) (object : Scene) (session : Option ℕ) (count key : ℕ) (operation : Option ℕ) (arguments : List Datum) (keyed : Keyed) → slice_get old.objects at ≡ Some object →
+  again_true : (old : State) (at : ℕ) (object : Scene) (session : Option ℕ) (count key : ℕ) (operation : Option ℕ) (arguments : List Datum) (keyed : KeyState) → slice_get old.objects at ≡ Some object →
       SaysOf object session count key operation arguments keyed → (keyed ≡ keys.New → ⊥) → IsOwn claims old.objects no_account (keyed_text keyed)
   again_true old at object session count key operation arguments keys.New there says new = absurd (new refl)
   again_true old at object session count key operation arguments (keys.Repeated told reply) there says new =
@@ -561,10 +561,10 @@ module _ (claims : Claims) where
       (λ c wait nameless. idle is.opened is.object c is.by is.there wait nameless)
       (λ q o by at_o some same. here q o by (elsewhere q o by) at_o some same) cleared)))
     where
-      none_some : (o : Opened) → None ≡ Some o → ⊥
+      none_some : (o : OpenObject) → None ≡ Some o → ⊥
       none_some o e = cc
 
-      elsewhere : (q : ℕ) (o : Opened) → opened_in (slice_get (change old.peers place (λ p. nobody)) q) ≡ Some o → (q ≢ place) × (opened_in (slice_get old.peers q) ≡ Some o)
+      elsewhere : (q : ℕ) (o : OpenObject) → opened_in (slice_get (change old.peers place (λ p. nobody)) q) ≡ Some o → (q ≢ place) × (opened_in (slice_get old.peers q) ≡ Some o)
       elsewhere q o by =
           let p = has_peer (slice_get (change old.peers place (λ x. nobody)) q) o by in
           elim (changed_was old.peers place (λ x. nobody) q p.0 p.1) [
@@ -572,7 +572,7 @@ module _ (claims : Claims) where
             | inr other ↦ (other.0, ap opened_in other.1 ∙ p.2)
           ]
 
-      here : (q : ℕ) (o : Opened) → opened_in (slice_get (change old.peers place (λ p. nobody)) q) ≡ Some o → (q ≢ place) × (opened_in (slice_get old.peers q) ≡ Some o) → o.object ≡ is.opened.object → o.session ≢ 0 →
+      here : (q : ℕ) (o : OpenObject) → opened_in (slice_get (change old.peers place (λ p. nobody)) q) ≡ Some o → (q ≢ place) × (opened_in (slice_get old.peers q) ≡ Some o) → o.object ≡ is.opened.object → o.session ≢ 0 →
           o.session ≡ is.opened.session → ⊥
       here q o by other at_o some same = other.0 (a.alone q place o is.opened other.1 is.by some at_o same)
   goes place old new said added a idle (none, lines, (mid, inr is, left)) =

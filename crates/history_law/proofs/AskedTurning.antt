@@ -10,8 +10,8 @@ use Rattle.guest_core.specs.declared.answer.SubmitFault.TheVariants as faults
 use Rattle.guest_core.specs.declared.seats.Seat.{Seat}
 use Rattle.guest_core.specs.Keys.{asks as asks_for}
 use Rattle.hosted_core.specs.Scene.{Scene}
-use Rattle.session_text.specs.declared.line.Line.TheVariants as lines
-use Rattle.session_text.specs.declared.line.Refusal.TheVariants as refusals
+use Rattle.session_text.specs.declared.line.ReplyLine.TheVariants as lines
+use Rattle.session_text.specs.declared.line.LineRefusal.TheVariants as refusals
 use Rattle.session_text.specs.Lines.{bye_text, line_text, withdrawn_text}
 use Rattle.live_core.specs.Hall.{Every}
 use Rattle.post_core.specs.Turns.{Asked, Turn, Runs}
@@ -22,7 +22,7 @@ use Rattle.post_core.specs.declared.served.Note.{Note}
 use Rattle.post_core.specs.declared.served.Note.TheVariants as notes
 use Rattle.client_core.specs.declared.ask.Ask.{Ask}
 use Rattle.client_core.specs.declared.ask.Ask.TheVariants as asks
-use Rattle.client_core.specs.declared.client.Opened.{Opened}
+use Rattle.client_core.specs.declared.client.OpenObject.{OpenObject}
 use Rattle.client_core.specs.Asks.{Asks}
 use Rattle.client_core.specs.Held.{is_some, waits_of}
 use Rattle.client_core.specs.State.{Peer, State, change, changed, comer, holding, left_with, opened_at, opened_in, waiting, waits_at, who_at, with_object}
@@ -66,7 +66,7 @@ takes_opened place asked old mid t =
 record Shrinks (old new : State) : Type 0 where
   objects : (j : ℕ) (now : Scene) → slice_get new.objects j ≡ Some now → (was : Scene) × (slice_get old.objects j ≡ Some was) × (now.guests.seats ≡ was.guests.seats)
       × ((c : Called) → IsIn c now.hall.waiting → IsIn c was.hall.waiting)
-  peers : (q : ℕ) (now : Opened) → opened_at new q ≡ Some now → (was : Opened) × (opened_at old q ≡ Some was) × (was.object ≡ now.object) × (was.session ≡ now.session)
+  peers : (q : ℕ) (now : OpenObject) → opened_at new q ≡ Some now → (was : OpenObject) × (opened_at old q ≡ Some was) × (was.object ≡ now.object) × (was.session ≡ now.session)
 
 shrinks_none : (old new : State) → new.objects ≡ old.objects → ((q : ℕ) → opened_at new q ≡ opened_at old q) → Shrinks old new
 shrinks_none old new same opened = record {
@@ -81,18 +81,18 @@ idle_less place old new less idle o object c by there wait nameless same =
     idle p.0 s.0 c p.1 (ap (slice_get old.objects) p.2 ∙ s.1) (s.3 c wait)
     (ap (λ (l : List Seat). slice_get l p.0.session) (sym s.2) ∙ ap (slice_get object.guests.seats) p.3 ∙ nameless) (same ∙ sym p.3)
 
-ends_peers : (object session number : ℕ) (text : List ℕ) (old new : State) (said added : Texts) → Ends object session number text old said added new → (q : ℕ) (now : Opened) → opened_at new q ≡ Some now →
-    (was : Opened) × (opened_at old q ≡ Some was) × (was.object ≡ now.object) × (was.session ≡ now.session)
+ends_peers : (object session number : ℕ) (text : List ℕ) (old new : State) (said added : Texts) → Ends object session number text old said added new → (q : ℕ) (now : OpenObject) → opened_at new q ≡ Some now →
+    (was : OpenObject) × (opened_at old q ≡ Some was) × (was.object ≡ now.object) × (was.session ≡ now.session)
 ends_peers object session number text old new said added (inl (place, e)) q now is = by (changed_was old.peers place (waiting false) q p.0 p.1)
   where
     p : (p : Peer) × (slice_get (change old.peers place (waiting false)) q ≡ Some p) × (p.opened ≡ Some now)
     p = has_peer (slice_get (change old.peers place (waiting false)) q) now (ap (λ (s : State). opened_at s q) (sym e.left) ∙ is)
 
     by : ((q ≡ place) × ((was : Peer) × (slice_get old.peers q ≡ Some was) × (p.0 ≡ waiting false was))) ⊎ ((q ≢ place) × (slice_get old.peers q ≡ Some p.0)) →
-        (was : Opened) × (opened_at old q ≡ Some was) × (was.object ≡ now.object) × (was.session ≡ now.session)
+        (was : OpenObject) × (opened_at old q ≡ Some was) × (was.object ≡ now.object) × (was.session ≡ now.session)
     by (inl (here, (was, there, same))) =
         let u = with_waits_some was.opened false now (sym (ap (λ (x : Peer). x.opened) same) ∙ p.2) in
-        (u.0, ap opened_in there ∙ u.1, sym (ap (λ (x : Opened). x.object) u.2), sym (ap (λ (x : Opened). x.session) u.2))
+        (u.0, ap opened_in there ∙ u.1, sym (ap (λ (x : OpenObject). x.object) u.2), sym (ap (λ (x : OpenObject). x.session) u.2))
     by (inr (other, same)) = (now, ap opened_in same ∙ p.2, refl, refl)
 ends_peers object session number text old new said added (inr (none, n)) q now is = (now, ap (λ (s : State). opened_at s q) (sym n.left) ∙ is, refl, refl)
 
@@ -276,15 +276,15 @@ module _ (claims : Claims) where
         idle = λ o object c at_o there wait nameless same.
             let p = gone.shrinks.peers place o at_o in
             let own : p.0 ≡ opened = same_Some p.0 opened (sym p.1 ∙ by) in
-            gone.none object c (ap (slice_get new.objects) (sym (ap (λ (x : Opened). x.object) own) ∙ p.2) ∙ there) wait (same ∙ sym p.3 ∙ ap (λ (x : Opened). x.session) own);
+            gone.none object c (ap (slice_get new.objects) (sym (ap (λ (x : OpenObject). x.object) own) ∙ p.2) ∙ there) wait (same ∙ sym p.3 ∙ ap (λ (x : OpenObject). x.session) own);
       }
   withdraws_at place old new said added a (inl (opened, by, waits, inr (none, is))) = record {
     done = done_nothing claims old new said added a is;
     idle = λ o object c at_o there wait nameless same.
         let own : o ≡ opened = same_Some o opened (sym at_o ∙ ap (λ (s : State). opened_at s place) is.left ∙ by) in
         every_in (λ (x : Called). x.session ≡ opened.session → ⊥) object.hall.waiting c
-        (none object (ap (λ (s : State). slice_get s.objects opened.object) (sym is.left) ∙ ap (λ (x : Opened). slice_get new.objects x.object) (sym own) ∙ there)) wait
-        (same ∙ ap (λ (x : Opened). x.session) own);
+        (none object (ap (λ (s : State). slice_get s.objects opened.object) (sym is.left) ∙ ap (λ (x : OpenObject). slice_get new.objects x.object) (sym own) ∙ there)) wait
+        (same ∙ ap (λ (x : OpenObject). x.session) own);
   }
   withdraws_at place old new said added a (inr (none, is)) =
       let done = done_nothing claims old new said added a is in
@@ -457,10 +457,10 @@ nobody_asked claims t held_all each quiet = record {
   waits = λ place o s c by there wait same nameless. absurd (none place o by);
 }
   where
-    none_some : (o : Opened) → None ≡ Some o → ⊥
+    none_some : (o : OpenObject) → None ≡ Some o → ⊥
     none_some o is = cc
 
-    none : (place : ℕ) (o : Opened) → opened_in (slice_get (seen t).peers place) ≡ Some o → ⊥
+    none : (place : ℕ) (o : OpenObject) → opened_in (slice_get (seen t).peers place) ≡ Some o → ⊥
     none place o by = let peer = has_peer (slice_get (seen t).peers place) o by in none_some o (sym (quiet place peer.0 peer.1).0 ∙ peer.2)
 
 pub nobody_has_asked : NobodyHasAsked

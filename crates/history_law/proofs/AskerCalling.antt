@@ -3,7 +3,7 @@ use Rattle.std.proofs.Common.{◌≡◌, inl, inr, sym, subst, refl, ℕ, List, 
 use Rattle.std.specs.Prelude.{Bool, true, false}
 use Rattle.std.specs.Global.{Vec}
 use Rattle.value_core.specs.declared.datum.Datum.{Datum}
-use Rattle.session_text.specs.declared.line.Refusal.TheVariants as refusals
+use Rattle.session_text.specs.declared.line.LineRefusal.TheVariants as refusals
 use Rattle.session_text.specs.declared.session.Action.{Action}
 use Rattle.session_text.specs.declared.session.Action.TheVariants as actions
 use Rattle.session_text.specs.Requests.{Request, opens, calls, cancels, quits}

@@ -6,8 +6,8 @@ use Rattle.std.specs.Str.Lines.{strip_carriage_return}
 use Rattle.std.proofs.lemmas.Option.{same_Some}
 use Rattle.text_core.specs.Runs.{NoLineFeed}
 use Rattle.guest_core.specs.declared.answer.SubmitFault.TheVariants as faults
-use Rattle.session_text.specs.declared.line.Line.TheVariants as lines
-use Rattle.session_text.specs.declared.line.Refusal.TheVariants as refusals
+use Rattle.session_text.specs.declared.line.ReplyLine.TheVariants as lines
+use Rattle.session_text.specs.declared.line.LineRefusal.TheVariants as refusals
 use Rattle.session_text.specs.Lines.{bye_text, line_text}
 use Rattle.hosted_core.specs.Scene.{Scene}
 use Rattle.post_core.specs.declared.served.LineEnd.{LineEnd}
@@ -16,7 +16,7 @@ use Rattle.post_core.specs.declared.served.Note.{Note}
 use Rattle.post_core.specs.declared.served.Note.TheVariants as notes
 use Rattle.client_core.specs.declared.ask.Ask.{Ask}
 use Rattle.client_core.specs.declared.ask.Ask.TheVariants as asks
-use Rattle.client_core.specs.declared.client.Opened.{Opened}
+use Rattle.client_core.specs.declared.client.OpenObject.{OpenObject}
 use Rattle.client_core.specs.Asks.{Asks}
 use Rattle.client_core.specs.Held.{is_some, is_whole_before, waits_of}
 use Rattle.client_core.specs.State.{Peer, State, change, changed, comer, holding, left_with, opened_at, opened_in, waits_at, who_at, who_in}
@@ -172,7 +172,7 @@ module _ (heard : Lines) where
       let opened : opened_at mid place ≡ t.peer.opened = ap opened_in now in
       wish_of place w.0 t.line (is_whole_before t.peer.is_cut t.behind) mid asked (ap who_in now ∙ w.1) w.2
       (ap waits_of (opened ∙ sym (ap opened_in t.there)) ∙ idle)
-      (subst (λ (o : Option Opened). IfOk asked (Asks (is_some o) (is_whole_before t.peer.is_cut t.behind) t.line)) (sym opened) t.asks)
+      (subst (λ (o : Option OpenObject). IfOk asked (Asks (is_some o) (is_whole_before t.peer.is_cut t.behind) t.line)) (sym opened) t.asks)
 
   did_on : DidBy heard GoesOn
   did_on past old new said added a rests = did_still heard past old old [] [] [] refl refl refl tt (awaits_past heard past [] old.objects old.peers a)

@@ -2,7 +2,7 @@
 use Rattle.std.proofs.Common.{◌≡◌, ◌≢◌, ℕ, ◌+◌, List, [], ◌∷◌, ◌++◌, Bool, true, false, bytes_eq, refl, sym, ap, ◌∙◌, subst, arith}
 use Rattle.std.specs.Prelude.{if◌then◌else◌}
 use Rattle.std.proofs.lemmas.Slice.Eq.{bytes_eq-Decides}
-use Rattle.live_core.specs.declared.front.Client.{Client}
+use Rattle.live_core.specs.declared.front.NamedClient.{NamedClient}
 use Rattle.history_law.specs.Keys.{KeyedCall, KeyEvent, epoch_began, name_came, call_ended, IsAmong, StaysKnown, calls_of, Gives, IsKnownSince, IsNext, StandsOnce}
 
 abbrev pub Events : Type 0
@@ -108,7 +108,7 @@ next_apart other told name next apart is = record {
 }
 
 -- an epoch began with a client of the name
-pub next_began : (clients : List Client) (told : Events) (name : List ℕ) (next : ℕ) → ((c : Client) × IsAmong clients name c) → ((c : Client) → IsAmong clients name c → next ≡ c.keys + 1) → IsCounted told name next
+pub next_began : (clients : List NamedClient) (told : Events) (name : List ℕ) (next : ℕ) → ((c : NamedClient) × IsAmong clients name c) → ((c : NamedClient) → IsAmong clients name c → next ≡ c.keys + 1) → IsCounted told name next
     → IsNext (epoch_began clients ∷ told) name next
 next_began clients told name next (c, among) one counted = record {
   known = (next, [], record { from = epoch_began clients; before = told; told_is = refl; gives = (c, among, one c among); stays = tt });

@@ -13,11 +13,11 @@ use Rattle.guest_core.specs.Keys.{asks as asks_for}
 use Rattle.audit_core.specs.Steps.{Step, ran}
 use Rattle.guest_core.specs.declared.answer.Cancelled.TheVariants as cancels_by
 use Rattle.guest_core.specs.declared.answer.SubmitFault.TheVariants as faults
-use Rattle.session_text.specs.declared.line.Line.TheVariants as lines
+use Rattle.session_text.specs.declared.line.ReplyLine.TheVariants as lines
 use Rattle.session_text.specs.Lines.{accepted_text, bye_text, cancel_name, ended_text, line_text, opened_text, withdrawn_text}
 use Rattle.word_core.specs.Answers.{cancelled_line}
-use Rattle.hosted_core.specs.declared.hosted.Keyed.{Keyed}
-use Rattle.hosted_core.specs.declared.hosted.Keyed.TheVariants as keys
+use Rattle.hosted_core.specs.declared.hosted.KeyState.{KeyState}
+use Rattle.hosted_core.specs.declared.hosted.KeyState.TheVariants as keys
 use Rattle.hosted_core.specs.Calls.{Does}
 use Rattle.hosted_core.specs.Keys.{Says as SaysOf, Repeats as IsRepeat, operation_or}
 use Rattle.hosted_core.specs.Lines.{entered_lines}
@@ -27,7 +27,7 @@ use Rattle.client_core.specs.declared.ask.Ask.{Ask}
 use Rattle.client_core.specs.declared.ask.Ask.TheVariants as asks
 use Rattle.client_core.specs.declared.ask.Sight.{Sight}
 use Rattle.client_core.specs.declared.ask.Sight.TheVariants as insides
-use Rattle.client_core.specs.declared.client.Opened.{Opened}
+use Rattle.client_core.specs.declared.client.OpenObject.{OpenObject}
 use Rattle.history_law.specs.Happens.{with_ran, all_happen}
 use Rattle.client_core.specs.State.{Peer, State, one_text, opened_at, told_to, who_in, session_by}
 use Rattle.client_core.specs.Deeds.{Texts, Deed, Nothing, OnlyTold, Then}
@@ -216,7 +216,7 @@ runs_tell old start mid new at session operation arguments before after taken th
       },
     )
 
-submits : (place : ℕ) (seat : Opened) (operation : ℕ) (arguments : List Datum) → TellsBy (Submits place seat operation arguments)
+submits : (place : ℕ) (seat : OpenObject) (operation : ℕ) (arguments : List Datum) → TellsBy (Submits place seat operation arguments)
 submits place seat operation arguments old new said added is =
     let text = accepted_text (told_of is.after is.taken.number) in
     runs_tell old _ is.mid new seat.object seat.session operation arguments is.before is.after is.taken is.there is.does refl is.ended is.ends
@@ -239,11 +239,11 @@ frees at session old new said added is =
     tells_as old new new said [] added [] is.told is.lines refl
     (tells_quiet old new at is.object _ is.there (does (leaves session is.now is.was_here is.guests is.leaves)) (ap (λ (s : State). s.objects) is.left))
 
-gets : (place : ℕ) (old : State) (opened seat : Opened) (new : State) → GetsNumber place old opened seat new → Tells old [] [] new
+gets : (place : ℕ) (old : State) (opened seat : OpenObject) (new : State) → GetsNumber place old opened seat new → Tells old [] [] new
 gets place old opened seat new is =
     tells_quiet old new opened.object is.object _ is.there (does (gets_number is.session is.free)) (ap (λ (s : State). s.objects) is.left)
 
-sits : (place : ℕ) (old : State) (opened seat : Opened) (new : State) → Sits place old opened seat new → Tells old [] [] new
+sits : (place : ℕ) (old : State) (opened seat : OpenObject) (new : State) → Sits place old opened seat new → Tells old [] [] new
 sits place old opened seat new (inl is) = tells_still old new [] [] [] refl refl (ap (λ (s : State). s.objects) is.1) tt
 sits place old opened seat new (inr is) = gets place old opened seat new is
 
@@ -258,7 +258,7 @@ repeat_of : (object : Scene) (session : Option ℕ) (count key : ℕ) (operation
 repeat_of object (Some s) count key operation arguments told reply says = (s, says)
 repeat_of object None count key operation arguments told reply says = absurd says
 
-again_true : (old : State) (at : ℕ) (object : Scene) (session : Option ℕ) (count key : ℕ) (operation : Option ℕ) (arguments : List Datum) (keyed : Keyed) → slice_get old.objects at ≡ Some object →
+again_true : (old : State) (at : ℕ) (object : Scene) (session : Option ℕ) (count key : ℕ) (operation : Option ℕ) (arguments : List Datum) (keyed : KeyState) → slice_get old.objects at ≡ Some object →
     SaysOf object session count key operation arguments keyed → (keyed ≡ keys.New → ⊥) → IsTrue old.objects no_account (keyed_text keyed)
 again_true old at object session count key operation arguments keys.New there says new = absurd (new refl)
 again_true old at object session count key operation arguments (keys.Repeated told reply) there says new =

@@ -10,7 +10,7 @@ use Rattle.word_core.specs.Events.{Called, end_of}
 use Rattle.session_text.specs.Lines.{ended_text}
 use Rattle.live_core.specs.declared.call.Ran.{Ran}
 use Rattle.hosted_core.specs.Scene.{Scene, told_of}
-use Rattle.client_core.specs.declared.client.Opened.{Opened}
+use Rattle.client_core.specs.declared.client.OpenObject.{OpenObject}
 use Rattle.client_core.specs.Held.{waits_of, with_waits}
 use Rattle.post_core.specs.declared.served.LineEnd.{LineEnd}
 use Rattle.client_core.specs.Asked as told
@@ -35,7 +35,7 @@ pub record IsEnding (part : Wanted → Part) (text : ℕ → List ℕ) : Type 0 
   pub text_is : (w : Wanted) → text_in (part w) ≡ text w.number ∷ []
   pub line_is : (w : Wanted) → line_in (part w) ≡ []
 
-idle_now : (x : Option Opened) → waits_of (with_waits false x) ≡ false
+idle_now : (x : Option OpenObject) → waits_of (with_waits false x) ≡ false
 idle_now None = refl
 idle_now (Some o) = refl
 
@@ -53,7 +53,7 @@ for_other c (Some w) other = elim (eqb_tells w c) [ inl y ↦ absurd (other (ap 
 
 -- the end of one call, in one talk
 pub one_voice : (c n at session number : ℕ) (part : Wanted → Part) (text : ℕ → List ℕ) (Is : Part → Type 0) (head : ObjectForm → ℕ → List End) (objects : List Scene) (pool : Pool) (old new : State) (said added : Texts) (t : Talk) →
-    IsEnding part text → ((o : Opened) (w : Wanted) → o.object ≡ at → o.session ≡ session → Wants objects pool o w → Is (part w)) →
+    IsEnding part text → ((o : OpenObject) (w : Wanted) → o.object ≡ at → o.session ≡ session → Wants objects pool o w → Is (part w)) →
     ((w : Wanted) (o : ObjectForm) (j : ℕ) → end_in o j (part w) ≡ head o j) → Stands c n objects pool old.peers t → (is : told.Ends at session number (text number) old said added new) →
     Voice c Is (λ (o : ObjectForm) (j : ℕ). if is_for c (told_whom at session number (text number) old new said added is) then head o j else []) said (λ (now : Talk). Stands c n objects pool new.peers now) t []
 one_voice c n at session number part text Is head objects pool old new said added t ending kept heads stands (inr (nobody, is)) =
@@ -80,7 +80,7 @@ one_voice c n at session number part text Is head objects pool old new said adde
         let wait = is.4 in
         let o = wait.0 in
         let same : e.waits.opened ≡ o = same_Some e.waits.opened o (sym e.waits.by ∙ ap opened_in there ∙ wait.1) in
-        let number_is : number ≡ w.number = sym e.waits.is.told_is ∙ ap (λ (x : Opened). x.told) same ∙ wait.3 in
+        let number_is : number ≡ w.number = sym e.waits.is.told_is ∙ ap (λ (x : OpenObject). x.told) same ∙ wait.3 in
         record {
           parts = part w ∷ [];
           now = Here None held;
@@ -90,7 +90,7 @@ one_voice c n at session number part text Is head objects pool old new said adde
           heard = ap (λ (l : List (List ℕ × LineEnd)). l ++ []) (ending.line_is w);
           texts = ap (λ (l : List (List ℕ)). l ++ []) (ending.text_is w) ∙ ap (λ k. text k ∷ []) (sym number_is)
               ∙ sym (ap (texts_to c) e.told ∙ told_mine c old.peers place (text number) here);
-          all = (kept o w (ap (λ (x : Opened). x.object) (sym same) ∙ e.waits.is.object) (ap (λ (x : Opened). x.session) (sym same) ∙ e.waits.is.session_is) wait.4, tt);
+          all = (kept o w (ap (λ (x : OpenObject). x.object) (sym same) ∙ e.waits.is.object) (ap (λ (x : OpenObject). x.session) (sym same) ∙ e.waits.is.session_is) wait.4, tt);
           ends_are = λ f j. append-nil (end_in f j (part w)) ∙ heads w f j;
         }
 

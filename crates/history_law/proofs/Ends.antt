@@ -9,7 +9,7 @@ use Rattle.session_text.specs.Lines.{accepted_text, ended_text}
 use Rattle.live_core.specs.declared.call.Ran.{Ran}
 use Rattle.live_core.specs.Hall.{Every}
 use Rattle.hosted_core.specs.Scene.{Scene, told_of}
-use Rattle.client_core.specs.declared.client.Opened.{Opened}
+use Rattle.client_core.specs.declared.client.OpenObject.{OpenObject}
 use Rattle.client_core.specs.Held.{with_waits}
 use Rattle.client_core.specs.Asked.{Ends, AllEnd}
 use Rattle.client_core.specs.Deeds.{Texts}
@@ -20,10 +20,10 @@ use Rattle.history_law.proofs.Lists.{Apart, one_of_session, calls_of, changed_wa
 use Rattle.history_law.proofs.Places.{all_past, alone_changed}
 
 -- what was opened where now this is
-pub with_waits_some : (x : Option Opened) (b : Bool) (o : Opened) → with_waits b x ≡ Some o → (u : Opened) × (x ≡ Some u) × (o ≡ record u { waits = b })
+pub with_waits_some : (x : Option OpenObject) (b : Bool) (o : OpenObject) → with_waits b x ≡ Some o → (u : OpenObject) × (x ≡ Some u) × (o ≡ record u { waits = b })
 with_waits_some None b o is = absurd (none_some o is)
   where
-    none_some : (o : Opened) → None ≡ Some o → ⊥
+    none_some : (o : OpenObject) → None ≡ Some o → ⊥
     none_some o is = cc
 with_waits_some (Some u) b o is = (u, refl, sym (same_Some (record u { waits = b }) o is))
 
@@ -55,7 +55,7 @@ module _ (heard : Lines) where
 
   -- who waits where fewer calls are there
   pub seated_pool : (past : Texts) (objects : List Scene) (was is : Pool) (p : Peer) →
-      ((o : Opened) → p.opened ≡ Some o → o.waits ≡ true → (d : Called) → d.session ≡ o.session → was o.object d → is o.object d) →
+      ((o : OpenObject) → p.opened ≡ Some o → o.waits ≡ true → (d : Called) → d.session ≡ o.session → was o.object d → is o.object d) →
       IsSeated heard past objects was p → IsSeated heard past objects is p
   seated_pool past objects was is p f s = record {
     held = s.held;
@@ -83,8 +83,8 @@ module _ (heard : Lines) where
     opened = λ o by.
         let u = with_waits_some p.opened false o by in
         let m = s.opened u.0 u.1 in
-        record { here = m.here; who_is = m.who_is; object = m.object; there = ap (λ (x : Opened). slice_get objects x.object) u.2 ∙ m.there; asked = m.asked };
-    waits = λ o by waits. absurd (let u = with_waits_some p.opened false o by in true_false o.waits waits (ap (λ (x : Opened). x.waits) u.2));
+        record { here = m.here; who_is = m.who_is; object = m.object; there = ap (λ (x : OpenObject). slice_get objects x.object) u.2 ∙ m.there; asked = m.asked };
+    waits = λ o by waits. absurd (let u = with_waits_some p.opened false o by in true_false o.waits waits (ap (λ (x : OpenObject). x.waits) u.2));
   }
 
   pub one_end : (past : Texts) (at : ℕ) (object : Scene) (c : Called) (pool rest : Pool) (session number : ℕ) (text : List ℕ) (old new : State) (said added : Texts) →
@@ -112,7 +112,7 @@ module _ (heard : Lines) where
             (λ q p now. others q p (changed_was old.peers place (waiting false) q p now)),
         subst (λ (ps : List Peer). AreAlone ps) (sym left)
             (alone_changed old.peers place (waiting false) alone
-            (λ p now o by waits. absurd (let u = with_waits_some p.opened false o by in true_false o.waits waits (ap (λ (x : Opened). x.waits) u.2)))),
+            (λ p now o by waits. absurd (let u = with_waits_some p.opened false o by in true_false o.waits waits (ap (λ (x : OpenObject). x.waits) u.2)))),
         ap (λ (s : State). s.objects) e.left,
       )
     where

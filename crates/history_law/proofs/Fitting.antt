@@ -8,7 +8,7 @@ use Rattle.guest_core.specs.declared.seats.Seat.TheVariants.{Nameless}
 use Rattle.guest_core.specs.Guests.{Guests}
 use Rattle.hosted_core.specs.Scene.{Scene, with_guests, told_of}
 use Rattle.session_text.specs.Lines.{ended_text}
-use Rattle.client_core.specs.declared.client.Opened.{Opened}
+use Rattle.client_core.specs.declared.client.OpenObject.{OpenObject}
 use Rattle.client_core.specs.Asked.{AllEnd, Ends}
 use Rattle.client_core.specs.Deeds.{Texts}
 use Rattle.client_core.specs.State.{Peer, State, change, changed, opened_in, opening, waiting, who_in}
@@ -21,7 +21,7 @@ use Rattle.history_law.proofs.Clients.{has_taken}
 use Rattle.history_law.proofs.Coming.{HasCome, HasLeft}
 use Rattle.history_law.proofs.Known.{all_in}
 
-none_some : (o : Opened) → None ≡ Some o → ⊥
+none_some : (o : OpenObject) → None ≡ Some o → ⊥
 none_some o is = cc
 
 -- no call of a session of the object at a place waits
@@ -29,7 +29,7 @@ abbrev pub NoneAt : List Scene → ℕ → ℕ → Type 0
 NoneAt objects at session = (s : Scene) (c : Called) → slice_get objects at ≡ Some s → IsIn c s.hall.waiting → c.session ≢ session
 
 -- one opens something
-opening_was : (peers : List Peer) (place : ℕ) (now : Opened) (q : ℕ) (o : Opened) → opened_in (slice_get (change peers place (opening now)) q) ≡ Some o →
+opening_was : (peers : List Peer) (place : ℕ) (now : OpenObject) (q : ℕ) (o : OpenObject) → opened_in (slice_get (change peers place (opening now)) q) ≡ Some o →
     ((q ≡ place) × (o ≡ now)) ⊎ ((q ≢ place) × (opened_in (slice_get peers q) ≡ Some o))
 opening_was peers place now q o by = on (changed_was peers place (opening now) q p.0 p.1)
   where
@@ -41,7 +41,7 @@ opening_was peers place now q o by = on (changed_was peers place (opening now) q
     on (inl (here, (was, there, is))) = inl (here, same_Some o now (sym p.2 ∙ ap (λ (x : Peer). x.opened) is))
     on (inr (other, same)) = inr (other, ap opened_in same ∙ p.2)
 
-who_same : (peers : List Peer) (place : ℕ) (now : Opened) (q : ℕ) → who_in (slice_get (change peers place (opening now)) q) ≡ who_in (slice_get peers q)
+who_same : (peers : List Peer) (place : ℕ) (now : OpenObject) (q : ℕ) → who_in (slice_get (change peers place (opening now)) q) ≡ who_in (slice_get peers q)
 who_same [] place now q = refl
 who_same (p ∷ peers) zero now zero = refl
 who_same (p ∷ peers) zero now (suc q) = refl
@@ -59,8 +59,8 @@ module _ (claims : Claims) where
 
   -- one object goes on
   pub scene_asked : (objects : List Scene) (peers : List Peer) (at : ℕ) (s now : Scene) → slice_get objects at ≡ Some s → IsAskedOf (claims.called at) now →
-      ((Is : List ℕ → Type 0) (place : ℕ) (o : Opened) → opened_in (slice_get peers place) ≡ Some o → o.object ≡ at → o.session ≢ 0 → ClientHas (IsHere Is) s.guests o.session → ClientHas (IsHere Is) now.guests o.session) →
-      ((place : ℕ) (o : Opened) (c : Called) → opened_in (slice_get peers place) ≡ Some o → o.object ≡ at → IsIn c now.hall.waiting → c.session ≡ o.session → slice_get now.guests.seats o.session ≡ Some Nameless →
+      ((Is : List ℕ → Type 0) (place : ℕ) (o : OpenObject) → opened_in (slice_get peers place) ≡ Some o → o.object ≡ at → o.session ≢ 0 → ClientHas (IsHere Is) s.guests o.session → ClientHas (IsHere Is) now.guests o.session) →
+      ((place : ℕ) (o : OpenObject) (c : Called) → opened_in (slice_get peers place) ≡ Some o → o.object ≡ at → IsIn c now.hall.waiting → c.session ≡ o.session → slice_get now.guests.seats o.session ≡ Some Nameless →
       o.waits ≡ true) → AllAsked claims objects peers → AllAsked claims (slice_set objects at now) peers
   scene_asked objects peers at s now there is here waits a = record {
     asked = λ j x at_j. elim (set_was objects at j now x s there at_j) [
@@ -80,8 +80,8 @@ module _ (claims : Claims) where
   }
 
   -- what is opened at a place was opened there before, and waits as it did, or none waits any more
-  pub record IsLess (objects : List Scene) (old : List Peer) (q : ℕ) (who : Option ℕ) (o : Opened) : Type 0 where
-    pub was : Opened
+  pub record IsLess (objects : List Scene) (old : List Peer) (q : ℕ) (who : Option ℕ) (o : OpenObject) : Type 0 where
+    pub was : OpenObject
     pub by : opened_in (slice_get old q) ≡ Some was
     pub who_is : who_in (slice_get old q) ≡ who
     pub object : was.object ≡ o.object
@@ -90,7 +90,7 @@ module _ (claims : Claims) where
     pub waits : was.waits ≡ true → (o.waits ≡ true) ⊎ NoneAt objects o.object o.session
 
   -- the same is known of one that has opened the same
-  here_as : (was now : Option ℕ) (o u : Opened) (v : Guests) → was ≡ now → o.object ≡ u.object → o.is_named ≡ u.is_named → o.session ≡ u.session → ClientHas (IsHere (OpenedAs claims was o)) v o.session →
+  here_as : (was now : Option ℕ) (o u : OpenObject) (v : Guests) → was ≡ now → o.object ≡ u.object → o.is_named ≡ u.is_named → o.session ≡ u.session → ClientHas (IsHere (OpenedAs claims was o)) v o.session →
       ClientHas (IsHere (OpenedAs claims now u)) v u.session
   here_as was now o u v who object is_named session (inl is) = inl (ap (slice_get v.seats) (sym session) ∙ is)
   here_as was now o u v who object is_named session (inr (p, g, is, (here, (named, knows)))) = inr (
@@ -100,7 +100,7 @@ module _ (claims : Claims) where
     (here, (sym is_named ∙ named, subst (λ (w : Option ℕ). claims.named w u.object g.name) who (subst (λ n. claims.named was n g.name) object knows))),
   )
 
-  pub peers_asked : (objects : List Scene) (old new : List Peer) → ((q : ℕ) (o : Opened) → opened_in (slice_get new q) ≡ Some o → IsLess objects old q (who_in (slice_get new q)) o) → AllAsked claims objects old → AllAsked claims objects new
+  pub peers_asked : (objects : List Scene) (old new : List Peer) → ((q : ℕ) (o : OpenObject) → opened_in (slice_get new q) ≡ Some o → IsLess objects old q (who_in (slice_get new q)) o) → AllAsked claims objects old → AllAsked claims objects new
   peers_asked objects old new less a = record {
     asked = a.asked;
     here = λ q o s by some at.
@@ -120,8 +120,8 @@ module _ (claims : Claims) where
   }
 
   -- one place changes
-  pub less_change : (objects : List Scene) (peers : List Peer) (place : ℕ) (f : Peer → Peer) → ((p : Peer) (o : Opened) → slice_get peers place ≡ Some p → (f p).opened ≡ Some o → IsLess objects peers place (f p).who o) →
-      (q : ℕ) (o : Opened) → opened_in (slice_get (change peers place f) q) ≡ Some o → IsLess objects peers q (who_in (slice_get (change peers place f) q)) o
+  pub less_change : (objects : List Scene) (peers : List Peer) (place : ℕ) (f : Peer → Peer) → ((p : Peer) (o : OpenObject) → slice_get peers place ≡ Some p → (f p).opened ≡ Some o → IsLess objects peers place (f p).who o) →
+      (q : ℕ) (o : OpenObject) → opened_in (slice_get (change peers place f) q) ≡ Some o → IsLess objects peers q (who_in (slice_get (change peers place f) q)) o
   less_change objects peers place f less q o by = on (changed_was peers place f q now.0 now.1)
     where
       now : (p : Peer) × (slice_get (change peers place f) q ≡ Some p) × (p.opened ≡ Some o)
@@ -147,41 +147,41 @@ module _ (claims : Claims) where
       (less_change objects peers place f (λ p o there is.
       record { was = o; by = ap opened_in there ∙ sym (same p).1 ∙ is; who_is = ap who_in there ∙ sym (same p).0; object = refl; named = refl; session = refl; waits = λ w. inl w })) a
 
-  pub opens_asked : (objects : List Scene) (peers : List Peer) (place : ℕ) (now : Opened) (s : Scene) → slice_get objects now.object ≡ Some s →
+  pub opens_asked : (objects : List Scene) (peers : List Peer) (place : ℕ) (now : OpenObject) (s : Scene) → slice_get objects now.object ≡ Some s →
       (now.session ≢ 0 → ClientHas (IsHere (OpenedAs claims (who_in (slice_get peers place)) now)) s.guests now.session) →
-      ((q : ℕ) (u : Opened) → opened_in (slice_get peers q) ≡ Some u → now.session ≢ 0 → u.object ≡ now.object → u.session ≡ now.session → q ≡ place) →
+      ((q : ℕ) (u : OpenObject) → opened_in (slice_get peers q) ≡ Some u → now.session ≢ 0 → u.object ≡ now.object → u.session ≡ now.session → q ≡ place) →
       ((c : Called) → IsIn c s.hall.waiting → c.session ≡ now.session → slice_get s.guests.seats now.session ≡ Some Nameless → now.waits ≡ true) → AllAsked claims objects peers →
       AllAsked claims objects (change peers place (opening now))
   opens_asked objects peers place now s there here alone waits a = record {
     asked = a.asked;
     here = λ q o x by some at. elim (opening_was peers place now q o by) [
       | inl own ↦
-          let x_is : x ≡ s = same_Some x s (sym at ∙ ap (λ (y : Opened). slice_get objects y.object) own.1 ∙ there) in
+          let x_is : x ≡ s = same_Some x s (sym at ∙ ap (λ (y : OpenObject). slice_get objects y.object) own.1 ∙ there) in
           subst (λ (y : Scene). ClientHas (IsHere (OpenedAs claims (who_in (slice_get (change peers place (opening now)) q)) o)) y.guests o.session) (sym x_is)
           (here_as (who_in (slice_get peers place)) (who_in (slice_get (change peers place (opening now)) q)) now o s.guests
-          (ap (λ n. who_in (slice_get peers n)) (sym own.0) ∙ sym (who_same peers place now q)) (ap (λ (y : Opened). y.object) (sym own.1)) (ap (λ (y : Opened). y.is_named) (sym own.1))
-          (ap (λ (y : Opened). y.session) (sym own.1)) (here (λ none. some (ap (λ (y : Opened). y.session) own.1 ∙ none))))
+          (ap (λ n. who_in (slice_get peers n)) (sym own.0) ∙ sym (who_same peers place now q)) (ap (λ (y : OpenObject). y.object) (sym own.1)) (ap (λ (y : OpenObject). y.is_named) (sym own.1))
+          (ap (λ (y : OpenObject). y.session) (sym own.1)) (here (λ none. some (ap (λ (y : OpenObject). y.session) own.1 ∙ none))))
       | inr other ↦
           here_as (who_in (slice_get peers q)) (who_in (slice_get (change peers place (opening now)) q)) o o x.guests (sym (who_same peers place now q)) refl refl refl (a.here q o x other.1 some at)
     ];
     alone = λ q r o u by also some object session. elim (opening_was peers place now q o by) [
       | inl own ↦ elim (opening_was peers place now r u also) [
         | inl both ↦ own.0 ∙ sym both.0
-        | inr other ↦ own.0 ∙ sym (alone r u other.1 (λ none. some (ap (λ (y : Opened). y.session) own.1 ∙ none)) (sym object ∙ ap (λ (y : Opened). y.object) own.1)
-            (sym session ∙ ap (λ (y : Opened). y.session) own.1))
+        | inr other ↦ own.0 ∙ sym (alone r u other.1 (λ none. some (ap (λ (y : OpenObject). y.session) own.1 ∙ none)) (sym object ∙ ap (λ (y : OpenObject). y.object) own.1)
+            (sym session ∙ ap (λ (y : OpenObject). y.session) own.1))
       ]
       | inr first ↦ elim (opening_was peers place now r u also) [
-        | inl own ↦ alone q o first.1 (λ none. some (session ∙ ap (λ (y : Opened). y.session) own.1 ∙ none)) (object ∙ ap (λ (y : Opened). y.object) own.1)
-            (session ∙ ap (λ (y : Opened). y.session) own.1) ∙ sym own.0
+        | inl own ↦ alone q o first.1 (λ none. some (session ∙ ap (λ (y : OpenObject). y.session) own.1 ∙ none)) (object ∙ ap (λ (y : OpenObject). y.object) own.1)
+            (session ∙ ap (λ (y : OpenObject). y.session) own.1) ∙ sym own.0
         | inr other ↦ a.alone q r o u first.1 other.1 some object session
       ]
     ];
     waits = λ q o x c by at wait same nameless. elim (opening_was peers place now q o by) [
       | inl own ↦
-          let x_is : x ≡ s = same_Some x s (sym at ∙ ap (λ (y : Opened). slice_get objects y.object) own.1 ∙ there) in
-          ap (λ (y : Opened). y.waits) own.1
-          ∙ waits c (subst (λ (y : Scene). IsIn c y.hall.waiting) x_is wait) (same ∙ ap (λ (y : Opened). y.session) own.1)
-          (subst (λ (y : Opened). slice_get s.guests.seats y.session ≡ Some Nameless) own.1 (subst (λ (y : Scene). slice_get y.guests.seats o.session ≡ Some Nameless) x_is nameless))
+          let x_is : x ≡ s = same_Some x s (sym at ∙ ap (λ (y : OpenObject). slice_get objects y.object) own.1 ∙ there) in
+          ap (λ (y : OpenObject). y.waits) own.1
+          ∙ waits c (subst (λ (y : Scene). IsIn c y.hall.waiting) x_is wait) (same ∙ ap (λ (y : OpenObject). y.session) own.1)
+          (subst (λ (y : OpenObject). slice_get s.guests.seats y.session ≡ Some Nameless) own.1 (subst (λ (y : Scene). slice_get y.guests.seats o.session ≡ Some Nameless) x_is nameless))
       | inr other ↦ a.waits q o x c other.1 at wait same nameless
     ];
   }
@@ -202,7 +202,7 @@ module _ (claims : Claims) where
         | inr free ↦ absurd (has_taken (HasAskedFor (claims.called at) c) s.guests c.session (every_in (IsKnown (claims.called at) s.guests) s.hall.waiting c was.waits wait) (ap (slice_get s.guests.seats) same ∙ free))
       ]) a
 
-  pub joins_asked : (objects : List Scene) (peers : List Peer) (place at : ℕ) (s : Scene) (guests : Guests) (session : ℕ) (name : Option (List ℕ)) (now : Opened) → slice_get objects at ≡ Some s → slice_get (slice_set objects at (with_guests s guests)) at ≡ Some (with_guests s guests) →
+  pub joins_asked : (objects : List Scene) (peers : List Peer) (place at : ℕ) (s : Scene) (guests : Guests) (session : ℕ) (name : Option (List ℕ)) (now : OpenObject) → slice_get objects at ≡ Some s → slice_get (slice_set objects at (with_guests s guests)) at ≡ Some (with_guests s guests) →
       now.object ≡ at → now.session ≡ session → HasCome (claims.called at) s.guests guests session name →
       IfSome name (OpenedAs claims (who_in (slice_get peers place)) now) → AllAsked claims objects peers → AllAsked claims (slice_set objects at (with_guests s guests)) (change peers place (opening now))
   joins_asked objects peers place at s guests session name now there set object is come as_name a =
@@ -220,7 +220,7 @@ module _ (claims : Claims) where
   -- a session leaves that nobody has
   pub left_asked : (objects : List Scene) (peers : List Peer) (at : ℕ) (s : Scene) (guests : Guests) (session : ℕ) → slice_get objects at ≡ Some s → HasLeft (claims.called at) s.guests guests session →
       ((c : Called) → IsIn c s.hall.waiting → slice_get s.guests.seats session ≡ Some Nameless → c.session ≢ session) →
-      ((q : ℕ) (o : Opened) → opened_in (slice_get peers q) ≡ Some o → o.object ≡ at → o.session ≢ 0 → o.session ≢ session) → AllAsked claims objects peers →
+      ((q : ℕ) (o : OpenObject) → opened_in (slice_get peers q) ≡ Some o → o.object ≡ at → o.session ≢ 0 → o.session ≢ session) → AllAsked claims objects peers →
       AllAsked claims (slice_set objects at (with_guests s guests)) peers
   left_asked objects peers at s guests session there left idle apart a =
       let was = a.asked at s there in
@@ -239,15 +239,15 @@ module _ (claims : Claims) where
       (peers_asked old.objects old.peers (change old.peers place (waiting false)) (less_change old.objects old.peers place (waiting false) (λ p o there is.
       let u = with_waits_some p.opened false o is in
       let own : u.0 ≡ e.waits.opened = same_Some u.0 e.waits.opened (sym u.1 ∙ sym (ap opened_in there) ∙ e.waits.by) in
-      let object : o.object ≡ at = ap (λ (x : Opened). x.object) u.2 ∙ ap (λ (x : Opened). x.object) own ∙ e.waits.is.object in
-      let session_is : o.session ≡ session = ap (λ (x : Opened). x.session) u.2 ∙ ap (λ (x : Opened). x.session) own ∙ e.waits.is.session_is in
+      let object : o.object ≡ at = ap (λ (x : OpenObject). x.object) u.2 ∙ ap (λ (x : OpenObject). x.object) own ∙ e.waits.is.object in
+      let session_is : o.session ≡ session = ap (λ (x : OpenObject). x.session) u.2 ∙ ap (λ (x : OpenObject). x.session) own ∙ e.waits.is.session_is in
       record {
         was = u.0;
         by = ap opened_in there ∙ u.1;
         who_is = ap who_in there;
-        object = sym (ap (λ (x : Opened). x.object) u.2);
-        named = sym (ap (λ (x : Opened). x.is_named) u.2);
-        session = sym (ap (λ (x : Opened). x.session) u.2);
+        object = sym (ap (λ (x : OpenObject). x.object) u.2);
+        named = sym (ap (λ (x : OpenObject). x.is_named) u.2);
+        session = sym (ap (λ (x : OpenObject). x.session) u.2);
         waits = λ w. inr (λ s c here wait same. none s c (ap (slice_get old.objects) (sym object) ∙ here) wait (same ∙ session_is));
       })) a)
   ends_asked at session number text old new said added (inr (nobody, n)) none a = same_asked old new (ap (λ (s : State). s.objects) n.left) (ap (λ (s : State). s.peers) n.left) a

@@ -2,13 +2,13 @@
 use Rattle.std.proofs.Common.{◌≡◌, ℕ, ◌+◌, List, [], ◌∷◌, Some, subst}
 use Rattle.std.specs.Prelude.{slice_get}
 use Rattle.decl_core.specs.ObjectForm.{ObjectForm}
-use Rattle.live_core.specs.declared.front.Client.{Client}
+use Rattle.live_core.specs.declared.front.NamedClient.{NamedClient}
 use Rattle.history_law.specs.Keys.{epoch_began, ReadEpoch, told_with, all_told, AreKnownOn, KeysStandOnce, RepeatsAreTold}
 use Rattle.history_law.proofs.Counted.{Events, CallsAreNext, IsCounted, no_calls, not_counted, stands_once}
 use Rattle.history_law.proofs.Tables.{Holds, holds_steps, holds_began, keeps_lines, was_known}
 
 -- an epoch behind others
-holds_epoch : (o : ObjectForm) (e : ReadEpoch o) (told : Events) → CallsAreNext told → ((p : ℕ) (c : Client) → slice_get e.is.front.clients p ≡ Some c → IsCounted told c.name (c.keys + 1))
+holds_epoch : (o : ObjectForm) (e : ReadEpoch o) (told : Events) → CallsAreNext told → ((p : ℕ) (c : NamedClient) → slice_get e.is.front.clients p ≡ Some c → IsCounted told c.name (c.keys + 1))
     → Holds e.is.front (told_with o e told) e.came.guests
 holds_epoch o e told calls fits =
     let f = e.is.front in

@@ -3,7 +3,7 @@ use Rattle.std.proofs.Common.{◌≡◌, ◌≢◌, ℕ, zero, suc, ◌+◌, Lis
 use Rattle.std.specs.Prelude.{slice_get, unwrap_or}
 use Rattle.std.proofs.lemmas.List.{append-nil}
 use Rattle.decl_core.specs.ObjectForm.{ObjectForm}
-use Rattle.live_core.specs.declared.front.Client.{Client}
+use Rattle.live_core.specs.declared.front.NamedClient.{NamedClient}
 use Rattle.live_core.specs.declared.front.KeptCall.{KeptCall}
 use Rattle.live_core.specs.Front.{Opening}
 use Rattle.guest_core.specs.declared.guest.Guest.{Guest}
@@ -22,18 +22,18 @@ use Rattle.history_law.proofs.Tables.{Keeps, keeps_on, Holds, kept_of, holds_ste
 
 -- the clients of a front, each with its lines
 
-record IsFrom (g : Guest) (c : Client) (mine : List KeptCall) : Type 0 where
+record IsFrom (g : Guest) (c : NamedClient) (mine : List KeptCall) : Type 0 where
   pub same_name : c.name ≡ g.name
   pub next_is : g.keys.next ≡ c.keys + 1
   pub kept_is : g.keys.kept ≡ kept_from mine
   pub of : AreOfSession c.session mine
 
 -- none of these clients has this session
-abbrev AreApart : ℕ → List Client → Type 0
+abbrev AreApart : ℕ → List NamedClient → Type 0
 AreApart session [] = Unit {0}
 AreApart session (c ∷ clients) = (c.session ≢ session) × AreApart session clients
 
-abbrev AreFrom : List Client → List KeptCall → List Guest → Type 0
+abbrev AreFrom : List NamedClient → List KeptCall → List Guest → Type 0
 AreFrom [] kept [] = kept ≡ []
 AreFrom [] kept (g ∷ guests) = ⊥
 AreFrom (c ∷ clients) kept [] = ⊥
@@ -44,7 +44,7 @@ free_named : (p : ℕ) → ◌≡◌ {A = Option Seat} (Some Free) (Some (Named 
 free_named p is = cc
 
 -- a session that a client has is given to none that comes
-apart : (p : ℕ) (g : Guest) (now : ℕ) (old : Guests) (clients : List Client) (kept : List KeptCall) (new : Guests) → IsSound old → slice_get old.guests p ≡ Some g → OpenAll now old clients kept new → AreApart g.session clients
+apart : (p : ℕ) (g : Guest) (now : ℕ) (old : Guests) (clients : List NamedClient) (kept : List KeptCall) (new : Guests) → IsSound old → slice_get old.guests p ≡ Some g → OpenAll now old clients kept new → AreApart g.session clients
 apart p g now old [] kept new sound there is = tt
 apart p g now old (c ∷ clients) kept new sound there (mine, more, mid, cut, opens, rest) =
     let one = came_with now old c mine mid sound opens in (
@@ -52,7 +52,7 @@ apart p g now old (c ∷ clients) kept new sound there (mine, more, mid, cut, op
       apart p g now mid clients more new one.sound (subst (λ gs. slice_get gs p ≡ Some g) (sym one.guests_is) (get_front old.guests (one.guest ∷ []) p g there)) rest,
     )
 
-are_from : (now : ℕ) (old : Guests) (clients : List Client) (kept : List KeptCall) (new : Guests) → IsSound old → OpenAll now old clients kept new
+are_from : (now : ℕ) (old : Guests) (clients : List NamedClient) (kept : List KeptCall) (new : Guests) → IsSound old → OpenAll now old clients kept new
     → (guests : List Guest) × (new.guests ≡ old.guests ++ guests) × AreFrom clients kept guests
 are_from now old [] kept new sound is = ([], ap (λ (v : Guests). v.guests) is.1 ∙ sym (append-nil old.guests), is.0)
 are_from now old (c ∷ clients) kept new sound (mine, more, mid, cut, opens, rest) =
@@ -75,12 +75,12 @@ same_call k c is =
     ∙ ap (λ n. kept_of c.asked n (reply_in k.answer)) is.told
     ∙ ap (λ r. kept_of c.asked c.told r) is.reply)
 
-same_calls : (client : Client) (mine : List KeptCall) (calls : List Kept) → AreLinesFor client mine calls → calls ≡ kept_from mine
+same_calls : (client : NamedClient) (mine : List KeptCall) (calls : List Kept) → AreLinesFor client mine calls → calls ≡ kept_from mine
 same_calls client [] calls same = same
 same_calls client (k ∷ mine) calls (others, last, cut, one, same) =
     cut ∙ ap (λ l. l ++ last ∷ []) (same_calls client mine others same) ∙ ap (λ c. kept_from mine ++ c ∷ []) (same_call k last one.same)
 
-lines_of_session : (client : Client) (mine : List KeptCall) (calls : List Kept) → AreLinesFor client mine calls → AreOfSession client.session mine
+lines_of_session : (client : NamedClient) (mine : List KeptCall) (calls : List Kept) → AreLinesFor client mine calls → AreOfSession client.session mine
 lines_of_session client [] calls same = tt
 lines_of_session client (k ∷ mine) calls (others, last, cut, one, same) = (one.session, lines_of_session client mine others same)
 
@@ -96,14 +96,14 @@ others_more : (session other : ℕ) (mine more : List KeptCall) → other ≢ se
 others_more session other [] more apart of rest = rest
 others_more session other (line ∷ mine) more apart of rest = ((λ same. apart (sym of.0 ∙ same)), others_more session other mine more apart of.1 rest)
 
-others_from : (session : ℕ) (clients : List Client) (kept : List KeptCall) (guests : List Guest) → AreApart session clients → AreFrom clients kept guests → AreOfOthers session kept
+others_from : (session : ℕ) (clients : List NamedClient) (kept : List KeptCall) (guests : List Guest) → AreApart session clients → AreFrom clients kept guests → AreOfOthers session kept
 others_from session [] kept [] apart from = subst (AreOfOthers session) (sym from) tt
 others_from session [] kept (g ∷ guests) apart from = absurd from
 others_from session (c ∷ clients) kept [] apart from = absurd from
 others_from session (c ∷ clients) kept (g ∷ guests) apart (mine, more, cut, from, own, rest) =
     subst (AreOfOthers session) (sym cut) (others_more session c.session mine more apart.0 from.of (others_from session clients more guests apart.1 rest))
 
-others_known : (session : ℕ) (v : Guests) (clients : List Client) (kept : List KeptCall) → AreApart session clients → AreKnown v clients kept → AreOfOthers session kept
+others_known : (session : ℕ) (v : Guests) (clients : List NamedClient) (kept : List KeptCall) → AreApart session clients → AreKnown v clients kept → AreOfOthers session kept
 others_known session v [] kept apart known = subst (AreOfOthers session) (sym known) tt
 others_known session v (c ∷ clients) kept apart (mine, more, calls, cut, known, same, rest) =
     subst (AreOfOthers session) (sym cut)
@@ -122,17 +122,17 @@ split_same session (c ∷ a) (d ∷ b) x y is a_of b_of x_of y_of =
     (ap (λ e. e ∷ a) first.0 ∙ ap (λ l. d ∷ l) on.0, on.1)
 
 -- a client of a front was known so, with its kept calls
-record WasSo (v : Guests) (clients : List Client) (g : Guest) : Type 0 where
+record WasSo (v : Guests) (clients : List NamedClient) (g : Guest) : Type 0 where
   pub place : ℕ
   pub guest : Guest
   pub there : slice_get v.guests place ≡ Some guest
   pub same_name : guest.name ≡ g.name
   pub same_next : guest.keys.next ≡ g.keys.next
   pub same_kept : guest.keys.kept ≡ g.keys.kept
-  pub client : Client
+  pub client : NamedClient
   pub among : IsAmong clients g.name client
 
-was_more : (v : Guests) (c : Client) (clients : List Client) (g : Guest) → WasSo v clients g → WasSo v (c ∷ clients) g
+was_more : (v : Guests) (c : NamedClient) (clients : List NamedClient) (g : Guest) → WasSo v clients g → WasSo v (c ∷ clients) g
 was_more v c clients g is = record {
   place = is.place;
   guest = is.guest;
@@ -144,7 +144,7 @@ was_more v c clients g is = record {
   among = record { place = suc is.among.place; there = is.among.there; is_named = is.among.is_named };
 }
 
-was_first : (v : Guests) (x : Guest) (c : Client) (clients : List Client) (mine own : List KeptCall) (calls : List Kept) → IsKnown v c calls → AreLinesFor c mine calls → IsFrom x c own → own ≡ mine → WasSo v (c ∷ clients) x
+was_first : (v : Guests) (x : Guest) (c : NamedClient) (clients : List NamedClient) (mine own : List KeptCall) (calls : List Kept) → IsKnown v c calls → AreLinesFor c mine calls → IsFrom x c own → own ≡ mine → WasSo v (c ∷ clients) x
 was_first v x c clients mine own calls known same from is = record {
   place = known.place;
   guest = known.guest;
@@ -157,13 +157,13 @@ was_first v x c clients mine own calls known same from is = record {
 }
 
 -- the lines of the first client, and the others
-parts_of : (v : Guests) (x : Guest) (c : Client) (clients : List Client) (mine more own others : List KeptCall) (calls : List Kept) (guests : List Guest) → AreLinesFor c mine calls → AreKnown v clients more
+parts_of : (v : Guests) (x : Guest) (c : NamedClient) (clients : List NamedClient) (mine more own others : List KeptCall) (calls : List Kept) (guests : List Guest) → AreLinesFor c mine calls → AreKnown v clients more
     → IsFrom x c own → AreApart c.session clients → AreFrom clients others guests → own ++ others ≡ mine ++ more → (own ≡ mine) × (others ≡ more)
 parts_of v x c clients mine more own others calls guests same rest from apart rest_own is =
     split_same c.session own mine others more is from.of (lines_of_session c mine calls same) (others_from c.session clients others guests apart rest_own)
     (others_known c.session v clients more apart rest)
 
-was_so : (v : Guests) (clients : List Client) (kept : List KeptCall) (guests : List Guest) (p : ℕ) (g : Guest) → AreKnown v clients kept → AreFrom clients kept guests → slice_get guests p ≡ Some g → WasSo v clients g
+was_so : (v : Guests) (clients : List NamedClient) (kept : List KeptCall) (guests : List Guest) (p : ℕ) (g : Guest) → AreKnown v clients kept → AreFrom clients kept guests → slice_get guests p ≡ Some g → WasSo v clients g
 was_so v clients kept [] p g known from there = absurd cc
 was_so v [] kept (x ∷ guests) p g known from there = absurd from
 was_so v (c ∷ clients) kept (x ∷ guests) zero g (mine, more, calls, cut, known, same, rest) (own, others, cut_own, from, apart, rest_own) there =
@@ -174,7 +174,7 @@ was_so v (c ∷ clients) kept (x ∷ guests) (suc p) g (mine, more, calls, cut, 
     was_more v c clients g (was_so v clients more guests p g rest (subst (λ l. AreFrom clients l guests) parts.1 rest_own) there)
 
 -- so what was kept is kept
-still_kept : (old : Opening) (v : Guests) (clients : List Client) (told : Events) (g : Guest) → WasSo v clients g → ((p : ℕ) (x : Guest) → slice_get v.guests p ≡ Some x → Keeps old told x.name x.keys)
+still_kept : (old : Opening) (v : Guests) (clients : List NamedClient) (told : Events) (g : Guest) → WasSo v clients g → ((p : ℕ) (x : Guest) → slice_get v.guests p ≡ Some x → Keeps old told x.name x.keys)
     → Keeps old (epoch_began clients ∷ told) g.name g.keys
 still_kept old v clients told g was keeps = keeps_on old (epoch_began clients) told g.name g.keys (λ newer stays. ((was.client, was.among), stays))
     (subst (λ n. Keeps old told n g.keys) was.same_name

@@ -8,9 +8,9 @@ use Rattle.std.proofs.lemmas.List.Elements.{All-head, All-tail}
 use Rattle.std.proofs.lemmas.Option.{same_Some}
 use Rattle.text_core.specs.Runs.{NoLineFeed}
 use Rattle.guest_core.specs.declared.answer.SubmitFault.TheVariants as faults
-use Rattle.session_text.specs.declared.line.Line.{Line as Answer}
-use Rattle.session_text.specs.declared.line.Line.TheVariants as lines
-use Rattle.session_text.specs.declared.line.Refusal.TheVariants as refusals
+use Rattle.session_text.specs.declared.line.ReplyLine.{ReplyLine as Answer}
+use Rattle.session_text.specs.declared.line.ReplyLine.TheVariants as lines
+use Rattle.session_text.specs.declared.line.LineRefusal.TheVariants as refusals
 use Rattle.session_text.specs.Lines.{bye_text, line_text, withdrawn_text}
 use Rattle.word_core.specs.Events.{Called}
 use Rattle.hosted_core.specs.Scene.{Scene, told_of}
@@ -19,7 +19,7 @@ use Rattle.post_core.specs.declared.served.Note.TheVariants as notes
 use Rattle.post_core.specs.Turns.{is_joining}
 use Rattle.client_core.specs.declared.ask.Ask.{Ask}
 use Rattle.client_core.specs.declared.ask.Ask.TheVariants as asks
-use Rattle.client_core.specs.declared.client.Opened.{Opened}
+use Rattle.client_core.specs.declared.client.OpenObject.{OpenObject}
 use Rattle.client_core.specs.Held.{is_some, waits_of, with_waits}
 use Rattle.client_core.specs.Asked as told
 use Rattle.client_core.specs.Asked.{Goes, IsRefusal}
@@ -46,7 +46,7 @@ use Rattle.history_law.proofs.OrderStanding.{change_size, stands_other}
 use Rattle.history_law.proofs.Voicing.{IsSo, Spoke, SpokeAs, SpokeBy, Voice, deal_both, deal_of_both, no_ends, nobody_deal, spoke_as, spoke_come, spoke_like, spoke_nothing, spoke_quiet, spoke_then, spoke_two, to_nobody, voiced_none, voiced_quiet, voiced_two}
 
 -- what waited waits no more
-idle_now : (x : Option Opened) → waits_of (with_waits false x) ≡ false
+idle_now : (x : Option OpenObject) → waits_of (with_waits false x) ≡ false
 idle_now None = refl
 idle_now (Some o) = refl
 

@@ -20,7 +20,7 @@ use Rattle.history_law.proofs.Refusing.{refused_told}
 use Rattle.live_core.specs.declared.front.Answer.{Answer}
 use Rattle.live_core.specs.declared.front.Answer.TheVariants.{Replied, Cancelled}
 use Rattle.live_core.specs.declared.front.CarriedCall.{CarriedCall}
-use Rattle.live_core.specs.declared.front.Client.{Client}
+use Rattle.live_core.specs.declared.front.NamedClient.{NamedClient}
 use Rattle.live_core.specs.declared.front.KeptCall.{KeptCall}
 use Rattle.live_core.specs.Front.{Every, IsAnswer, IsKept, IsLong}
 use Rattle.guest_core.specs.declared.kept.Asked.{Asked}
@@ -69,12 +69,12 @@ recalls_keep o session old (k ∷ kept) new r all seated keep =
     recalls_keep o session r.2.0 kept new r.2.2 all.1 (remembers_seated old session _ _ _ r.2.0 r.2.1 seated)
     (remembers_keep o old session _ _ _ r.2.0 r.2.1 (record { known = call.operation.there; fit = call.fit }) (answer_worded k.answer all.0.answer) seated keep)
 
-opens_keep : (o : ObjectForm) (now : ℕ) (old : Guests) (c : Client) (kept : List KeptCall) (new : Guests) → Opens now old c kept new → Every (IsKept o) kept → AreSeated old → GuestsKeep o old → GuestsKeep o new
+opens_keep : (o : ObjectForm) (now : ℕ) (old : Guests) (c : NamedClient) (kept : List KeptCall) (new : Guests) → Opens now old c kept new → Every (IsKept o) kept → AreSeated old → GuestsKeep o old → GuestsKeep o new
 opens_keep o now old c kept new opens all seated keep =
     recalls_keep o c.session opens.mid kept new opens.recalls all (seated_admits old (guest_of c.name c.session (Some now) opens.first) opens.mid opens.comes seated)
     (admits_keep o old (guest_of c.name c.session (Some now) opens.first) opens.mid opens.comes keep)
 
-open_all_keep : (o : ObjectForm) (now : ℕ) (old : Guests) (clients : List Client) (kept : List KeptCall) (new : Guests) → OpenAll now old clients kept new → Every (IsKept o) kept → AreSeated old → GuestsKeep o old →
+open_all_keep : (o : ObjectForm) (now : ℕ) (old : Guests) (clients : List NamedClient) (kept : List KeptCall) (new : Guests) → OpenAll now old clients kept new → Every (IsKept o) kept → AreSeated old → GuestsKeep o old →
     GuestsKeep o new
 open_all_keep o now old [] kept new opens all seated keep = subst (GuestsKeep o) (sym opens.1) keep
 open_all_keep o now old (c ∷ clients) kept new (mine, more, mid, cut, one, rest) all seated keep =

@@ -43,7 +43,7 @@ use Rattle.history_law.proofs.Reading.{epochs_up_to, read_is_epoch}
 use Rattle.history_law.proofs.Sound.{epochs_are_sound}
 use Rattle.post_core.specs.Texts.{Begins, to}
 use Rattle.post_core.specs.Turns.{Turn, Runs, added_by}
-use Rattle.keep_loop.specs.declared.keep.Limits.{Limits}
+use Rattle.keep_loop.specs.declared.keep.LoopLimits.{LoopLimits}
 use Rattle.keep_loop.specs.Seen.{Happened}
 use Rattle.keep_loop.specs.Epochs.{rules_of, front_in, before_in, since_in, stored_since, Agrees, HasBegun, LastBegan, change_to, BeginsNone}
 use Rattle.keep_loop.specs.Stands.{IsBetween, Survives}
@@ -380,7 +380,7 @@ BegunSo first last j o written earlier s text found turns =
     Anew first j o (first_opening (epoch_at s) earlier) (all_ends o (epoch_at s) earlier) text found turns
     ⊎ Ahead first last j o (first_opening (epoch_at s) earlier) (all_ends o (epoch_at s) earlier) text found turns
 
-begins_so : (first : Table) (limits : Limits) (all : List Happened) (found : ℕ → List ℕ) (v : Survives Gives first limits all (λ j. before_in j all ++ found j)) (j : ℕ) (o : ObjectForm) (written : Opening)
+begins_so : (first : Table) (limits : LoopLimits) (all : List Happened) (found : ℕ → List ℕ) (v : Survives Gives first limits all (λ j. before_in j all ++ found j)) (j : ℕ) (o : ObjectForm) (written : Opening)
     (earlier : List Epoch) (text : List ℕ) → j < limits.journals → IsBetween (stored_since j all) (since_in j all) (found j) → front_in j all ≡ Some text → (s : StartsAt first j o written earlier) →
     HasBegun (rules_of Gives Fronts) v.last j all (v.answered ++ v.later) → BegunSo first v.last j o written earlier s text (found j) (v.answered ++ v.later)
 begins_so first limits all found v j o written earlier text within between is s (inl agrees) =
@@ -393,7 +393,7 @@ begins_so first limits all found v j o written earlier text within between is s 
     (no_bytes (found j) since.0 (sym (ap (since_in j) so.just ∙ since_change j so.front so.before) ∙ since.1)))
 
 -- it has not begun anew, and what is found are the first bytes of what all turns have added
-still_so : (first : Table) (limits : Limits) (all : List Happened) (found : ℕ → List ℕ) (v : Survives Gives first limits all (λ j. before_in j all ++ found j)) (j : ℕ) → j < limits.journals → front_in j all ≡ None →
+still_so : (first : Table) (limits : LoopLimits) (all : List Happened) (found : ℕ → List ℕ) (v : Survives Gives first limits all (λ j. before_in j all ++ found j)) (j : ℕ) → j < limits.journals → front_in j all ≡ None →
     HasBegun (rules_of Gives Fronts) v.last j all (v.answered ++ v.later) → BeginsNone j (v.answered ++ v.later) × Begins (found j) (added_by j (v.answered ++ v.later))
 still_so first limits all found v j within none (inl agrees) =
     let so : BeginsNone j (v.answered ++ v.later) × (before_in j all ≡ []) = subst (λ (x : Option (List ℕ)). Agrees j x (before_in j all) (v.answered ++ v.later)) none agrees in

@@ -15,7 +15,7 @@ use Rattle.post_core.specs.declared.served.LineEnd.{LineEnd}
 use Rattle.post_core.specs.declared.served.LineEnd.TheVariants as ends
 use Rattle.client_core.specs.declared.ask.Ask.{Ask}
 use Rattle.client_core.specs.declared.ask.Ask.TheVariants as asks
-use Rattle.client_core.specs.declared.client.Opened.{Opened}
+use Rattle.client_core.specs.declared.client.OpenObject.{OpenObject}
 use Rattle.client_core.specs.Asks.{Asks}
 use Rattle.custody_core.specs.Custody.{Custody, IsOwed}
 use Rattle.client_core.specs.Deeds.{Texts}
@@ -134,7 +134,7 @@ module _ (first : Table) (whole : List Turn) (heard : Lines) (more : (who : ℕ)
       let whole_is : w.is_whole ≡ true = call_is_whole (is_some (opened_at s place)) w.is_whole w.line key name arguments w.asks_so in
       let asks_so : Asks true true w.line (asks.Call key name arguments) =
       subst (λ (b : Bool). Asks true b w.line (asks.Call key name arguments)) whole_is
-      (subst (λ (x : Option Opened). Asks (is_some x) w.is_whole w.line (asks.Call key name arguments)) by w.asks_so) in
+      (subst (λ (x : Option OpenObject). Asks (is_some x) w.is_whole w.line (asks.Call key name arguments)) by w.asks_so) in
       record {
         scene = is.was;
         there = is.there;

@@ -10,7 +10,7 @@ use Rattle.live_core.specs.Hall.{Every, EachPair, Told}
 use Rattle.live_core.specs.Settles.{Settles}
 use Rattle.live_core.specs.Settles.Settles.{rests, runs}
 use Rattle.hosted_core.specs.Scene.{Scene}
-use Rattle.client_core.specs.declared.client.Opened.{Opened}
+use Rattle.client_core.specs.declared.client.OpenObject.{OpenObject}
 use Rattle.client_core.specs.State.{Peer, change, opened_in}
 use Rattle.history_law.specs.Awaits.{IsIn}
 
@@ -140,9 +140,9 @@ change_at (x ∷ peers) zero f p is = ap (λ (y : Peer). Some (f y)) (same_Some 
 change_at (x ∷ peers) (suc place) f p is = change_at peers place f p is
 
 -- who has opened something is there
-pub has_peer : (x : Option Peer) (o : Opened) → opened_in x ≡ Some o → (p : Peer) × (x ≡ Some p) × (p.opened ≡ Some o)
+pub has_peer : (x : Option Peer) (o : OpenObject) → opened_in x ≡ Some o → (p : Peer) × (x ≡ Some p) × (p.opened ≡ Some o)
 has_peer None o is = absurd (none_some o is)
   where
-    none_some : (o : Opened) → None ≡ Some o → ⊥
+    none_some : (o : OpenObject) → None ≡ Some o → ⊥
     none_some o is = cc
 has_peer (Some p) o is = (p, refl, is)

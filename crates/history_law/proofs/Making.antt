@@ -22,7 +22,7 @@ use Rattle.hosted_core.specs.Calls.{Does}
 use Rattle.hosted_core.specs.Scene.{Scene, told_of}
 use Rattle.hosted_core.specs.Steps.{Steps, does, calls, cancels}
 use Rattle.client_core.specs.declared.ask.Ask.TheVariants as asks
-use Rattle.client_core.specs.declared.client.Opened.{Opened}
+use Rattle.client_core.specs.declared.client.OpenObject.{OpenObject}
 use Rattle.client_core.specs.Asks.{Asks}
 use Rattle.history_law.specs.Happens.{with_ran as behind_ran, all_happen}
 use Rattle.client_core.specs.Asked.{AllEnd, LetsGo, AnswersCancel, Submits}
@@ -161,7 +161,7 @@ module _ (heard : Lines) where
       (ap (λ (s : State). s.objects) is.follows.left) (ap (λ (s : State). s.peers) is.follows.left) said added tt refl is.lines
 
   -- a connection makes a call
-  pub record IsMade (place : ℕ) (seat : Opened) (object : Object) (operation : ℕ) (arguments : List Datum) (s : State) : Type 0 where
+  pub record IsMade (place : ℕ) (seat : OpenObject) (object : Object) (operation : ℕ) (arguments : List Datum) (s : State) : Type 0 where
     pub who : ℕ
     pub peer : Peer
     pub there : slice_get s.peers place ≡ Some peer
@@ -174,7 +174,7 @@ module _ (heard : Lines) where
     pub asks_so : Asks true true line (asks.Call key (operation_name (object_of object) operation) values)
     pub values_are : arguments ≡ values.items
 
-  abbrev pub did_submits : (place : ℕ) (seat : Opened) (operation : ℕ) (arguments : List Datum) (past : Texts) (old new : State) (said added : Texts) → Awaits heard past old.objects old.peers →
+  abbrev pub did_submits : (place : ℕ) (seat : OpenObject) (operation : ℕ) (arguments : List Datum) (past : Texts) (old new : State) (said added : Texts) → Awaits heard past old.objects old.peers →
       (is : Submits place seat operation arguments old said added new) → IsMade place seat is.before.hall.object operation arguments old → Did heard past old said added new
   did_submits place seat operation arguments past old new said added a is m =
       let at = seat.object in
@@ -224,16 +224,16 @@ module _ (heard : Lines) where
       let p_is : p ≡ m.peer = same_Some p m.peer (sym there ∙ m.there) in
       subst (λ (x : Peer). IsSeated heard (past ++ first) made pool (opening now x)) (sym p_is) (record {
         held = (seated place m.peer m.there).held;
-        opened = λ o by. subst (λ (x : Opened). IsOpenedBy heard made m.peer.who x) (same_Some now o by)
+        opened = λ o by. subst (λ (x : OpenObject). IsOpenedBy heard made m.peer.who x) (same_Some now o by)
             (record { here = owns.here; who_is = owns.who_is; object = owns.object; there = owns.there; asked = owns.asked });
-        waits = λ o by so. subst (λ (x : Opened). IsAwaited heard (past ++ first) made pool m.peer.who x) (same_Some now o by) waits;
+        waits = λ o by so. subst (λ (x : OpenObject). IsAwaited heard (past ++ first) made pool m.peer.who x) (same_Some now o by) waits;
       })))
       (alone number facts.free)
       is.ended is.ends (ap (λ (s : State). s.objects) is.follows.left) (ap (λ (s : State). s.peers) is.follows.left) said added
       (plain_to old.peers place text (accepted_plain number)) is.told is.lines
     where
       -- nobody else waits by its session
-      nobody_else : IsFree is.before.hall seat.session → (q : ℕ) (u : Opened) → opened_in (slice_get old.peers q) ≡ Some u → u.waits ≡ true → u.object ≡ seat.object → u.session ≡ seat.session → ⊥
+      nobody_else : IsFree is.before.hall seat.session → (q : ℕ) (u : OpenObject) → opened_in (slice_get old.peers q) ≡ Some u → u.waits ≡ true → u.object ≡ seat.object → u.session ≡ seat.session → ⊥
       nobody_else free q u by waits object session =
           let peer = has_peer (slice_get old.peers q) u by in
           let w = (a.seated q peer.0 peer.1).waits u peer.2 waits in
@@ -242,7 +242,7 @@ module _ (heard : Lines) where
           every_in (λ (d : Called). d.session ≢ seat.session) is.before.hall.waiting w.call free (subst (λ (s : Scene). IsIn w.call s.hall.waiting) scene there.2) (w.session_is ∙ session)
 
       -- what one has opened that waits there
-      was_opened : (now : Opened) (q : ℕ) (o : Opened) → opened_in (slice_get (change old.peers place (opening now)) q) ≡ Some o →
+      was_opened : (now : OpenObject) (q : ℕ) (o : OpenObject) → opened_in (slice_get (change old.peers place (opening now)) q) ≡ Some o →
           ((q ≡ place) × (o ≡ now)) ⊎ ((q ≢ place) × (opened_in (slice_get old.peers q) ≡ Some o))
       was_opened now q o by =
           let peer = has_peer (slice_get (change old.peers place (opening now)) q) o by in
@@ -256,10 +256,10 @@ module _ (heard : Lines) where
           elim (was_opened (counted n seat) q o by) [
             | inl x ↦ elim (was_opened (counted n seat) r u also) [
               | inl y ↦ x.0 ∙ sym y.0
-              | inr y ↦ absurd (nobody_else free r u y.1 waits_too (sym object ∙ ap (λ (z : Opened). z.object) x.1) (sym session ∙ ap (λ (z : Opened). z.session) x.1))
+              | inr y ↦ absurd (nobody_else free r u y.1 waits_too (sym object ∙ ap (λ (z : OpenObject). z.object) x.1) (sym session ∙ ap (λ (z : OpenObject). z.session) x.1))
             ]
             | inr x ↦ elim (was_opened (counted n seat) r u also) [
-              | inl y ↦ absurd (nobody_else free q o x.1 waits (object ∙ ap (λ (z : Opened). z.object) y.1) (session ∙ ap (λ (z : Opened). z.session) y.1))
+              | inl y ↦ absurd (nobody_else free q o x.1 waits (object ∙ ap (λ (z : OpenObject). z.object) y.1) (session ∙ ap (λ (z : OpenObject). z.session) y.1))
               | inr y ↦ a.alone q r o u x.1 y.1 waits waits_too object session
             ]
           ]

@@ -12,7 +12,7 @@ use Rattle.client_core.specs.declared.ask.Ask.{Ask}
 use Rattle.client_core.specs.declared.ask.Ask.TheVariants as asks
 use Rattle.client_core.specs.declared.ask.Sight.{Sight}
 use Rattle.client_core.specs.declared.ask.Sight.TheVariants as insides
-use Rattle.client_core.specs.declared.client.Opened.{Opened}
+use Rattle.client_core.specs.declared.client.OpenObject.{OpenObject}
 use Rattle.client_core.specs.Held.{with_waits}
 use Rattle.client_core.specs.Asked as told
 use Rattle.client_core.specs.Asked.{AllEnd, AnswersCall, AnswersCancel, AnswersInside, Calls, GetsNumber, Goes, IsRefused, LetsGo, Opens, Sits}
@@ -32,7 +32,7 @@ use Rattle.history_law.proofs.Lists.{IsChanged, change_at, changed_was, has_peer
 pub record HasAt (s : State) (c at : ℕ) : Type 0 where
   pub place : ℕ
   pub p : Peer
-  pub o : Opened
+  pub o : OpenObject
   pub there : slice_get s.peers place ≡ Some p
   pub who : p.who ≡ Some c
   pub by : p.opened ≡ Some o
@@ -62,7 +62,7 @@ was_changed old new place f is c at h = changed_was old.peers place f h.place h.
 
 -- what is there now has that open which was open there
 abbrev pub Was : (Peer → Peer) → Peer → Type 0
-Was f p = (c : ℕ) (o : Opened) → (f p).who ≡ Some c → (f p).opened ≡ Some o → (u : Opened) × (p.who ≡ Some c) × (p.opened ≡ Some u) × (u.object ≡ o.object)
+Was f p = (c : ℕ) (o : OpenObject) → (f p).who ≡ Some c → (f p).opened ≡ Some o → (u : OpenObject) × (p.who ≡ Some c) × (p.opened ≡ Some u) × (u.object ≡ o.object)
 
 pub back_changed : (old new : State) (place : ℕ) (f : Peer → Peer) → new.peers ≡ change old.peers place f → ((p : Peer) → slice_get old.peers place ≡ Some p → Was f p) → Back old new
 back_changed old new place f is was c at h = by (was_changed old new place f is c at h)
@@ -87,12 +87,12 @@ pub back_refused : (place : ℕ) (old new : State) (said added : Texts) → IsRe
 back_refused place old new said added (line, bad, only) = back_same old new (ap (λ (s : State). s.peers) only.left)
 
 -- a call has ended
-was_open : (x : Option Opened) (o : Opened) → with_waits false x ≡ Some o → (u : Opened) × (x ≡ Some u) × (u.object ≡ o.object)
+was_open : (x : Option OpenObject) (o : OpenObject) → with_waits false x ≡ Some o → (u : OpenObject) × (x ≡ Some u) × (u.object ≡ o.object)
 was_open None o is = absurd (none_some is)
   where
     none_some : None ≡ Some o → ⊥
     none_some e = cc
-was_open (Some u) o is = (u, refl, ap (λ (y : Opened). y.object) (same_Some (record u { waits = false }) o is))
+was_open (Some u) o is = (u, refl, ap (λ (y : OpenObject). y.object) (same_Some (record u { waits = false }) o is))
 
 pub back_ends : (at session number : ℕ) (text : List ℕ) (old new : State) (said added : Texts) → told.Ends at session number text old said added new → Back old new
 back_ends at session number text old new said added (inl (place, e)) =
@@ -108,35 +108,35 @@ back_lets at session number old new said added is =
     back_two old (with_object old at is.after) new (back_same old (with_object old at is.after) refl) (back_ends at session number _ (with_object old at is.after) new said [] is.ends)
 
 -- it has what it has opened at its place
-open_there : (s : State) (place : ℕ) (o : Opened) (p : Peer) → opened_at s place ≡ Some o → slice_get s.peers place ≡ Some p → p.opened ≡ Some o
+open_there : (s : State) (place : ℕ) (o : OpenObject) (p : Peer) → opened_at s place ≡ Some o → slice_get s.peers place ≡ Some p → p.opened ≡ Some o
 open_there s place o p by there = sym (ap opened_in there) ∙ by
 
-pub sits_object : (place : ℕ) (old new : State) (opened seat : Opened) → Sits place old opened seat new → opened.object ≡ seat.object
-sits_object place old new opened seat (inl is) = ap (λ (o : Opened). o.object) (sym is.0)
-sits_object place old new opened seat (inr is) = ap (λ (o : Opened). o.object) (sym is.seat_is)
+pub sits_object : (place : ℕ) (old new : State) (opened seat : OpenObject) → Sits place old opened seat new → opened.object ≡ seat.object
+sits_object place old new opened seat (inl is) = ap (λ (o : OpenObject). o.object) (sym is.0)
+sits_object place old new opened seat (inr is) = ap (λ (o : OpenObject). o.object) (sym is.seat_is)
 
-back_opening : (old new : State) (place : ℕ) (opened now : Opened) → opened_at old place ≡ Some opened → opened.object ≡ now.object → new.peers ≡ change old.peers place (opening now) → Back old new
+back_opening : (old new : State) (place : ℕ) (opened now : OpenObject) → opened_at old place ≡ Some opened → opened.object ≡ now.object → new.peers ≡ change old.peers place (opening now) → Back old new
 back_opening old new place opened now by same is =
-    back_changed old new place (opening now) is (λ p there c o who by_o. (opened, who, open_there old place opened p by there, same ∙ ap (λ (x : Opened). x.object) (same_Some now o by_o)))
+    back_changed old new place (opening now) is (λ p there c o who by_o. (opened, who, open_there old place opened p by there, same ∙ ap (λ (x : OpenObject). x.object) (same_Some now o by_o)))
 
-pub back_gets : (place : ℕ) (old new : State) (opened seat : Opened) → opened_at old place ≡ Some opened → GetsNumber place old opened seat new → Back old new
+pub back_gets : (place : ℕ) (old new : State) (opened seat : OpenObject) → opened_at old place ≡ Some opened → GetsNumber place old opened seat new → Back old new
 back_gets place old new opened seat by is = back_opening old new place opened seat by (sits_object place old new opened seat (inr is)) (ap (λ (s : State). s.peers) is.left)
 
-sits_back : (place : ℕ) (old new : State) (opened seat : Opened) → opened_at old place ≡ Some opened → Sits place old opened seat new → Back old new
+sits_back : (place : ℕ) (old new : State) (opened seat : OpenObject) → opened_at old place ≡ Some opened → Sits place old opened seat new → Back old new
 sits_back place old new opened seat by (inl is) = back_same old new (ap (λ (s : State). s.peers) is.1)
 sits_back place old new opened seat by (inr is) = back_gets place old new opened seat by is
 
-sits_at : (place : ℕ) (old new : State) (opened seat : Opened) → opened_at old place ≡ Some opened → Sits place old opened seat new → opened_at new place ≡ Some seat
+sits_at : (place : ℕ) (old new : State) (opened seat : OpenObject) → opened_at old place ≡ Some opened → Sits place old opened seat new → opened_at new place ≡ Some seat
 sits_at place old new opened seat by (inl is) = ap (λ (s : State). opened_at s place) is.1 ∙ by ∙ ap Some (sym is.0)
 sits_at place old new opened seat by (inr is) =
     let q = has_peer (slice_get old.peers place) opened by in
     ap (λ (s : State). opened_at s place) is.left ∙ ap opened_in (change_at old.peers place (opening seat) q.0 q.1)
 
 -- the state in which the calls end that ran with one that is made
-abbrev pub begun : ℕ → ℕ → State → Opened → Scene → State
+abbrev pub begun : ℕ → ℕ → State → OpenObject → Scene → State
 begun place number mid seat after = record (with_object mid seat.object after) { peers = change mid.peers place (opening (counted number seat)) }
 
-pub back_begun : (place number : ℕ) (old mid : State) (opened seat : Opened) (after : Scene) → opened_at old place ≡ Some opened → Sits place old opened seat mid → Back old (begun place number mid seat after)
+pub back_begun : (place number : ℕ) (old mid : State) (opened seat : OpenObject) (after : Scene) → opened_at old place ≡ Some opened → Sits place old opened seat mid → Back old (begun place number mid seat after)
 back_begun place number old mid opened seat after by is =
     back_two old mid (begun place number mid seat after) (sits_back place old mid opened seat by is)
     (back_opening mid (begun place number mid seat after) place seat (counted number seat) (sits_at place old mid opened seat by is) refl refl)
@@ -172,7 +172,7 @@ back_inside place insides.List old new said added (inl (people, now, is)) = back
 none_here : (c : ℕ) → None ≡ Some c → ⊥
 none_here c e = cc
 
-none_open : (o : Opened) → None ≡ Some o → ⊥
+none_open : (o : OpenObject) → None ≡ Some o → ⊥
 none_open o e = cc
 
 pub back_goes : (place : ℕ) (old new : State) (said added : Texts) → Goes place old said added new → Back old new
@@ -191,13 +191,13 @@ pub record OpensAt (place : ℕ) (name : List ℕ) (old : State) (c at : ℕ) : 
   pub there : slice_get old.objects at ≡ Some scene
   pub named : scene.hall.object.name ≡ name
 
-opened_new : (place : ℕ) (name : List ℕ) (old new : State) (now : Opened) (s : Scene) → slice_get old.objects now.object ≡ Some s → s.hall.object.name ≡ name → new.peers ≡ change old.peers place (opening now) →
+opened_new : (place : ℕ) (name : List ℕ) (old new : State) (now : OpenObject) (s : Scene) → slice_get old.objects now.object ≡ Some s → s.hall.object.name ≡ name → new.peers ≡ change old.peers place (opening now) →
     (c at : ℕ) → HasAt new c at → HasAt old c at ⊎ OpensAt place name old c at
 opened_new place name old new now s there named is c at h = by (was_changed old new place (opening now) is c at h)
   where
     by : IsChanged old.peers place (opening now) h.place h.p → HasAt old c at ⊎ OpensAt place name old c at
     by (inl (same, (q, at_q, p_is))) =
-        let object : now.object ≡ at = ap (λ (x : Opened). x.object) (same_Some now h.o (ap (λ (x : Peer). x.opened) (sym p_is) ∙ h.by)) ∙ h.object in
+        let object : now.object ≡ at = ap (λ (x : OpenObject). x.object) (same_Some now h.o (ap (λ (x : Peer). x.opened) (sym p_is) ∙ h.by)) ∙ h.object in
         inr (record {
           who_is = ap (λ k. who_in (slice_get old.peers k)) (sym same) ∙ ap who_in at_q ∙ ap (λ (x : Peer). x.who) (sym p_is) ∙ h.who;
           scene = s;
@@ -274,7 +274,7 @@ back_notes notes.Ends old new said added is = all_leave_back (length old.peers) 
 
 -- who is told the end of a call has opened its object
 
-pub to_has : (s : State) (place at : ℕ) (o : Opened) (text : List ℕ) → opened_at s place ≡ Some o → o.object ≡ at → Every (λ (x : ℕ × List ℕ). HasAt s x.0 at) (told_to s.peers place text)
+pub to_has : (s : State) (place at : ℕ) (o : OpenObject) (text : List ℕ) → opened_at s place ≡ Some o → o.object ≡ at → Every (λ (x : ℕ × List ℕ). HasAt s x.0 at) (told_to s.peers place text)
 to_has s place at o text is same = by (who_in (slice_get s.peers place)) (ap who_in (sym q.1))
   where
     q : (p : Peer) × (slice_get s.peers place ≡ Some p) × (p.opened ≡ Some o)

@@ -13,7 +13,7 @@ use Rattle.apply_core.specs.declared.reply.Reply.{Reply}
 use Rattle.word_core.specs.Answers.{cancelled_line}
 use Rattle.guest_core.specs.declared.answer.Cancelled.TheVariants as cancels_by
 use Rattle.guest_core.specs.declared.answer.SubmitFault.TheVariants as faults
-use Rattle.session_text.specs.declared.line.Line.TheVariants as lines
+use Rattle.session_text.specs.declared.line.ReplyLine.TheVariants as lines
 use Rattle.session_text.specs.declared.session.Action.{Action}
 use Rattle.session_text.specs.declared.session.Action.TheVariants as actions
 use Rattle.session_text.specs.Lines.{accepted_text, bye_text, cancel_name, line_text, opened_text, repeated_text, withdrawn_text}
@@ -24,8 +24,8 @@ use Rattle.live_core.specs.Hall.{Every}
 use Rattle.guest_core.specs.declared.guest.Guest.{Guest}
 use Rattle.guest_core.specs.Guests.{Guests, IsNamed}
 use Rattle.guest_core.specs.Keys.{asks as asks_for}
-use Rattle.hosted_core.specs.declared.hosted.Keyed.{Keyed}
-use Rattle.hosted_core.specs.declared.hosted.Keyed.TheVariants as keys
+use Rattle.hosted_core.specs.declared.hosted.KeyState.{KeyState}
+use Rattle.hosted_core.specs.declared.hosted.KeyState.TheVariants as keys
 use Rattle.hosted_core.specs.Keys.{Says as SaysOf, Repeats as IsRepeat, operation_or}
 use Rattle.hosted_core.specs.Scene.{Scene, is_given, told_of}
 use Rattle.hosted_core.specs.Steps.{rests}
@@ -33,7 +33,7 @@ use Rattle.client_core.specs.declared.ask.Ask.{Ask}
 use Rattle.client_core.specs.declared.ask.Ask.TheVariants as asks
 use Rattle.client_core.specs.declared.ask.Sight.{Sight}
 use Rattle.client_core.specs.declared.ask.Sight.TheVariants as insides
-use Rattle.client_core.specs.declared.client.Opened.{Opened}
+use Rattle.client_core.specs.declared.client.OpenObject.{OpenObject}
 use Rattle.client_core.specs.Asks.{Asks, IsWide, TableDoes, asked_by}
 use Rattle.client_core.specs.Asked as told
 use Rattle.client_core.specs.Asked.{AllEnd, AnswersCall, AnswersCancel, AnswersInside, Calls, Heeds, IsRefused, Opens as OpensOne, Repeats, Sits, keyed_text}
@@ -134,7 +134,7 @@ calls_calm place key name arguments old new said added is =
     (ran_calm is.seat.object m.after m.taken.ran.items _ m.mid m.ended [] m.ends))
 
 -- and each that is told something has opened the object of which a call is made
-sits_who : (place : ℕ) (old new : State) (opened seat : Opened) → opened_at old place ≡ Some opened → Sits place old opened seat new → who_at new place ≡ who_at old place
+sits_who : (place : ℕ) (old new : State) (opened seat : OpenObject) → opened_at old place ≡ Some opened → Sits place old opened seat new → who_at new place ≡ who_at old place
 sits_who place old new opened seat by (inl is) = ap (λ (s : State). who_at s place) is.1
 sits_who place old new opened seat by (inr is) =
     let q = has_peer (slice_get old.peers place) opened by in
@@ -248,7 +248,7 @@ answered heard c objects account first held text now apart (Withdraws w ∷ part
 answered heard c objects account first held text now apart (Quits line ∷ parts) (mid, is, course) none texts all = absurd (apart.no_quit (head_is bye_text text (texts_of parts) [] texts))
 answered heard c objects account first held text now apart (Leaves ∷ parts) (mid, is, course) none texts all = absurd is
 
-none_of : (x : Option Opened) → is_some x ≡ false → x ≡ None
+none_of : (x : Option OpenObject) → is_some x ≡ false → x ≡ None
 none_of None is = refl
 none_of (Some o) is = absurd (wrong is)
   where
@@ -346,14 +346,14 @@ module _ (heard : Lines) (c n place : ℕ) (past : Texts) (old new : State) (sai
       by_quiet (quiet_none (ap (texts_to c) is.only.told ∙ told_other c old.peers place (keyed_text is.keyed) other)) (λ names had k. keeps names c had k)
   repeats_one a key name arguments keeps is (inl (first, held, t_is, here, s, asks_so)) = on is.keyed refl
     where
-      of_text : (keyed : Keyed) → is.keyed ≡ keyed → IsQuiet (keyed_text keyed) → OpensOn c Is old new v.parts
+      of_text : (keyed : KeyState) → is.keyed ≡ keyed → IsQuiet (keyed_text keyed) → OpensOn c Is old new v.parts
       of_text keyed same quiet =
-          by_quiet (texts_every IsQuiet c said (only_quiet place (keyed_text keyed) old new said added quiet (subst (λ (k : Keyed). OnlyTold place (keyed_text k) old said added new) same is.only)))
+          by_quiet (texts_every IsQuiet c said (only_quiet place (keyed_text keyed) old new said added quiet (subst (λ (k : KeyState). OnlyTold place (keyed_text k) old said added new) same is.only)))
           (λ names had k. keeps names c had k)
 
       again : (number : ℕ) (reply : Reply) → is.keyed ≡ keys.Repeated number reply → OpensOn c Is old new v.parts
       again number reply same =
-          led_opens first held text t_is (ap (texts_to c) is.only.told ∙ told_mine c old.peers place (keyed_text is.keyed) here ∙ ap (λ (k : Keyed). keyed_text k ∷ []) same)
+          led_opens first held text t_is (ap (texts_to c) is.only.told ∙ told_mine c old.peers place (keyed_text is.keyed) here ∙ ap (λ (k : KeyState). keyed_text k ∷ []) same)
           (apart_by 114 text (λ e. omega (arith, e)) (λ e. omega (arith, e)) (_, refl))
           (λ names had k. (had, λ told own is_told. fact names had k, inr (λ n k is_opened. (opened_plain n k number reply).1 (sym is_opened), refl), keeps names c had k))
         where
@@ -367,7 +367,7 @@ module _ (heard : Lines) (c n place : ℕ) (past : Texts) (old new : State) (sai
           guests = is.object.guests
 
           says : SaysOf is.object (session_by is.opened) is.opened.calls key is.operation arguments.items (keys.Repeated number reply)
-          says = subst (λ (k : Keyed). SaysOf is.object (session_by is.opened) is.opened.calls key is.operation arguments.items k) same is.says
+          says = subst (λ (k : KeyState). SaysOf is.object (session_by is.opened) is.opened.calls key is.operation arguments.items k) same is.says
 
           own : (is.opened.is_named ≡ true) × IsRepeat is.object session key (asks_for (operation_or is.operation) arguments.items) number (Some reply)
           own = named_repeat is.opened.is_named is.object session is.opened.calls key is.operation arguments.items number reply says
@@ -424,7 +424,7 @@ module _ (heard : Lines) (c n place : ℕ) (past : Texts) (old new : State) (sai
                     known.client_is ∙ ap (λ (g : Guest). Some g.name) client_same.1;
               }
 
-      on : (keyed : Keyed) → is.keyed ≡ keyed → OpensOn c Is old new v.parts
+      on : (keyed : KeyState) → is.keyed ≡ keyed → OpensOn c Is old new v.parts
       on keys.New same = absurd (is.is_old same)
       on (keys.Repeated number reply) same = again number reply same
       on (keys.Cancelled number) same = of_text (keys.Cancelled number) same (quiet_by 114 _ (λ e. omega (arith, e)) (λ e. omega (arith, e)) (_, refl) (gone_plain number))
@@ -443,7 +443,7 @@ module _ (heard : Lines) (c n place : ℕ) (past : Texts) (old new : State) (sai
       by_quiet (texts_every IsQuiet c said (refused_quiet place old new said added is))
       (λ names had k. keeps_by heard past old new said added d (back_refused place old new said added is) (λ own who now a. done_refused (by_open own who now) place old new said added a is) names c had k)
 
-  call_opens : ((opened : Opened) → opened_at old place ≡ Some opened → (o : ObjectForm) (j : ℕ) → (ends o j ≡ []) ⊎ (opened.object ≡ j)) → Awaits heard past old.objects old.peers → waits_at old place ≡ false → (key : Option ℕ) (name : List ℕ) (arguments : Vec Datum) → AnswersCall place key name arguments.items old said added new →
+  call_opens : ((opened : OpenObject) → opened_at old place ≡ Some opened → (o : ObjectForm) (j : ℕ) → (ends o j ≡ []) ⊎ (opened.object ≡ j)) → Awaits heard past old.objects old.peers → waits_at old place ≡ false → (key : Option ℕ) (name : List ℕ) (arguments : Vec Datum) → AnswersCall place key name arguments.items old said added new →
       IsTurn c n place old (Ok (asks.Call key name arguments)) t → OpensOn c Is old new v.parts
   call_opens ends_where a idle key name arguments is turn = by key turn is
     where
@@ -464,7 +464,7 @@ module _ (heard : Lines) (c n place : ℕ) (past : Texts) (old new : State) (sai
       by k turn (inr (inr (inr (inl is_so)))) = quiet k (inr (inr (inr (inl is_so)))) (refused_quiet place is_so.mid new said added is_so.refused)
       by k turn (inr (inr (inr (inr is_so)))) = quiet k (inr (inr (inr (inr is_so)))) (only_quiet place not_held_text old new said added not_held_quiet is_so.only)
 
-  heeds_opens : ((opened : Opened) → opened_at old place ≡ Some opened → (o : ObjectForm) (j : ℕ) → (ends o j ≡ []) ⊎ (opened.object ≡ j)) → Awaits heard past old.objects old.peers → waits_at old place ≡ false → (asked : Result Ask AllocError) → Heeds place asked old said added new → IsTurn c n place old asked t → OpensOn c Is old new v.parts
+  heeds_opens : ((opened : OpenObject) → opened_at old place ≡ Some opened → (o : ObjectForm) (j : ℕ) → (ends o j ≡ []) ⊎ (opened.object ≡ j)) → Awaits heard past old.objects old.peers → waits_at old place ≡ false → (asked : Result Ask AllocError) → Heeds place asked old said added new → IsTurn c n place old asked t → OpensOn c Is old new v.parts
   heeds_opens ends_where a idle (Ok (asks.Open name None)) (inl is) turn = opened_one name None None is.told (_, refl) (inl is) turn
   heeds_opens ends_where a idle (Ok (asks.Open name (Some client))) (inl is) turn = opened_one name (Some client) (Some is.entered.next) is.told (_, refl) (inl is) turn
   heeds_opens ends_where a idle (Ok (asks.Open name None)) (inr is) turn = opens_refused is

@@ -13,14 +13,14 @@ use Rattle.decl_core.specs.declared.object.Object.{Object}
 use Rattle.apply_core.specs.History.{End}
 use Rattle.apply_core.specs.declared.reply.Reply.{Reply}
 use Rattle.apply_core.specs.declared.reply.Reply.TheVariants.{Done as DoneBy, Refused, Failed}
-use Rattle.session_text.specs.declared.line.Line.{Line as Answer}
-use Rattle.session_text.specs.declared.line.Line.TheVariants as lines
+use Rattle.session_text.specs.declared.line.ReplyLine.{ReplyLine as Answer}
+use Rattle.session_text.specs.declared.line.ReplyLine.TheVariants as lines
 use Rattle.session_text.specs.Lines.{accepted_text, ended_text, line_text, opened_text, repeated_text}
 use Rattle.live_core.specs.Hall.{Every}
 use Rattle.guest_core.specs.Guests.{Guests}
 use Rattle.guest_core.specs.Keys.{asks as asks_for}
 use Rattle.audit_core.specs.Steps.{Step}
-use Rattle.hosted_core.specs.declared.hosted.Keyed.TheVariants as keys
+use Rattle.hosted_core.specs.declared.hosted.KeyState.TheVariants as keys
 use Rattle.hosted_core.specs.Keys.{Repeats, operation_or}
 use Rattle.hosted_core.specs.Scene.{Scene}
 use Rattle.hosted_core.specs.Steps.{goes_on}
@@ -28,7 +28,7 @@ use Rattle.history_law.specs.Happens.{all_happen}
 use Rattle.post_core.specs.Texts.{to}
 use Rattle.post_core.specs.declared.served.LineEnd.{LineEnd}
 use Rattle.client_core.specs.declared.ask.Ask.TheVariants as asks
-use Rattle.client_core.specs.declared.client.Opened.{Opened}
+use Rattle.client_core.specs.declared.client.OpenObject.{OpenObject}
 use Rattle.client_core.specs.Asks.{Asks}
 use Rattle.client_core.specs.Asked.{IsRefusal}
 use Rattle.client_core.specs.Deeds.{Texts}
@@ -91,7 +91,7 @@ IsSome had = (o : Open) × (had ≡ Some o)
 abbrev pub HasNone : ℕ → State → Type 0
 HasNone c s = (place : ℕ) (p : Peer) → slice_get s.peers place ≡ Some p → p.who ≡ Some c → p.opened ≡ None
 
-none_some : (o : Opened) → None ≡ Some o → ⊥
+none_some : (o : OpenObject) → None ≡ Some o → ⊥
 none_some o is = cc
 
 none_here : (c : ℕ) → None ≡ Some c → ⊥
@@ -110,11 +110,11 @@ knows_any names c had now s none k = record {
   has = λ at h. absurd (none_some h.o (sym (none h.place h.p h.there h.who) ∙ h.by));
 }
   where
-    nobody : (place : ℕ) (o : Opened) (x : Option Peer) → slice_get s.peers place ≡ x → opened_in x ≡ Some o → who_in x ≡ Some c → ⊥
+    nobody : (place : ℕ) (o : OpenObject) (x : Option Peer) → slice_get s.peers place ≡ x → opened_in x ≡ Some o → who_in x ≡ Some c → ⊥
     nobody place o None at by who = none_here c who
     nobody place o (Some p) at by who = none_some o (sym (none place p at who) ∙ by)
 
-    here : (place : ℕ) (o : Opened) (v : Guests) → opened_in (slice_get s.peers place) ≡ Some o → (x : Option Peer) → slice_get s.peers place ≡ x →
+    here : (place : ℕ) (o : OpenObject) (v : Guests) → opened_in (slice_get s.peers place) ≡ Some o → (x : Option Peer) → slice_get s.peers place ≡ x →
         ClientHas (IsHere (OpenedAs (by_open names c had) (who_in (slice_get s.peers place)) o)) v o.session → ClientHas (IsHere (OpenedAs (by_open names c now) (who_in (slice_get s.peers place)) o)) v o.session
     here place o v by x at (inl nameless) = inl nameless
     here place o v by x at (inr (p, g, is, (away, (named, knows)))) =

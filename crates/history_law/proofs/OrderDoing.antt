@@ -15,22 +15,22 @@ use Rattle.decl_core.specs.declared.object.Object.{Object}
 use Rattle.word_core.specs.Events.{Called}
 use Rattle.word_core.specs.Text.{operation_name}
 use Rattle.guest_core.specs.declared.answer.SubmitFault.TheVariants as faults
-use Rattle.session_text.specs.declared.line.Line.TheVariants as lines
-use Rattle.session_text.specs.declared.line.Line.{Line as Answer}
+use Rattle.session_text.specs.declared.line.ReplyLine.TheVariants as lines
+use Rattle.session_text.specs.declared.line.ReplyLine.{ReplyLine as Answer}
 use Rattle.session_text.specs.Lines.{accepted_text, bye_text, line_text, opened_text, repeated_text}
 use Rattle.live_core.specs.Answers.{asked as asked_call}
 use Rattle.live_core.specs.Lines.{all_lines}
 use Rattle.guest_core.specs.declared.seats.Seat.TheVariants.{Nameless}
 use Rattle.guest_core.specs.Guests.{Guests, with_seat}
-use Rattle.hosted_core.specs.declared.hosted.Keyed.{Keyed}
-use Rattle.hosted_core.specs.declared.hosted.Keyed.TheVariants as keys
+use Rattle.hosted_core.specs.declared.hosted.KeyState.{KeyState}
+use Rattle.hosted_core.specs.declared.hosted.KeyState.TheVariants as keys
 use Rattle.hosted_core.specs.Scene.{Scene, is_given, told_of, with_guests}
 use Rattle.hosted_core.specs.Steps.{rests}
 use Rattle.client_core.specs.declared.ask.Ask.{Ask}
 use Rattle.client_core.specs.declared.ask.Ask.TheVariants as asks
 use Rattle.client_core.specs.declared.ask.Sight.{Sight}
 use Rattle.client_core.specs.declared.ask.Sight.TheVariants as insides
-use Rattle.client_core.specs.declared.client.Opened.{Opened}
+use Rattle.client_core.specs.declared.client.OpenObject.{OpenObject}
 use Rattle.client_core.specs.Asks.{Asks}
 use Rattle.client_core.specs.Held.{is_some, waits_of}
 use Rattle.history_law.specs.Happens.{with_ran as behind_ran}
@@ -73,7 +73,7 @@ IsTurn c n place s asked t =
 
 -- each call of which somebody is told that it ended did so at the object that the one at a place has open
 abbrev pub EndsWhere : ℕ → State → Deal → Type 0
-EndsWhere place old deal = (c : ℕ) (opened : Opened) → opened_at old place ≡ Some opened → (o : ObjectForm) (j : ℕ) → (ends_told c deal o j ≡ []) ⊎ (opened.object ≡ j)
+EndsWhere place old deal = (c : ℕ) (opened : OpenObject) → opened_at old place ≡ Some opened → (o : ObjectForm) (j : ℕ) → (ends_told c deal o j ≡ []) ⊎ (opened.object ≡ j)
 
 -- what is done for it, and what it is in each talk
 pub record Acted (heard : Lines) (past : Texts) (place : ℕ) (asked : Result Ask AllocError) (old : State) (said added : Texts) (new : State) : Type 0 where
@@ -151,7 +151,7 @@ pub lead_turn : (c n place : ℕ) (old : State) (Is : Part → Type 0) (asked : 
 lead_turn c n place old Is asked t turn = lead_on c n place old old Is asked t refl (λ u s. s) turn
 
 -- one opens something by which it does not wait
-stands_opening : (c n place : ℕ) (objects : List Scene) (peers : List Peer) (now : Opened) (t : Talk) → now.waits ≡ false → waits_of (opened_in (slice_get peers place)) ≡ false →
+stands_opening : (c n place : ℕ) (objects : List Scene) (peers : List Peer) (now : OpenObject) (t : Talk) → now.waits ≡ false → waits_of (opened_in (slice_get peers place)) ≡ false →
     Stands c n objects (waits_in objects) peers t → Stands c n objects (waits_in objects) (change peers place (opening now)) t
 stands_opening c n place objects peers now t idle was s = by (is_who (who_in (slice_get peers place)) c)
   where
@@ -233,7 +233,7 @@ repeated_end n reply m (Done (Some x)) is = let e : 112 ≡ 110 = ap third is in
 repeated_end n reply m (Refused word) is = let e : 112 ≡ 102 = ap third is in omega (arith, e)
 repeated_end n reply m (Failed failure) is = let e : 112 ≡ 105 = ap third is in omega (arith, e)
 
-keyed_end : (keyed : Keyed) → (keyed ≡ keys.New → ⊥) → IsNoEnd (keyed_text keyed)
+keyed_end : (keyed : KeyState) → (keyed ≡ keys.New → ⊥) → IsNoEnd (keyed_text keyed)
 keyed_end keys.New new = absurd (new refl)
 keyed_end (keys.Repeated number reply) new = repeated_end number reply
 keyed_end (keys.Cancelled number) new = plain_end (keyed_text (keys.Cancelled number)) (gone_plain number)
@@ -261,7 +261,7 @@ inside_voice c n place insides.List Is old new said added t lines ok lead fits (
     only_voice c n place is.text Is old new said added t lines ok lead (fits is.text plain) (plain_end is.text plain) is.only
 
 -- who is there is there still
-opening_who : (place : ℕ) (peers : List Peer) (seat : Opened) → who_in (slice_get (change peers place (opening seat)) place) ≡ who_in (slice_get peers place)
+opening_who : (place : ℕ) (peers : List Peer) (seat : OpenObject) → who_in (slice_get (change peers place (opening seat)) place) ≡ who_in (slice_get peers place)
 opening_who place [] seat = refl
 opening_who zero (p ∷ peers) seat = refl
 opening_who (suc place) (p ∷ peers) seat = opening_who place peers seat
@@ -304,13 +304,13 @@ module _ (heard : Lines) where
       voice None (inr (line, bad, only)) = refused line bad only
       voice (Some client) (inr (line, bad, only)) = refused line bad only
       voice None (inl is) = λ c n t turn.
-          let now : Opened = record { object = is.at; session = 0; is_named = false; waits = false; calls = 0; told = 0 } in
+          let now : OpenObject = record { object = is.at; session = 0; is_named = false; waits = false; calls = 0; told = 0 } in
           voiced_none_more c (Is c) (told_to old.peers place (opened_text name None)) said (StandsIn c n old) (StandsIn c n new) t [] (ap (texts_to c) (sym is.told))
           (λ u s. stands_as c n new old.objects (change old.peers place (opening now)) u (ap (λ (x : State). x.objects) is.left) (ap (λ (x : State). x.peers) is.left)
           (stands_opening c n place old.objects old.peers now u refl w.idle s))
           (lead_turn c n place old (Is c) asked t turn (opened_text name None) (λ here first asks_so. (asked, is_some (opened_at old place), asks_so, inl (None, refl))) (plain_end (opened_text name None) (opened_plain name None)))
       voice (Some client) (inl is) = λ c n t turn.
-          let now : Opened = record { object = is.at; session = is.entered.session; is_named = true; waits = false; calls = 0; told = 0 } in
+          let now : OpenObject = record { object = is.at; session = is.entered.session; is_named = true; waits = false; calls = 0; told = 0 } in
           let made = slice_set old.objects is.at (with_guests is.object is.guests) in
           let text = opened_text name (Some is.entered.next) in
           voiced_none_more c (Is c) (told_to old.peers place text) said (StandsIn c n old) (StandsIn c n new) t [] (ap (texts_to c) (sym is.told))
@@ -319,15 +319,15 @@ module _ (heard : Lines) where
           (lead_turn c n place old (Is c) asked t turn text (λ here first asks_so. (asked, is_some (opened_at old place), asks_so, inl (Some is.entered.next, refl))) (plain_end text (opened_plain name (Some is.entered.next))))
 
   -- who has opened something has a session there
-  stands_gets : (c n place : ℕ) (old new : State) (opened seat : Opened) → opened_at old place ≡ Some opened → opened.waits ≡ false → GetsNumber place old opened seat new → (u : Talk) → StandsIn c n old u → StandsIn c n new u
+  stands_gets : (c n place : ℕ) (old new : State) (opened seat : OpenObject) → opened_at old place ≡ Some opened → opened.waits ≡ false → GetsNumber place old opened seat new → (u : Talk) → StandsIn c n old u → StandsIn c n new u
   stands_gets c n place old new opened seat by idle is u s =
       let guests = with_seat is.object.guests is.session Nameless in
       let made = slice_set old.objects opened.object (with_guests is.object guests) in
       stands_as c n new made (change old.peers place (opening seat)) u (ap (λ (x : State). x.objects) is.left) (ap (λ (x : State). x.peers) is.left)
-      (stands_opening c n place made old.peers seat u (ap (λ (x : Opened). x.waits) is.seat_is ∙ idle) (ap waits_of by ∙ idle)
+      (stands_opening c n place made old.peers seat u (ap (λ (x : OpenObject). x.waits) is.seat_is ∙ idle) (ap waits_of by ∙ idle)
       (stands_guests c n opened.object old.objects old.peers is.object guests u is.there s))
 
-  stands_sits : (c n place : ℕ) (old new : State) (opened seat : Opened) → opened_at old place ≡ Some opened → opened.waits ≡ false → Sits place old opened seat new → (u : Talk) → StandsIn c n old u → StandsIn c n new u
+  stands_sits : (c n place : ℕ) (old new : State) (opened seat : OpenObject) → opened_at old place ≡ Some opened → opened.waits ≡ false → Sits place old opened seat new → (u : Talk) → StandsIn c n old u → StandsIn c n new u
   stands_sits c n place old new opened seat by idle (inl is) u s = subst (λ (x : State). StandsIn c n x u) (sym is.1) s
   stands_sits c n place old new opened seat by idle (inr is) u s = stands_gets c n place old new opened seat by idle is u s
 
@@ -342,7 +342,7 @@ module _ (heard : Lines) where
             (runs_deal is.seat.object m.after m.taken.ran.items d.account start m.mid m.ended [] m.ends account_is);
         ends_where = λ c opened by o j. elim (deal_where c is.seat.object (deal_all is.seat.object m.after m.taken.ran.items start m.mid m.ended [] m.ends) o j) [
           | inl none ↦ inl (none_both c sat.did.account deal o j none)
-          | inr at_it ↦ inr (ap (λ (x : Opened). x.object) (same_Some opened is.opened (sym by ∙ is.by)) ∙ sits_object place old is.mid is.opened is.seat is.sits ∙ at_it)
+          | inr at_it ↦ inr (ap (λ (x : OpenObject). x.object) (same_Some opened is.opened (sym by ∙ is.by)) ∙ sits_object place old is.mid is.opened is.seat is.sits ∙ at_it)
         ];
         voice = λ c n t turn. voice c n t turn;
       })
@@ -400,7 +400,7 @@ module _ (heard : Lines) where
         asks_so = subst (λ (k : List ℕ). Asks true true w.line (asks.Call key k arguments))
             (sym is.named ∙ ap (λ (x : Object). operation_name (object_of x) is.operation) (sym same))
             (subst (λ (b : Bool). Asks true b w.line (asks.Call key name arguments)) whole
-            (subst (λ (x : Option Opened). Asks (is_some x) w.is_whole w.line (asks.Call key name arguments)) is.by w.asks_so));
+            (subst (λ (x : Option OpenObject). Asks (is_some x) w.is_whole w.line (asks.Call key name arguments)) is.by w.asks_so));
         values_are = refl;
       }
 
@@ -416,7 +416,7 @@ module _ (heard : Lines) where
       number : ℕ
       number = told_of m.after m.taken.number
 
-      now : Opened
+      now : OpenObject
       now = counted number is.seat
 
       start : State
@@ -468,7 +468,7 @@ module _ (heard : Lines) where
                   let first_whole : first.is_whole ≡ true = call_is_whole (is_some (opened_at old place)) first.is_whole first.text key name arguments asks_so in
                   let asks_it : Asks true true first.text (asks.Call key name arguments) =
                   subst (λ (b : Bool). Asks true b first.text (asks.Call key name arguments)) first_whole
-                  (subst (λ (y : Option Opened). Asks (is_some y) first.is_whole first.text (asks.Call key name arguments)) is.by asks_so) in
+                  (subst (λ (y : Option OpenObject). Asks (is_some y) first.is_whole first.text (asks.Call key name arguments)) is.by asks_so) in
                   let v = ran_so (Here (Some wanted) held) (stands_mine c n is.mid.objects (waits_in is.mid.objects) is.mid.peers (Here None held) place (opening now) x.0 _ _ (Some wanted) held
                   (ap (slice_get is.mid.peers) k.3 ∙ x.1) x.2 x.2 x.3 (
                     now,
@@ -524,7 +524,7 @@ module _ (heard : Lines) where
             (plain_end (line_text line) (refusal_plain line is.refused.1)) is.refused.2));
       }
     where
-      whose : (old mid : State) (opened seat : Opened) → GetsNumber place old opened seat mid → who_at mid place ≡ who_at old place
+      whose : (old mid : State) (opened seat : OpenObject) → GetsNumber place old opened seat mid → who_at mid place ≡ who_at old place
       whose old mid opened seat is = ap (λ (s : State). who_in (slice_get s.peers place)) is.left ∙ opening_who place old.peers seat
   acted_call place key name arguments past old new said added a w (inr (inr (inr (inr is)))) =
       let d = did_only heard place not_held_text not_held_plain past old new said added a is.only in

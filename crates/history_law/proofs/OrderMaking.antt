@@ -19,7 +19,7 @@ use Rattle.live_core.specs.Hall.{Hall}
 use Rattle.live_core.specs.Lines.{all_lines}
 use Rattle.audit_core.specs.Steps.{happened_of}
 use Rattle.hosted_core.specs.Scene.{Scene}
-use Rattle.client_core.specs.declared.client.Opened.{Opened}
+use Rattle.client_core.specs.declared.client.OpenObject.{OpenObject}
 use Rattle.history_law.specs.Happens.{with_ran as behind_ran}
 use Rattle.post_core.specs.declared.served.LineEnd.{LineEnd}
 use Rattle.client_core.specs.Asked as told
@@ -120,7 +120,7 @@ module _ (objects : List Scene) (at : ℕ) (before after : Scene) (c : Called) (
       ])) s
 
   -- the call that is made is the one that is wanted
-  pub wants_made : (o : Opened) (w : Wanted) → o.object ≡ at → o.session ≡ c.session → operation_name (object_of before.hall.object) c.operation ≡ w.name → c.arguments ≡ w.arguments.items → Wants made pool o w
+  pub wants_made : (o : OpenObject) (w : Wanted) → o.object ≡ at → o.session ≡ c.session → operation_name (object_of before.hall.object) c.operation ≡ w.name → c.arguments ≡ w.arguments.items → Wants made pool o w
   wants_made o w here of named arguments d is session =
       elim (pool_out o.object d is) [
         | inl x ↦ elim x.1 [

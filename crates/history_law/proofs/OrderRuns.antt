@@ -14,7 +14,7 @@ use Rattle.live_core.specs.Hall.{Every}
 use Rattle.apply_core.specs.History.{End}
 use Rattle.hosted_core.specs.Scene.{Scene}
 use Rattle.hosted_core.specs.Steps.{IsFollowed}
-use Rattle.client_core.specs.declared.client.Opened.{Opened}
+use Rattle.client_core.specs.declared.client.OpenObject.{OpenObject}
 use Rattle.post_core.specs.Texts.{to}
 use Rattle.post_core.specs.Turns.{Asked, Turn, Runs, heard_of, is_joining, joins, line_from, said_to, told as told_here}
 use Rattle.post_core.specs.Turns.Asked.{Heard, Noted, Changes}
@@ -183,7 +183,7 @@ begins_stands c n journal text old new t is s =
     subst (λ (l : List Scene). Stands c n l (waits_in l) new.peers t) (sym b.left) (subst (λ (ps : List Peer). Stands c n made (waits_in made) ps t) (sym is.peers)
     (stands_map c n old.objects made (waits_in old.objects) (waits_in made) old.peers t (λ p o w here by waits wants. each o w wants) s))
   where
-    each : (o : Opened) (w : Wanted) → Wants old.objects (waits_in old.objects) o w → Wants (slice_set old.objects journal is.begins.after) (waits_in (slice_set old.objects journal is.begins.after)) o w
+    each : (o : OpenObject) (w : Wanted) → Wants old.objects (waits_in old.objects) o w → Wants (slice_set old.objects journal is.begins.after) (waits_in (slice_set old.objects journal is.begins.after)) o w
     each o w wants call (scene, there, waits) session = by (set_was old.objects journal o.object is.begins.after scene is.begins.before is.begins.there there)
       where
         moves : WantedMoves old.objects (slice_set old.objects journal is.begins.after)

@@ -7,7 +7,7 @@ use Rattle.decl_core.specs.declared.object.Object.{Object}
 use Rattle.word_core.specs.Events.{Called}
 use Rattle.word_core.specs.Text.{operation_name}
 use Rattle.hosted_core.specs.Scene.{Scene}
-use Rattle.client_core.specs.declared.client.Opened.{Opened}
+use Rattle.client_core.specs.declared.client.OpenObject.{OpenObject}
 use Rattle.client_core.specs.State.{Peer, change, nobody, who_in}
 use Rattle.history_law.specs.Awaits.{IsIn, Pool, waits_in}
 use Rattle.history_law.proofs.Lists.{changed_was, change_at, same_or_not, set_at, set_other, set_was}
@@ -107,7 +107,7 @@ module _ (c n : ℕ) where
 
   -- objects change, and what is wanted of them
   pub stands_map : (objects now : List Scene) (pool now_pool : Pool) (peers : List Peer) (t : Talk) →
-      ((p : Peer) (o : Opened) (w : Wanted) → slice_get peers (c % n) ≡ Some p → p.opened ≡ Some o → o.waits ≡ true → Wants objects pool o w → Wants now now_pool o w) →
+      ((p : Peer) (o : OpenObject) (w : Wanted) → slice_get peers (c % n) ≡ Some p → p.opened ≡ Some o → o.waits ≡ true → Wants objects pool o w → Wants now now_pool o w) →
       Stands c n objects pool peers t → Stands c n now now_pool peers t
   stands_map objects now pool now_pool peers t f s = record { size = s.size; only = s.only; is_at = at t s.is_at }
     where
@@ -154,7 +154,7 @@ wanted_same objects at w a b operation arguments is = record {
 }
 
 -- fewer calls wait of one object
-pub wants_set : (objects : List Scene) (at : ℕ) (before after : Scene) (o : Opened) (w : Wanted) → slice_get objects at ≡ Some before → after.hall.object ≡ before.hall.object →
+pub wants_set : (objects : List Scene) (at : ℕ) (before after : Scene) (o : OpenObject) (w : Wanted) → slice_get objects at ≡ Some before → after.hall.object ≡ before.hall.object →
     ((d : Called) → IsIn d after.hall.waiting → IsIn d before.hall.waiting) → Wants objects (waits_in objects) o w →
     Wants (slice_set objects at after) (waits_in (slice_set objects at after)) o w
 wants_set objects at before after o w there object fewer wants call (scene, here, waits) session =

@@ -27,7 +27,7 @@ use Rattle.client_core.specs.declared.ask.Ask.{Ask}
 use Rattle.client_core.specs.declared.ask.Ask.TheVariants as asks
 use Rattle.client_core.specs.declared.ask.Sight.{Sight}
 use Rattle.client_core.specs.declared.ask.Sight.TheVariants as insides
-use Rattle.client_core.specs.declared.client.Opened.{Opened}
+use Rattle.client_core.specs.declared.client.OpenObject.{OpenObject}
 use Rattle.custody_core.specs.Custody.{Custody, Custodies, FollowsIn, HeldBehindAll, IsOwed, MayMake, holding_now}
 use Rattle.client_core.specs.State.{State}
 use Rattle.client_core.specs.Deeds.{Texts, Deed, Nothing, OnlyTold, Then}
@@ -262,31 +262,31 @@ opens place name (Some client) old new said added (inl is) = λ j s here.
     (ap (λ (x : State). x.custody) is.left) (hosted.comes client is.now (Ok is.entered) is.guests is.is_name is.enters) tt j s here)
 opens place name (Some client) old new said added (inr is) = refused place old new said added is
 
-submits : (place : ℕ) (seat : Opened) (operation : ℕ) (arguments : List Datum) (old new : State) (said added : Texts) → (is : Submits place seat operation arguments old said added new) →
+submits : (place : ℕ) (seat : OpenObject) (operation : ℕ) (arguments : List Datum) (old new : State) (said added : Texts) → (is : Submits place seat operation arguments old said added new) →
     May (object_of is.before.hall.object) (slice_get old.custody seat.object) seat.session operation arguments → (j : ℕ) (s : Scene) → slice_get old.objects j ≡ Some s → PassesAt old j s added new
 submits place seat operation arguments old new said added is may j s here =
     as_states old old new new ((seat.object, all_lines (object_of is.before.hall.object) is.taken.ran.items) ∷ []) added j s refl is.lines refl refl
     (runs_pass old _ is.mid new seat.object seat.session operation arguments is.before is.after is.taken is.there is.does may refl refl is.ended is.ends is.follows j s here)
 
-gets : (place : ℕ) (old : State) (opened seat : Opened) (new : State) → GetsNumber place old opened seat new → (j : ℕ) (s : Scene) → slice_get old.objects j ≡ Some s → PassesAt old j s [] new
+gets : (place : ℕ) (old : State) (opened seat : OpenObject) (new : State) → GetsNumber place old opened seat new → (j : ℕ) (s : Scene) → slice_get old.objects j ≡ Some s → PassesAt old j s [] new
 gets place old opened seat new is j s here =
     one_silent old new opened.object is.object (with_guests is.object (with_seat is.object.guests is.session Nameless)) is.there (ap (λ (x : State). x.objects) is.left)
     (ap (λ (x : State). x.custody) is.left) (hosted.gets_number is.session is.free) tt j s here
 
-sits : (place : ℕ) (old : State) (opened seat : Opened) (new : State) → Sits place old opened seat new → (j : ℕ) (s : Scene) → slice_get old.objects j ≡ Some s → PassesAt old j s [] new
+sits : (place : ℕ) (old : State) (opened seat : OpenObject) (new : State) → Sits place old opened seat new → (j : ℕ) (s : Scene) → slice_get old.objects j ≡ Some s → PassesAt old j s [] new
 sits place old opened seat new (inl is) j s here = still old new [] (ap (λ (x : State). x.objects) is.1) (ap (λ (x : State). x.custody) is.1) refl j s here
 sits place old opened seat new (inr is) j s here = gets place old opened seat new is j s here
 
 -- what a session may call it may when it has its number
-may_sit : (place : ℕ) (old : State) (opened seat : Opened) (mid : State) (o : ObjectForm) (operation : ℕ) (arguments : List Datum) → Sits place old opened seat mid →
+may_sit : (place : ℕ) (old : State) (opened seat : OpenObject) (mid : State) (o : ObjectForm) (operation : ℕ) (arguments : List Datum) → Sits place old opened seat mid →
     MayMake (slice_get old.custody opened.object) opened.session operation arguments → May o (slice_get mid.custody seat.object) seat.session operation arguments
 may_sit place old opened seat mid o operation arguments (inl is) may =
     let held : slice_get mid.custody seat.object ≡ slice_get old.custody opened.object =
-    ap (λ (x : State). slice_get x.custody seat.object) is.1 ∙ ap (λ (x : Opened). slice_get old.custody x.object) is.0 in
-    inl (opened.session, inl (ap (λ (x : Opened). x.session) (sym is.0)), subst (λ (c : Option Custody). MayMake c opened.session operation arguments) (sym held) may)
+    ap (λ (x : State). slice_get x.custody seat.object) is.1 ∙ ap (λ (x : OpenObject). slice_get old.custody x.object) is.0 in
+    inl (opened.session, inl (ap (λ (x : OpenObject). x.session) (sym is.0)), subst (λ (c : Option Custody). MayMake c opened.session operation arguments) (sym held) may)
 may_sit place old opened seat mid o operation arguments (inr is) may =
     let held : slice_get mid.custody seat.object ≡ slice_get old.custody opened.object =
-    ap (λ (x : State). slice_get x.custody seat.object) is.left ∙ ap (λ (x : Opened). slice_get old.custody x.object) is.seat_is in
+    ap (λ (x : State). slice_get x.custody seat.object) is.left ∙ ap (λ (x : OpenObject). slice_get old.custody x.object) is.seat_is in
     inl (opened.session, inr is.none, subst (λ (c : Option Custody). MayMake c opened.session operation arguments) (sym held) may)
 
 call : (place : ℕ) (key : Option ℕ) (name : List ℕ) (arguments : List Datum) → PassesBy (AnswersCall place key name arguments)

@@ -10,7 +10,7 @@ use Rattle.session_text.specs.Lines.{accepted_text}
 use Rattle.live_core.specs.Hall.{Told, IsHeld}
 use Rattle.hosted_core.specs.Scene.{Scene, told_of}
 use Rattle.client_core.specs.declared.ask.Ask.TheVariants as asks
-use Rattle.client_core.specs.declared.client.Opened.{Opened}
+use Rattle.client_core.specs.declared.client.OpenObject.{OpenObject}
 use Rattle.client_core.specs.Asks.{Asks}
 use Rattle.client_core.specs.Deeds.{Texts}
 use Rattle.client_core.specs.State.{Peer, change, opened_in}
@@ -47,12 +47,12 @@ module _ (heard : Lines) where
     arguments_are = arguments ∙ is.arguments_are;
   }
 
-  pub opened_stays : (old new : List Scene) (was is : Pool) (who : Option ℕ) (o : Opened) → AllStay old new was is → IsOpenedBy heard old who o → IsOpenedBy heard new who o
+  pub opened_stays : (old new : List Scene) (was is : Pool) (who : Option ℕ) (o : OpenObject) → AllStay old new was is → IsOpenedBy heard old who o → IsOpenedBy heard new who o
   opened_stays old new was is who o stay by =
       let s = stay o.object by.object by.there in
       record { here = by.here; who_is = by.who_is; object = s.after; there = s.there; asked = subst (λ (x : Object). HasOpened heard by.here x) (sym s.object) by.asked }
 
-  pub awaited_stays : (past : Texts) (old new : List Scene) (was is : Pool) (who : Option ℕ) (o : Opened) → AllStay old new was is → IsAwaited heard past old was who o → IsAwaited heard past new is who o
+  pub awaited_stays : (past : Texts) (old new : List Scene) (was is : Pool) (who : Option ℕ) (o : OpenObject) → AllStay old new was is → IsAwaited heard past old was who o → IsAwaited heard past new is who o
   awaited_stays past old new was is who o stay a =
       let s = stay o.object a.object a.there in
       let c = s.calls a.call a.is_there in
@@ -122,20 +122,20 @@ module _ (heard : Lines) where
 
 -- one that waits waited before by the same session
 abbrev pub WaitsLess : Peer → Peer → Type 0
-WaitsLess p q = (o : Opened) → q.opened ≡ Some o → o.waits ≡ true →
-    (u : Opened) × (p.opened ≡ Some u) × (u.waits ≡ true) × (u.object ≡ o.object) × (u.session ≡ o.session)
+WaitsLess p q = (o : OpenObject) → q.opened ≡ Some o → o.waits ≡ true →
+    (u : OpenObject) × (p.opened ≡ Some u) × (u.waits ≡ true) × (u.object ≡ o.object) × (u.session ≡ o.session)
 
 -- a place at which one has opened something
-has_changed : (peers : List Peer) (place : ℕ) (f : Peer → Peer) (q : ℕ) (o : Opened) → ((p : Peer) → slice_get peers place ≡ Some p → WaitsLess p (f p)) →
+has_changed : (peers : List Peer) (place : ℕ) (f : Peer → Peer) (q : ℕ) (o : OpenObject) → ((p : Peer) → slice_get peers place ≡ Some p → WaitsLess p (f p)) →
     opened_in (slice_get (change peers place f) q) ≡ Some o → o.waits ≡ true →
-    (u : Opened) × (opened_in (slice_get peers q) ≡ Some u) × (u.waits ≡ true) × (u.object ≡ o.object) × (u.session ≡ o.session)
+    (u : OpenObject) × (opened_in (slice_get peers q) ≡ Some u) × (u.waits ≡ true) × (u.object ≡ o.object) × (u.session ≡ o.session)
 has_changed peers place f q o less by waits = on (changed_was peers place f q now.0 now.1)
   where
     now : (p : Peer) × (slice_get (change peers place f) q ≡ Some p) × (p.opened ≡ Some o)
     now = has_peer (slice_get (change peers place f) q) o by
 
     on : ((q ≡ place) × ((was : Peer) × (slice_get peers q ≡ Some was) × (now.0 ≡ f was))) ⊎ ((q ≢ place) × (slice_get peers q ≡ Some now.0)) →
-        (u : Opened) × (opened_in (slice_get peers q) ≡ Some u) × (u.waits ≡ true) × (u.object ≡ o.object) × (u.session ≡ o.session)
+        (u : OpenObject) × (opened_in (slice_get peers q) ≡ Some u) × (u.waits ≡ true) × (u.object ≡ o.object) × (u.session ≡ o.session)
     on (inl (here, (was, there, is))) =
         let u = less was (subst (λ n. slice_get peers n ≡ Some was) here there) o (ap (λ (p : Peer). p.opened) (sym is) ∙ now.2) waits in
         (u.0, ap opened_in there ∙ u.1, u.2, u.3, u.4)

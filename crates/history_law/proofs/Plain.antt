@@ -5,14 +5,14 @@ use Rattle.apply_core.specs.declared.reply.Reply.{Reply}
 use Rattle.apply_core.specs.declared.reply.Reply.TheVariants.{Done, Refused, Failed}
 use Rattle.decl_core.specs.ObjectForm.{ObjectForm}
 use Rattle.inside_text.specs.Lacks.{Why}
-use Rattle.inside_text.specs.declared.why.State.{State}
+use Rattle.inside_text.specs.declared.why.CallStatus.{CallStatus}
 use Rattle.inside_text.specs.Why.{state_line, why_text}
 use Rattle.inside_text.specs.Who.{Sitting, Refused as Waits}
 use Rattle.inside_text.specs.List.{list_text}
 use Rattle.word_core.specs.Answers.{kept_line, cancelled_line, finished_line}
 use Rattle.session_text.specs.Lines.{accepted_text, bye_text, ended_text, line_text, opened_text, withdrawn_text}
-use Rattle.session_text.specs.declared.line.Line.{Line}
-use Rattle.session_text.specs.declared.line.Line.TheVariants as lines
+use Rattle.session_text.specs.declared.line.ReplyLine.{ReplyLine}
+use Rattle.session_text.specs.declared.line.ReplyLine.TheVariants as lines
 use Rattle.client_core.specs.Asked.{IsRefusal}
 use Rattle.decl_core.specs.HoldForm.{HoldForm}
 use Rattle.guest_core.specs.Held.{HeldCall}
@@ -110,7 +110,7 @@ of_w = record { no_done = λ is. omega (arith, is); no_refused = λ is. omega (a
 pub of_l : IsOther 108
 of_l = record { no_done = λ is. omega (arith, is); no_refused = λ is. omega (arith, is); no_failed = λ is. omega (arith, is) }
 
-pub refusal_plain : (line : Line) → IsRefusal line → SaysNoReply (line_text line)
+pub refusal_plain : (line : ReplyLine) → IsRefusal line → SaysNoReply (line_text line)
 refusal_plain (lines.Refused refusal) is = says_none 110 (line_text (lines.Refused refusal)) of_n (_, refl)
 refusal_plain (lines.Unsubmitted fault) is = says_none 110 (line_text (lines.Unsubmitted fault)) of_n (_, refl)
 refusal_plain (lines.Unkeyed fault) is = says_none 110 (line_text (lines.Unkeyed fault)) of_n (_, refl)
@@ -148,7 +148,7 @@ gone_plain n = says_none_again 99 (kept_line (codes "cancelled") n) _ of_c refl
 pub why_plain : (o : ObjectForm) (n : ℕ) (whys : List Why) → SaysNoReply (why_text o n whys [])
 why_plain o n whys = says_none 119 (why_text o n whys []) of_w (_, refl)
 
-pub state_plain : (n : ℕ) (state : State) → SaysNoReply (state_line n state)
+pub state_plain : (n : ℕ) (state : CallStatus) → SaysNoReply (state_line n state)
 state_plain n state = says_none 119 (state_line n state) of_w (_, refl)
 
 pub who_plain : (o : ObjectForm) (holds : List HoldForm) (seats : List Sitting) (calls : List Waits) (held : List HeldCall) → SaysNoReply (who_held_text o holds seats calls held)

@@ -3,7 +3,7 @@ use Rattle.std.proofs.Common.{ℕ, List, [], ◌∷◌, sym, subst}
 use Rattle.std.specs.Prelude.{Option, Some}
 use Rattle.apply_core.specs.declared.reply.Reply.{Reply}
 use Rattle.live_core.specs.declared.front.CarriedCall.{CarriedCall}
-use Rattle.live_core.specs.declared.front.Client.{Client}
+use Rattle.live_core.specs.declared.front.NamedClient.{NamedClient}
 use Rattle.live_core.specs.declared.front.KeptCall.{KeptCall}
 use Rattle.guest_core.specs.declared.kept.Asked.{Asked}
 use Rattle.guest_core.specs.Guests.{Guests, guest_of}
@@ -20,10 +20,10 @@ pub recalls_seated : (session : ℕ) (old : Guests) (kept : List KeptCall) (new 
 recalls_seated session old [] new same seated = subst AreSeated (sym same) seated
 recalls_seated session old (k ∷ kept) new r seated = recalls_seated session r.2.0 kept new r.2.2 (remembers_seated old session _ _ _ r.2.0 r.2.1 seated)
 
-pub opens_seated : (now : ℕ) (old : Guests) (c : Client) (kept : List KeptCall) (new : Guests) → Opens now old c kept new → AreSeated old → AreSeated new
+pub opens_seated : (now : ℕ) (old : Guests) (c : NamedClient) (kept : List KeptCall) (new : Guests) → Opens now old c kept new → AreSeated old → AreSeated new
 opens_seated now old c kept new o seated = recalls_seated c.session o.mid kept new o.recalls (seated_admits old (guest_of c.name c.session (Some now) o.first) o.mid o.comes seated)
 
-pub open_all_seated : (now : ℕ) (old : Guests) (clients : List Client) (kept : List KeptCall) (new : Guests) → OpenAll now old clients kept new → AreSeated old → AreSeated new
+pub open_all_seated : (now : ℕ) (old : Guests) (clients : List NamedClient) (kept : List KeptCall) (new : Guests) → OpenAll now old clients kept new → AreSeated old → AreSeated new
 open_all_seated now old [] kept new o seated = subst AreSeated (sym o.1) seated
 open_all_seated now old (c ∷ clients) kept new (mine, more, mid, cut, one, rest) seated = open_all_seated now mid clients more new rest (opens_seated now old c mine mid one seated)
 

@@ -5,7 +5,7 @@ use Rattle.std.proofs.lemmas.List.{append-nil}
 use Rattle.session_text.specs.Lines.{accepted_text, ended_text}
 use Rattle.live_core.specs.Hall.{Every}
 use Rattle.hosted_core.specs.Scene.{Scene}
-use Rattle.client_core.specs.declared.client.Opened.{Opened}
+use Rattle.client_core.specs.declared.client.OpenObject.{OpenObject}
 use Rattle.post_core.specs.Turns.{Asked, Turn, Runs}
 use Rattle.post_core.specs.Turns.Asked.{Heard, Noted, Changes}
 use Rattle.client_core.specs.Deeds.{Texts}
@@ -175,7 +175,7 @@ quiet_awaits s held quiet = record {
   };
 }
   where
-    none_some : (o : Opened) → None ≡ Some o → ⊥
+    none_some : (o : OpenObject) → None ≡ Some o → ⊥
     none_some o is = cc
 
 pub replies_are_asked : RepliesAreAsked

@@ -6,7 +6,7 @@ use Rattle.std.proofs.lemmas.Option.{same_Some}
 use Rattle.text_core.specs.Runs.{NoLineFeed}
 use Rattle.hosted_core.specs.Scene.{Scene}
 use Rattle.client_core.specs.declared.ask.Ask.{Ask}
-use Rattle.client_core.specs.declared.client.Opened.{Opened}
+use Rattle.client_core.specs.declared.client.OpenObject.{OpenObject}
 use Rattle.client_core.specs.Asks.{Asks}
 use Rattle.client_core.specs.Held.{is_some, is_whole_before, waits_of}
 use Rattle.client_core.specs.Gone.{Settles}
@@ -76,7 +76,7 @@ idle_talk c n place s (Some w) held is here idle =
     let wait = at.4 in
     absurd (true_false wait.0.waits wait.2 (sym (ap waits_of (ap (λ k. opened_in (slice_get s.peers k)) m.3 ∙ ap opened_in at.1 ∙ wait.1)) ∙ idle))
 
-pub waits_idle : (objects : List Scene) (pool : Pool) (opened : Option Opened) (waits : Option Wanted) → waits ≡ None → IsWaiting objects pool opened waits → waits_of opened ≡ false
+pub waits_idle : (objects : List Scene) (pool : Pool) (opened : Option OpenObject) (waits : Option Wanted) → waits ≡ None → IsWaiting objects pool opened waits → waits_of opened ≡ false
 waits_idle objects pool opened None is waiting = waiting
 waits_idle objects pool opened (Some w) is waiting = absurd (some_none is)
   where
@@ -141,7 +141,7 @@ module _ (heard : Lines) where
                     stands_mine c n old.objects (waits_in old.objects) old.peers (Here waits held) place (left_with takes.behind) takes.peer old.objects (waits_in old.objects) None first.rest takes.there
                         (ap (λ (x : Peer). x.who) (sym same) ∙ seat.2) (ap (λ (x : Peer). x.who) (sym same) ∙ seat.2) first.are
                         (ap (λ (x : Peer). waits_of x.opened) (sym same) ∙ waits_idle old.objects (waits_in old.objects) p.opened waits none_waits seat.4) s,
-                    subst (λ (o : Option Opened). IfOk asked (Asks (is_some o) (is_whole_before takes.peer.is_cut takes.behind) takes.line)) (sym (ap opened_in now_there)) takes.asks,
+                    subst (λ (o : Option OpenObject). IfOk asked (Asks (is_some o) (is_whole_before takes.peer.is_cut takes.behind) takes.line)) (sym (ap opened_in now_there)) takes.asks,
                   )
 
   -- who is there is there still, and waits no more than it did

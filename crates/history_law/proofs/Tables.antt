@@ -3,7 +3,7 @@ use Rattle.std.proofs.Common.{◌≡◌, ◌≢◌, ℕ, zero, suc, ◌+◌, ◌
 use Rattle.std.specs.Prelude.{slice_get, slice_set, unwrap_or}
 use Rattle.std.proofs.lemmas.List.{append-nil}
 use Rattle.apply_core.specs.declared.reply.Reply.{Reply}
-use Rattle.live_core.specs.declared.front.Client.{Client}
+use Rattle.live_core.specs.declared.front.NamedClient.{NamedClient}
 use Rattle.live_core.specs.declared.front.KeptCall.{KeptCall}
 use Rattle.live_core.specs.Front.{Opening}
 use Rattle.guest_core.specs.declared.guest.Guest.{Guest}
@@ -239,40 +239,40 @@ holds_steps old f now told v (step ∷ steps) new holds (mid, before, makes) =
 -- fronts
 
 -- a client is that of a line of a front
-record IsOf (g : Guest) (c : Client) : Type 0 where
+record IsOf (g : Guest) (c : NamedClient) : Type 0 where
   pub named : c.name ≡ g.name
   pub next : g.keys.next ≡ c.keys + 1
 
-abbrev AreOf : List Guest → List Client → Type 0
+abbrev AreOf : List Guest → List NamedClient → Type 0
 AreOf [] [] = Unit {0}
 AreOf [] (c ∷ clients) = ⊥
 AreOf (g ∷ guests) [] = ⊥
 AreOf (g ∷ guests) (c ∷ clients) = IsOf g c × AreOf guests clients
 
-of_more : (guests : List Guest) (clients : List Client) (g : Guest) (c : Client) → AreOf guests clients → IsOf g c → AreOf (guests ++ g ∷ []) (clients ++ c ∷ [])
+of_more : (guests : List Guest) (clients : List NamedClient) (g : Guest) (c : NamedClient) → AreOf guests clients → IsOf g c → AreOf (guests ++ g ∷ []) (clients ++ c ∷ [])
 of_more [] [] g c all one = (one, tt)
 of_more [] (d ∷ clients) g c all one = absurd all
 of_more (h ∷ guests) [] g c all one = absurd all
 of_more (h ∷ guests) (d ∷ clients) g c all one = (all.0, of_more guests clients g c all.1 one)
 
-line_of : (guests : List Guest) (clients : List Client) (p : ℕ) (g : Guest) → AreOf guests clients → slice_get guests p ≡ Some g → (c : Client) × (slice_get clients p ≡ Some c) × IsOf g c
+line_of : (guests : List Guest) (clients : List NamedClient) (p : ℕ) (g : Guest) → AreOf guests clients → slice_get guests p ≡ Some g → (c : NamedClient) × (slice_get clients p ≡ Some c) × IsOf g c
 line_of [] clients p g all is = absurd cc
 line_of (h ∷ guests) [] p g all is = absurd all
 line_of (h ∷ guests) (c ∷ clients) zero g all is = (c, refl, subst (λ x. IsOf x c) (ap (λ o. unwrap_or o h) is) all.0)
 line_of (h ∷ guests) (c ∷ clients) (suc p) g all is = line_of guests clients p g all.1 is
 
-client_by : (guests : List Guest) (clients : List Client) (p : ℕ) (c : Client) → AreOf guests clients → slice_get clients p ≡ Some c → (g : Guest) × (slice_get guests p ≡ Some g) × IsOf g c
+client_by : (guests : List Guest) (clients : List NamedClient) (p : ℕ) (c : NamedClient) → AreOf guests clients → slice_get clients p ≡ Some c → (g : Guest) × (slice_get guests p ≡ Some g) × IsOf g c
 client_by guests [] p c all is = absurd cc
 client_by [] (d ∷ clients) p c all is = absurd all
 client_by (g ∷ guests) (d ∷ clients) zero c all is = (g, refl, subst (λ x. IsOf g x) (ap (λ o. unwrap_or o d) is) all.0)
 client_by (g ∷ guests) (d ∷ clients) (suc p) c all is = client_by guests clients p c all.1 is
 
 -- what is kept of a client stands in lines
-abbrev HasLines : List Client → List KeptCall → Guest → Type 0
+abbrev HasLines : List NamedClient → List KeptCall → Guest → Type 0
 HasLines clients kept g = (key k : ℕ) (c : Kept) → HasKey g.keys key k c → IsKeptLine clients kept g.name key c
 
 -- the clients are those of these lines, in their order, each with its kept calls
-record AreOpened (clients : List Client) (kept : List KeptCall) (v : Guests) : Type 0 where
+record AreOpened (clients : List NamedClient) (kept : List KeptCall) (v : Guests) : Type 0 where
   pub sound : IsSound v
   pub all : AreOf v.guests clients
   pub lines : (p : ℕ) (g : Guest) → slice_get v.guests p ≡ Some g → HasLines clients kept g
@@ -281,7 +281,7 @@ get_behind : {X : Type 0} (xs ys : List X) (k : ℕ) (x : X) → slice_get ys k 
 get_behind [] ys k x is = (k, is)
 get_behind (y ∷ xs) ys k x is = let on = get_behind xs ys k x is in (suc on.0, on.1)
 
-lines_more : (clients more : List Client) (kept others : List KeptCall) (g : Guest) → HasLines clients kept g → HasLines (clients ++ more) (kept ++ others) g
+lines_more : (clients more : List NamedClient) (kept others : List KeptCall) (g : Guest) → HasLines clients kept g → HasLines (clients ++ more) (kept ++ others) g
 lines_more clients more kept others g lines key k c has =
     let l = lines key k c has in
     record {
@@ -390,7 +390,7 @@ recalled_of session v [] new is = tt
 recalled_of session v (line ∷ kept) new is = let mid = is.2 in (is.0, recalled_of session mid.0 kept new mid.2)
 
 -- a client of a front came, with its kept calls
-pub record CameWith (old : Guests) (c : Client) (mine : List KeptCall) (new : Guests) : Type 0 where
+pub record CameWith (old : Guests) (c : NamedClient) (mine : List KeptCall) (new : Guests) : Type 0 where
   pub guest : Guest
   pub guests_is : new.guests ≡ old.guests ++ guest ∷ []
   pub sound : IsSound new
@@ -402,7 +402,7 @@ pub record CameWith (old : Guests) (c : Client) (mine : List KeptCall) (new : Gu
   pub kept_is : guest.keys.kept ≡ kept_from mine
   pub of : AreOfSession c.session mine
 
-pub came_with : (now : ℕ) (old : Guests) (c : Client) (mine : List KeptCall) (new : Guests) → IsSound old → Opens now old c mine new → CameWith old c mine new
+pub came_with : (now : ℕ) (old : Guests) (c : NamedClient) (mine : List KeptCall) (new : Guests) → IsSound old → Opens now old c mine new → CameWith old c mine new
 came_with now old c mine new was is = elim is.comes.3 [
   | inl joins ↦
       let g = guest_of c.name c.session (Some now) is.first in
@@ -432,7 +432,7 @@ came_with now old c mine new was is = elim is.comes.3 [
   | inr takes ↦ absurd (is.unknown takes.0 takes.1 takes.2.there takes.2.named)
 ]
 
-opens_one : (now : ℕ) (old : Guests) (c : Client) (mine : List KeptCall) (new : Guests) (clients : List Client) (kept : List KeptCall) → AreOpened clients kept old → Opens now old c mine new → AreOpened (clients ++ c ∷ []) (kept ++ mine) new
+opens_one : (now : ℕ) (old : Guests) (c : NamedClient) (mine : List KeptCall) (new : Guests) (clients : List NamedClient) (kept : List KeptCall) → AreOpened clients kept old → Opens now old c mine new → AreOpened (clients ++ c ∷ []) (kept ++ mine) new
 opens_one now old c mine new clients kept was is = record {
   sound = one.sound;
   all = subst (λ gs. AreOf gs (clients ++ c ∷ [])) (sym one.guests_is) (of_more old.guests clients one.guest c was.all (record { named = one.same_name; next = one.next_is }));
@@ -460,7 +460,7 @@ opens_one now old c mine new clients kept was is = record {
           same = l.same;
         }
 
-opens_all : (now : ℕ) (old : Guests) (clients : List Client) (kept : List KeptCall) (new : Guests) (first : List Client) (done : List KeptCall) → AreOpened first done old → OpenAll now old clients kept new → AreOpened (first ++ clients) (done ++ kept) new
+opens_all : (now : ℕ) (old : Guests) (clients : List NamedClient) (kept : List KeptCall) (new : Guests) (first : List NamedClient) (done : List KeptCall) → AreOpened first done old → OpenAll now old clients kept new → AreOpened (first ++ clients) (done ++ kept) new
 opens_all now old [] kept new first done was is =
     subst (AreOpened (first ++ []) (done ++ kept)) (sym is.1)
     (subst (λ l. AreOpened l (done ++ kept) old) (sym (append-nil first))
@@ -476,12 +476,12 @@ no_guest p g is = cc
 nobody_yet : (h : House) → AreOpened [] [] (nobody h)
 nobody_yet h = record { sound = sound_new h.sessions h.names; all = tt; lines = λ p g there. absurd (no_guest p g there) }
 
-no_call_began : (clients : List Client) (c : KeyedCall) → epoch_began clients ≡ call_ended c → ⊥
+no_call_began : (clients : List NamedClient) (c : KeyedCall) → epoch_began clients ≡ call_ended c → ⊥
 no_call_began clients c is = cc
 
 -- an epoch began, and each of its clients had this next key before
 pub holds_began : (old f : Opening) (told : Events) (h : House) (v : Guests) → CallsAreNext told → OpenAll h.now (nobody h) f.clients f.kept v
-    → ((p : ℕ) (c : Client) → slice_get f.clients p ≡ Some c → IsCounted told c.name (c.keys + 1))
+    → ((p : ℕ) (c : NamedClient) → slice_get f.clients p ≡ Some c → IsCounted told c.name (c.keys + 1))
     → ((p : ℕ) (g : Guest) → slice_get v.guests p ≡ Some g → Keeps old (epoch_began f.clients ∷ told) g.name g.keys) → Holds old (epoch_began f.clients ∷ told) v
 holds_began old f told h v calls opens fits keeps =
     let opened = opens_all h.now (nobody h) f.clients f.kept v [] [] (nobody_yet h) opens in
@@ -496,7 +496,7 @@ holds_began old f told h v calls opens fits keeps =
       kept = keeps;
     }
   where
-    one : AreOpened f.clients f.kept v → (p : ℕ) (g : Guest) → slice_get v.guests p ≡ Some g → (c : Client) → IsAmong f.clients g.name c → g.keys.next ≡ c.keys + 1
+    one : AreOpened f.clients f.kept v → (p : ℕ) (g : Guest) → slice_get v.guests p ≡ Some g → (c : NamedClient) → IsAmong f.clients g.name c → g.keys.next ≡ c.keys + 1
     one opened p g there c among =
         let other = client_by v.guests f.clients among.place c opened.all among.there in
         let same = opened.sound.once among.place p other.0 g other.1 there (sym other.2.named ∙ among.is_named) in
@@ -508,7 +508,7 @@ pub keeps_lines : (f : Opening) (told : Events) (h : House) (v : Guests) → Ope
 keeps_lines f told h v opens p g there key k c has = inr ((opens_all h.now (nobody h) f.clients f.kept v [] [] (nobody_yet h) opens).lines p g there key k c has)
 
 -- a client of a front was known
-pub was_known : (v : Guests) (clients : List Client) (kept : List KeptCall) (p : ℕ) (c : Client) → AreKnown v clients kept → slice_get clients p ≡ Some c → (calls : List Kept) × IsKnown v c calls
+pub was_known : (v : Guests) (clients : List NamedClient) (kept : List KeptCall) (p : ℕ) (c : NamedClient) → AreKnown v clients kept → slice_get clients p ≡ Some c → (calls : List Kept) × IsKnown v c calls
 was_known v [] kept p c are is = absurd cc
 was_known v (d ∷ clients) kept zero c (mine, more, calls, cut, known, same, rest) is = (calls, subst (λ x. IsKnown v x calls) (ap (λ o. unwrap_or o d) is) known)
 was_known v (d ∷ clients) kept (suc p) c (mine, more, calls, cut, known, same, rest) is = was_known v clients more p c rest is

@@ -4,12 +4,12 @@ use Rattle.std.specs.declared.alloc.AllocError.{AllocError}
 use Rattle.value_core.specs.declared.datum.Datum.{Datum}
 use Rattle.decl_core.specs.ObjectMap.{object_of}
 use Rattle.word_core.specs.Text.{operation_name}
-use Rattle.session_text.specs.declared.line.Line.TheVariants as lines
-use Rattle.session_text.specs.declared.line.Line.{Line as Answer}
+use Rattle.session_text.specs.declared.line.ReplyLine.TheVariants as lines
+use Rattle.session_text.specs.declared.line.ReplyLine.{ReplyLine as Answer}
 use Rattle.session_text.specs.Lines.{bye_text, line_text, opened_text}
 use Rattle.audit_core.specs.Steps.{Step}
-use Rattle.hosted_core.specs.declared.hosted.Keyed.{Keyed}
-use Rattle.hosted_core.specs.declared.hosted.Keyed.TheVariants.{New}
+use Rattle.hosted_core.specs.declared.hosted.KeyState.{KeyState}
+use Rattle.hosted_core.specs.declared.hosted.KeyState.TheVariants.{New}
 use Rattle.hosted_core.specs.Keys.{Says}
 use Rattle.hosted_core.specs.Scene.{Scene}
 use Rattle.hosted_core.specs.Steps.{Steps}
@@ -29,7 +29,7 @@ IsRefusalText text = (line : Answer) × IsRefusal line × (text ≡ line_text li
 
 -- At one of the moments of what happened an object, which a line of this connection had asked to open, said this of a key: of
 -- a call of the operation of this name with these arguments, that was made before.
-pub record IsSaidOf (heard : Lines) (who : ℕ) (objects : List Scene) (account : Account) (key : ℕ) (name : List ℕ) (arguments : List Datum) (keyed : Keyed) : Type 0 where
+pub record IsSaidOf (heard : Lines) (who : ℕ) (objects : List Scene) (account : Account) (key : ℕ) (name : List ℕ) (arguments : List Datum) (keyed : KeyState) : Type 0 where
   pub object : ℕ
   pub scene : Scene
   pub there : slice_get objects object ≡ Some scene
@@ -52,7 +52,7 @@ abbrev pub IsAnswerTo : Lines → ℕ → List Scene → Account → Result Ask 
 IsAnswerTo heard who objects account (Ok (asks.Open name client)) text = ((key : Option ℕ) × (text ≡ opened_text name key)) ⊎ IsRefusalText text
 IsAnswerTo heard who objects account (Ok (asks.Call None name arguments)) text = (text ≡ not_held_text) ⊎ IsRefusalText text
 IsAnswerTo heard who objects account (Ok (asks.Call (Some key) name arguments)) text =
-    ((keyed : Keyed) × IsSaidOf heard who objects account key name arguments.items keyed × (text ≡ keyed_text keyed)) ⊎ ((text ≡ not_held_text) ⊎ IsRefusalText text)
+    ((keyed : KeyState) × IsSaidOf heard who objects account key name arguments.items keyed × (text ≡ keyed_text keyed)) ⊎ ((text ≡ not_held_text) ⊎ IsRefusalText text)
 IsAnswerTo heard who objects account (Ok (asks.Cancel number)) text = AnswersCancel number text
 IsAnswerTo heard who objects account (Ok (asks.Inside sight)) text = SaysNoReply text
 IsAnswerTo heard who objects account (Ok asks.Quit) text = text ≡ bye_text

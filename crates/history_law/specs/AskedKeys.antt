@@ -12,7 +12,7 @@ use Rattle.history_law.specs.Year.{Epoch, all_ends, first_opening}
 use Rattle.history_law.specs.Keys.{KeyEvent, KeyedCall, IsKeptLine}
 use Rattle.history_law.specs.Keyed.{HaveKeys}
 use Rattle.post_core.specs.Turns.{Turn}
-use Rattle.keep_loop.specs.declared.keep.Limits.{Limits}
+use Rattle.keep_loop.specs.declared.keep.LoopLimits.{LoopLimits}
 use Rattle.keep_loop.specs.Epochs.{rules_of, since_in, stored_since}
 use Rattle.keep_loop.specs.Seen.{Happened}
 use Rattle.keep_loop.specs.Stands.{IsHonest, IsBetween}
@@ -65,14 +65,14 @@ KeysAreAsked =
     HaveKeys f told old.guests → HasAskedKeys no_claims first last turns h.history j f told
 
 -- A crash leaves one history of turns, as before, in which it is so.
-pub record LeavesKeys (first : Table) (limits : Limits) (seen_so : List Happened) (found : ℕ → List ℕ) : Type 0 where
+pub record LeavesKeys (first : Table) (limits : LoopLimits) (seen_so : List Happened) (found : ℕ → List ℕ) : Type 0 where
   pub answered : LeavesAnswered first limits seen_so found
   pub asked : HaveAsked no_claims first answered.left.survives.last (answered.left.survives.answered ++ answered.left.survives.later)
 
 -- So it does at each moment of a loop that is honest, where answers wait for the disk.
 abbrev pub CrashLeavesKeys : Type 0
 CrashLeavesKeys =
-    (first : Table) (limits : Limits) (seen_so : List Happened) (found : ℕ → List ℕ) → limits.waits ≡ true →
+    (first : Table) (limits : LoopLimits) (seen_so : List Happened) (found : ℕ → List ℕ) → limits.waits ≡ true →
     IsHonest (rules_of Gives Fronts) first limits seen_so →
     ((j : ℕ) → j < limits.journals → IsBetween (stored_since j seen_so) (since_in j seen_so) (found j)) →
     AllAsked no_claims first.objects.items (seen first).peers → LeavesKeys first limits seen_so found

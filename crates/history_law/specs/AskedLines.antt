@@ -14,7 +14,7 @@ use Rattle.history_law.specs.Keys.{KeyEvent}
 use Rattle.history_law.specs.Stands.{AreSeated}
 use Rattle.live_core.specs.Front.{Opening}
 use Rattle.post_core.specs.Turns.{Turn, Runs}
-use Rattle.keep_loop.specs.declared.keep.Limits.{Limits}
+use Rattle.keep_loop.specs.declared.keep.LoopLimits.{LoopLimits}
 use Rattle.keep_loop.specs.Epochs.{rules_of, since_in, stored_since}
 use Rattle.keep_loop.specs.Seen.{Happened}
 use Rattle.keep_loop.specs.Stands.{IsHonest, IsBetween}
@@ -111,7 +111,7 @@ RepeatsAreOfLines =
     ⊎ (IsAskedRepeat (by_lines first (before ++ t ∷ after)) first last (before ++ t ∷ after) before have.history text ⊎ SaysNoReply text)
 
 -- A crash leaves one history of turns, as before, in which it is so.
-pub record LeavesLines (first : Table) (limits : Limits) (seen_so : List Happened) (found : ℕ → List ℕ) : Type 0 where
+pub record LeavesLines (first : Table) (limits : LoopLimits) (seen_so : List Happened) (found : ℕ → List ℕ) : Type 0 where
   pub answered : LeavesAnswered first limits seen_so found
   pub asked : HaveAsked (by_lines first (answered.left.survives.answered ++ answered.left.survives.later)) first answered.left.survives.last
       (answered.left.survives.answered ++ answered.left.survives.later)
@@ -119,7 +119,7 @@ pub record LeavesLines (first : Table) (limits : Limits) (seen_so : List Happene
 -- So it does at each moment of a loop that is honest, where answers wait for the disk.
 abbrev pub CrashLeavesLines : Type 0
 CrashLeavesLines =
-    (first : Table) (limits : Limits) (seen_so : List Happened) (found : ℕ → List ℕ) → limits.waits ≡ true →
+    (first : Table) (limits : LoopLimits) (seen_so : List Happened) (found : ℕ → List ℕ) → limits.waits ≡ true →
     IsHonest (rules_of Gives Fronts) first limits seen_so →
     ((j : ℕ) → j < limits.journals → IsBetween (stored_since j seen_so) (since_in j seen_so) (found j)) →
     AllHeld first.objects.items → ((j : ℕ) (s : Scene) → slice_get first.objects.items j ≡ Some s → IsFresh s) → IsQuiet (seen first) →

@@ -4,7 +4,7 @@ use Rattle.decl_core.specs.ObjectForm.{ObjectForm}
 use Rattle.apply_core.specs.declared.reply.Reply.{Reply}
 use Rattle.apply_core.specs.History.{End}
 use Rattle.word_core.specs.Events.{body_at}
-use Rattle.live_core.specs.declared.front.Client.{Client}
+use Rattle.live_core.specs.declared.front.NamedClient.{NamedClient}
 use Rattle.guest_core.specs.declared.kept.Asked.{Asked}
 use Rattle.history_law.specs.Year.{all_ends}
 use Rattle.history_law.specs.Keys.{KeyedCall, TellKeys, all_told, epoch_began, epochs_of}
@@ -24,6 +24,6 @@ pub record HasEnd (history : List End) (e : End) : Type 0 where
 -- its end in their one history: of the operation and with the arguments that were asked, and with this reply.
 abbrev pub StartsAreAsked : Type 0
 StartsAreAsked =
-    (o : ObjectForm) (text : List ℕ) (texts : List (List ℕ)) (t : TellKeys o text texts) (clients : List Client) (k : KeyedCall) (reply : Reply) →
+    (o : ObjectForm) (text : List ℕ) (texts : List (List ℕ)) (t : TellKeys o text texts) (clients : List NamedClient) (k : KeyedCall) (reply : Reply) →
     WasTold (epoch_began clients ∷ all_told o t.last t.earlier) k → k.call.reply ≡ Some reply →
     HasEnd (all_ends o t.last.epoch (epochs_of o t.earlier)) (end_asked o k.call.asked reply)

@@ -6,7 +6,7 @@ use Rattle.hosted_core.specs.Scene.{told_of}
 use Rattle.post_core.specs.Turns.{Turn, Runs, heard_of}
 use Rattle.post_core.specs.declared.served.LineEnd.{LineEnd}
 use Rattle.post_core.specs.declared.served.LineEnd.TheVariants as ends
-use Rattle.keep_loop.specs.declared.keep.Limits.{Limits}
+use Rattle.keep_loop.specs.declared.keep.LoopLimits.{LoopLimits}
 use Rattle.keep_loop.specs.Cuts.{IsCut}
 use Rattle.keep_loop.specs.Epochs.{rules_of, since_in, stored_since}
 use Rattle.keep_loop.specs.Seen.{Happened}
@@ -75,14 +75,14 @@ AreAskedFrom first =
     HaveAskers first last turns × Awaits (HasSaid turns) (said_by turns) last.objects.items (seen last).peers
 
 -- A crash leaves one history of turns, as before, and what is told in them is so.
-pub record LeavesAsked (first : Table) (limits : Limits) (seen_so : List Happened) (found : ℕ → List ℕ) : Type 0 where
+pub record LeavesAsked (first : Table) (limits : LoopLimits) (seen_so : List Happened) (found : ℕ → List ℕ) : Type 0 where
   pub answered : LeavesAnswered first limits seen_so found
   pub askers : HaveAskers first answered.left.survives.last (answered.left.survives.answered ++ answered.left.survives.later)
 
 -- So it does at each moment of a loop that is honest, where answers wait for the disk.
 abbrev pub CrashLeavesAsked : Type 0
 CrashLeavesAsked =
-    (first : Table) (limits : Limits) (seen_so : List Happened) (found : ℕ → List ℕ) → limits.waits ≡ true →
+    (first : Table) (limits : LoopLimits) (seen_so : List Happened) (found : ℕ → List ℕ) → limits.waits ≡ true →
     IsHonest (rules_of Gives Fronts) first limits seen_so →
     ((j : ℕ) → j < limits.journals → IsBetween (stored_since j seen_so) (since_in j seen_so) (found j)) →
     AllHeld first.objects.items → IsQuiet (seen first) → LeavesAsked first limits seen_so found
@@ -90,7 +90,7 @@ CrashLeavesAsked =
 -- So it does where a loop began with this table.
 abbrev pub CrashLeavesAskedFrom : Table → Type 0
 CrashLeavesAskedFrom first =
-    (limits : Limits) (seen_so : List Happened) (found : ℕ → List ℕ) → limits.waits ≡ true →
+    (limits : LoopLimits) (seen_so : List Happened) (found : ℕ → List ℕ) → limits.waits ≡ true →
     IsHonest (rules_of Gives Fronts) first limits seen_so →
     ((j : ℕ) → j < limits.journals → IsBetween (stored_since j seen_so) (since_in j seen_so) (found j)) →
     AllHeld first.objects.items → LeavesAsked first limits seen_so found

@@ -11,7 +11,7 @@ use Rattle.session_text.specs.Lines.{accepted_text}
 use Rattle.live_core.specs.Hall.{Told, IsHeld}
 use Rattle.hosted_core.specs.Scene.{Scene, told_of}
 use Rattle.client_core.specs.declared.ask.Ask.TheVariants as asks
-use Rattle.client_core.specs.declared.client.Opened.{Opened}
+use Rattle.client_core.specs.declared.client.OpenObject.{OpenObject}
 use Rattle.client_core.specs.Asks.{Asks}
 use Rattle.client_core.specs.Held.{is_whole_before}
 use Rattle.client_core.specs.Deeds.{Texts}
@@ -65,7 +65,7 @@ abbrev pub waits_in : List Scene → Pool
 waits_in objects at call = (object : Scene) × (slice_get objects at ≡ Some object) × IsIn call object.hall.waiting
 
 -- the one that is there asked for what it has opened
-pub record IsOpenedBy (heard : Lines) (objects : List Scene) (who : Option ℕ) (opened : Opened) : Type 0 where
+pub record IsOpenedBy (heard : Lines) (objects : List Scene) (who : Option ℕ) (opened : OpenObject) : Type 0 where
   pub here : ℕ
   pub who_is : who ≡ Some here
   pub object : Scene
@@ -74,7 +74,7 @@ pub record IsOpenedBy (heard : Lines) (objects : List Scene) (who : Option ℕ) 
 
 -- The one that is there waits: for a call of its session of the object that it has opened, of which its number was told to it,
 -- and for which a line of it asked.
-pub record IsAwaited (heard : Lines) (past : Texts) (objects : List Scene) (pool : Pool) (who : Option ℕ) (opened : Opened) : Type 0 where
+pub record IsAwaited (heard : Lines) (past : Texts) (objects : List Scene) (pool : Pool) (who : Option ℕ) (opened : OpenObject) : Type 0 where
   pub here : ℕ
   pub who_is : who ≡ Some here
   pub object : Scene
@@ -89,8 +89,8 @@ pub record IsAwaited (heard : Lines) (past : Texts) (objects : List Scene) (pool
 -- of one place of connections: what is held are lines that it said; a line asked for what it has opened; and it waits so
 pub record IsSeated (heard : Lines) (past : Texts) (objects : List Scene) (pool : Pool) (p : Peer) : Type 0 where
   pub held : AreHeard (SaidBy heard p.who) p.is_cut p.held
-  pub opened : (o : Opened) → p.opened ≡ Some o → IsOpenedBy heard objects p.who o
-  pub waits : (o : Opened) → p.opened ≡ Some o → o.waits ≡ true → IsAwaited heard past objects pool p.who o
+  pub opened : (o : OpenObject) → p.opened ≡ Some o → IsOpenedBy heard objects p.who o
+  pub waits : (o : OpenObject) → p.opened ≡ Some o → o.waits ≡ true → IsAwaited heard past objects pool p.who o
 
 abbrev pub AllSeated : Lines → Texts → List Scene → Pool → List Peer → Type 0
 AllSeated heard past objects pool peers =
@@ -99,7 +99,7 @@ AllSeated heard past objects pool peers =
 -- no two wait by one session of one object
 abbrev pub AreAlone : List Peer → Type 0
 AreAlone peers =
-    (place other : ℕ) (o u : Opened) → opened_in (slice_get peers place) ≡ Some o → opened_in (slice_get peers other) ≡ Some u →
+    (place other : ℕ) (o u : OpenObject) → opened_in (slice_get peers place) ≡ Some o → opened_in (slice_get peers other) ≡ Some u →
     o.waits ≡ true → u.waits ≡ true → o.object ≡ u.object → o.session ≡ u.session → place ≡ other
 
 -- something stands behind each object

@@ -15,7 +15,7 @@ use Rattle.recover_core.specs.declared.recover.House.{House}
 use Rattle.recover_core.specs.declared.recover.Recovered.{Recovered}
 use Rattle.recover_core.specs.Playing.{begun_by}
 use Rattle.recover_core.specs.Recovered.{HasClients}
-use Rattle.hosted_core.specs.declared.start.Ended.{Ended}
+use Rattle.hosted_core.specs.declared.start.EndedEpoch.{EndedEpoch}
 use Rattle.hosted_core.specs.Again.{BeginsAgain}
 use Rattle.hosted_core.specs.Fronts.{front_of}
 use Rattle.hosted_core.specs.Scene.{Scene}
@@ -45,7 +45,7 @@ FollowedStands =
 -- So does an object that was served before and begins again.
 abbrev pub AgainStands : Type 0
 AgainStands =
-    (object : Object) (ended : Ended) (source : ℕ) (limits : Limits) (s : Scene) (again : BeginsAgain object ended source limits s)
+    (object : Object) (ended : EndedEpoch) (source : ℕ) (limits : Limits) (s : Scene) (again : BeginsAgain object ended source limits s)
     (runs : List PastRun) (epoch base : ℕ) → limits.sessions ≤ 65535 → AreSeated ended.guests → events_in runs ≡ again.past
     → Stands (object_of object) (begun_by (front_of s epoch runs base)) nothing_heard s
 

@@ -14,7 +14,7 @@ use Rattle.custody_core.specs.Custody.{Custody}
 use Rattle.decl_core.specs.HoldForm.{RulesForm}
 use Rattle.front_read.specs.HeldLines.{held_text}
 use Rattle.post_core.specs.Turns.{Turn, Runs}
-use Rattle.keep_loop.specs.declared.keep.Limits.{Limits}
+use Rattle.keep_loop.specs.declared.keep.LoopLimits.{LoopLimits}
 use Rattle.keep_loop.specs.Seen.{Happened}
 use Rattle.keep_loop.specs.Epochs.{rules_of, front_in, since_in, stored_since, change_to}
 use Rattle.keep_loop.specs.Stands.{IsHonest, IsBetween}
@@ -68,7 +68,7 @@ start_text {o = o} {events = events} rules s c =
 -- After a crash at each moment of a loop that is honest, where answers wait for the disk, there is one history of turns, as
 -- before, and the text by which a journal last began anew says so what was held of its object. Where it did not begin anew, so
 -- does the text that the start wrote.
-pub record LeavesAllHeld (first : Table) (limits : Limits) (seen : List Happened) (found : ℕ → List ℕ) : Type 0 where
+pub record LeavesAllHeld (first : Table) (limits : LoopLimits) (seen : List Happened) (found : ℕ → List ℕ) : Type 0 where
   pub answered : LeavesAnswered first limits seen found
   pub held : (j : ℕ) (o : ObjectForm) (rules : RulesForm) (past : List Ended) (text : List ℕ) → j < limits.journals → front_in j seen ≡ Some text → Stood first j o → HoldsBy first j rules past →
       IsHeldBehind first answered.left.survives.last j o rules past (answered.left.survives.answered ++ answered.left.survives.later) text (found j)
@@ -78,7 +78,7 @@ pub record LeavesAllHeld (first : Table) (limits : Limits) (seen : List Happened
 
 abbrev pub CrashLeavesHeld : Type 0
 CrashLeavesHeld =
-    (first : Table) (limits : Limits) (seen : List Happened) (found : ℕ → List ℕ) → limits.waits ≡ true →
+    (first : Table) (limits : LoopLimits) (seen : List Happened) (found : ℕ → List ℕ) → limits.waits ≡ true →
     IsHonest (rules_of Gives Fronts) first limits seen →
     ((j : ℕ) → j < limits.journals → IsBetween (stored_since j seen) (since_in j seen) (found j)) →
     LeavesAllHeld first limits seen found

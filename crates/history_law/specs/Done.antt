@@ -14,7 +14,7 @@ use Rattle.hosted_core.specs.Scene.{Scene}
 use Rattle.history_law.specs.Keys.{KeyEvent, IsKeptLine}
 use Rattle.history_law.specs.Keyed.{HaveKeys}
 use Rattle.post_core.specs.Turns.{Turn, Runs}
-use Rattle.keep_loop.specs.declared.keep.Limits.{Limits}
+use Rattle.keep_loop.specs.declared.keep.LoopLimits.{LoopLimits}
 use Rattle.keep_loop.specs.Epochs.{rules_of, since_in, stored_since}
 use Rattle.keep_loop.specs.Seen.{Happened}
 use Rattle.keep_loop.specs.Stands.{IsHonest, IsBetween}
@@ -102,14 +102,14 @@ LinesAreAnswered =
     AreAnswered first last turns
 
 -- A crash leaves one history of turns, as before, in which it is so.
-pub record LeavesDone (first : Table) (limits : Limits) (seen_so : List Happened) (found : ℕ → List ℕ) : Type 0 where
+pub record LeavesDone (first : Table) (limits : LoopLimits) (seen_so : List Happened) (found : ℕ → List ℕ) : Type 0 where
   pub answered : LeavesAnswered first limits seen_so found
   pub lines : AreAnswered first answered.left.survives.last (answered.left.survives.answered ++ answered.left.survives.later)
 
 -- So it does at each moment of a loop that is honest, where answers wait for the disk.
 abbrev pub CrashLeavesDone : Type 0
 CrashLeavesDone =
-    (first : Table) (limits : Limits) (seen_so : List Happened) (found : ℕ → List ℕ) → limits.waits ≡ true →
+    (first : Table) (limits : LoopLimits) (seen_so : List Happened) (found : ℕ → List ℕ) → limits.waits ≡ true →
     IsHonest (rules_of Gives Fronts) first limits seen_so →
     ((j : ℕ) → j < limits.journals → IsBetween (stored_since j seen_so) (since_in j seen_so) (found j)) →
     AllHeld first.objects.items → IsEmpty (seen first) → LeavesDone first limits seen_so found

@@ -11,7 +11,7 @@ use Rattle.recover_core.specs.Laws.{AreEndings}
 use Rattle.history_law.specs.Ended.{EndsOver, HoldsBy}
 use Rattle.history_law.specs.Year.{Epoch}
 use Rattle.post_core.specs.Turns.{Turn}
-use Rattle.keep_loop.specs.declared.keep.Limits.{Limits}
+use Rattle.keep_loop.specs.declared.keep.LoopLimits.{LoopLimits}
 use Rattle.keep_loop.specs.Seen.{Happened as Seen}
 use Rattle.keep_loop.specs.Epochs.{rules_of, front_in, since_in, stored_since}
 use Rattle.keep_loop.specs.Stands.{IsHonest, IsBetween}
@@ -50,7 +50,7 @@ pub record IsHeldRead (first : Table) (j : ℕ) (o : ObjectForm) (rules : RulesF
 
 -- After a crash at each moment of a loop that is honest, where answers wait for the disk, there is one history of turns, as
 -- before; and so does each text by which a journal last began anew. Where it did not begin anew, so does what the start wrote.
-pub record LeavesSaid (first : Table) (limits : Limits) (all : List Seen) (found : ℕ → List ℕ) : Type 0 where
+pub record LeavesSaid (first : Table) (limits : LoopLimits) (all : List Seen) (found : ℕ → List ℕ) : Type 0 where
   pub history : LeavesOneHistory first limits all found
   pub anew : (j : ℕ) (o : ObjectForm) (written : Opening) (earlier : List Epoch) (rules : RulesForm) (past : List Happened) (text : List ℕ) → j < limits.journals → front_in j all ≡ Some text →
       StartsAt first j o written earlier → HoldsBy first j rules past → AreEndings o past →
@@ -61,7 +61,7 @@ pub record LeavesSaid (first : Table) (limits : Limits) (all : List Seen) (found
 
 abbrev pub CrashSaysHeld : Type 0
 CrashSaysHeld =
-    (first : Table) (limits : Limits) (all : List Seen) (found : ℕ → List ℕ) → limits.waits ≡ true →
+    (first : Table) (limits : LoopLimits) (all : List Seen) (found : ℕ → List ℕ) → limits.waits ≡ true →
     IsHonest (rules_of Gives Fronts) first limits all →
     ((j : ℕ) → j < limits.journals → IsBetween (stored_since j all) (since_in j all) (found j)) →
     LeavesSaid first limits all found

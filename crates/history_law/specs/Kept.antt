@@ -3,7 +3,7 @@ use Rattle.std.specs.Prelude.{◌≡◌, ◌⊎◌, ◌<◌, ℕ, true, Option, 
 use Rattle.decl_core.specs.ObjectForm.{ObjectForm}
 use Rattle.decl_core.specs.ObjectMap.{object_of}
 use Rattle.live_core.specs.Front.{Opening}
-use Rattle.audit_core.specs.declared.verdict.Fault.{Fault}
+use Rattle.audit_core.specs.declared.verdict.AuditFault.{AuditFault}
 use Rattle.audit_core.specs.Steps.{Step, Begun, Heard, nothing_heard}
 use Rattle.recover_core.specs.declared.recover.House.{House}
 use Rattle.recover_core.specs.declared.recover.Recovered.{Recovered}
@@ -18,7 +18,7 @@ use Rattle.history_law.specs.Stands.{Stands}
 use Rattle.history_law.specs.WrittenRead.{AddsTwice, IsReadOf}
 use Rattle.post_core.specs.Texts.{Begins}
 use Rattle.post_core.specs.Turns.{Turn, Runs, added_by}
-use Rattle.keep_loop.specs.declared.keep.Limits.{Limits}
+use Rattle.keep_loop.specs.declared.keep.LoopLimits.{LoopLimits}
 use Rattle.keep_loop.specs.Seen.{Happened}
 use Rattle.keep_loop.specs.Epochs.{rules_of, front_in, since_in, stored_since, BeginsNone, change_to}
 use Rattle.keep_loop.specs.Stands.{IsHonest, IsBetween, SurvivesSince}
@@ -66,7 +66,7 @@ pub record IsRecovered (o : ObjectForm) (f : Opening) (j : ℕ) (ts us : List Tu
 pub record AreRead (first : Table) (j : ℕ) (ts us : List Turn) (found : List ℕ) : Type 0 where
   pub recovered : (o : ObjectForm) (h : House) (f : Opening) (bytes : ℕ) (r : Recovered) → IsServed first j o f (ts ++ us) →
       (b : IsBehind o h f bytes found r) → IsRecovered o f j ts us b.steps
-  pub readable : (o : ObjectForm) (h : House) (f : Opening) (before line : ℕ) (fault : Fault) → IsServed first j o f (ts ++ us) →
+  pub readable : (o : ObjectForm) (h : House) (f : Opening) (before line : ℕ) (fault : AuditFault) → IsServed first j o f (ts ++ us) →
       RefusesBehind o h f before found (faults.Line line fault) → ⊥
 
 abbrev pub LinesAreRead : Type 0
@@ -117,7 +117,7 @@ pub record IsReadAhead (j : ℕ) (o : ObjectForm) (text : List ℕ) (last : Tabl
   pub written : IsNextFront stood.scene front
   pub nothing : found ≡ []
   pub recovered : (h : House) (f : Opening) (bytes : ℕ) (r : Recovered) → (b : IsBehind o h f bytes found r) → b.steps ≡ []
-  pub readable : (h : House) (f : Opening) (before line : ℕ) (fault : Fault) → RefusesBehind o h f before found (faults.Line line fault) → ⊥
+  pub readable : (h : House) (f : Opening) (before line : ℕ) (fault : AuditFault) → RefusesBehind o h f before found (faults.Line line fault) → ⊥
 
 -- one or the other
 abbrev pub IsFoundOf : Table → ℕ → ObjectForm → List Happened → List Turn → List Turn → Table → List ℕ → Type 0
@@ -129,7 +129,7 @@ IsFoundOf first j o seen answered later last found =
 -- written a front of what it is told there, no further than turns whose lines are all found, or stand before a front that
 -- is. Of each object what is recovered behind its last front is all that happened in these turns since, and the first of what
 -- happened in those behind them; or the front tells what they all led to. No line with a fault is found.
-pub record LeavesAnswered (first : Table) (limits : Limits) (seen : List Happened) (found : ℕ → List ℕ) : Type 0 where
+pub record LeavesAnswered (first : Table) (limits : LoopLimits) (seen : List Happened) (found : ℕ → List ℕ) : Type 0 where
   pub left : SurvivesSince (rules_of Gives Fronts) first limits seen found
   pub read : (j : ℕ) (o : ObjectForm) → j < limits.journals → Stood first j o →
       IsFoundOf first j o seen left.survives.answered left.survives.later left.survives.last (found j)
@@ -137,7 +137,7 @@ pub record LeavesAnswered (first : Table) (limits : Limits) (seen : List Happene
 -- So it is after a crash at each moment of a loop that is honest, where answers wait for the disk.
 abbrev pub CrashLeavesAnswered : Type 0
 CrashLeavesAnswered =
-    (first : Table) (limits : Limits) (seen : List Happened) (found : ℕ → List ℕ) → limits.waits ≡ true →
+    (first : Table) (limits : LoopLimits) (seen : List Happened) (found : ℕ → List ℕ) → limits.waits ≡ true →
     IsHonest (rules_of Gives Fronts) first limits seen →
     ((j : ℕ) → j < limits.journals → IsBetween (stored_since j seen) (since_in j seen) (found j)) →
     LeavesAnswered first limits seen found

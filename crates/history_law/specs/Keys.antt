@@ -6,7 +6,7 @@ use Rattle.decl_core.specs.ObjectForm.{ObjectForm}
 use Rattle.apply_core.specs.declared.reply.Reply.{Reply}
 use Rattle.apply_core.specs.History.{End}
 use Rattle.word_core.specs.Events.{body_at}
-use Rattle.live_core.specs.declared.front.Client.{Client}
+use Rattle.live_core.specs.declared.front.NamedClient.{NamedClient}
 use Rattle.live_core.specs.declared.front.KeptCall.{KeptCall}
 use Rattle.live_core.specs.Front.{Opening}
 use Rattle.guest_core.specs.declared.guest.Guest.{Guest}
@@ -37,7 +37,7 @@ pub record KeyedCall : Type 0 where
 -- What is told of names: an epoch began with these clients; a session got a name; a call of a client with a name ended
 -- or was cancelled. The calls that a front keeps are told by none of these: they ended before.
 pub data KeyEvent : Type 0 where
-  epoch_began : List Client → KeyEvent
+  epoch_began : List NamedClient → KeyEvent
   name_came : List ℕ → KeyEvent
   call_ended : KeyedCall → KeyEvent
 
@@ -104,7 +104,7 @@ AreKnownOn o e [] = Unit {0}
 AreKnownOn o e (d ∷ earlier) = AreKnown d.came.guests e.is.front.clients e.is.front.kept × AreKnownOn o d earlier
 
 -- the client of this name among those of a front
-pub record IsAmong (clients : List Client) (name : List ℕ) (c : Client) : Type 0 where
+pub record IsAmong (clients : List NamedClient) (name : List ℕ) (c : NamedClient) : Type 0 where
   pub place : ℕ
   pub there : slice_get clients place ≡ Some c
   pub is_named : c.name ≡ name
@@ -114,7 +114,7 @@ pub record IsAmong (clients : List Client) (name : List ℕ) (c : Client) : Type
 -- history twice, but never while the name stays known.
 abbrev pub StaysKnown : List ℕ → List KeyEvent → Type 0
 StaysKnown name [] = Unit {0}
-StaysKnown name (epoch_began clients ∷ told) = ((c : Client) × IsAmong clients name c) × StaysKnown name told
+StaysKnown name (epoch_began clients ∷ told) = ((c : NamedClient) × IsAmong clients name c) × StaysKnown name told
 StaysKnown name (name_came other ∷ told) = (other ≢ name) × StaysKnown name told
 StaysKnown name (call_ended c ∷ told) = StaysKnown name told
 
@@ -128,7 +128,7 @@ calls_of name (call_ended c ∷ told) = (if bytes_eq c.name name then 1 else 0) 
 -- Behind this the next call of a name has this key: behind a front the one more than its client has used, 1 behind the
 -- line by which the name comes, and behind a call of it one more.
 abbrev pub Gives : List ℕ → KeyEvent → ℕ → Type 0
-Gives name (epoch_began clients) key = (c : Client) × IsAmong clients name c × (key ≡ c.keys + 1)
+Gives name (epoch_began clients) key = (c : NamedClient) × IsAmong clients name c × (key ≡ c.keys + 1)
 Gives name (name_came other) key = (other ≡ name) × (key ≡ 1)
 Gives name (call_ended c) key = (c.name ≡ name) × (key ≡ c.key + 1)
 
@@ -173,8 +173,8 @@ pub record IsTold (told : List KeyEvent) (name : List ℕ) (key : ℕ) (call : K
   pub stays : StaysKnown name newer
 
 -- a front has the line of this call of a name under this key
-pub record IsKeptLine (clients : List Client) (kept : List KeptCall) (name : List ℕ) (key : ℕ) (c : Kept) : Type 0 where
-  pub client : Client
+pub record IsKeptLine (clients : List NamedClient) (kept : List KeptCall) (name : List ℕ) (key : ℕ) (c : Kept) : Type 0 where
+  pub client : NamedClient
   pub among : IsAmong clients name client
   pub line : KeptCall
   pub place : ℕ

@@ -21,7 +21,7 @@ use Rattle.history_law.specs.Stands.{Stands}
 use Rattle.history_law.specs.Year.{Epoch, epoch_of, AreEpochs, IsSound, all_ends, first_opening}
 use Rattle.history_law.specs.Read.{IsReadOf}
 use Rattle.post_core.specs.Turns.{Turn, Runs}
-use Rattle.keep_loop.specs.declared.keep.Limits.{Limits as LoopLimits}
+use Rattle.keep_loop.specs.declared.keep.LoopLimits.{LoopLimits as LoopLimits}
 use Rattle.keep_loop.specs.Seen.{Happened}
 use Rattle.keep_loop.specs.Epochs.{rules_of, since_in, stored_since, BeginsNone, change_to}
 use Rattle.keep_loop.specs.Stands.{IsHonest, IsBetween}

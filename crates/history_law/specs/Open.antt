@@ -5,7 +5,7 @@ use Rattle.word_core.specs.Events.{Called}
 use Rattle.session_text.specs.Lines.{opened_text, repeated_text}
 use Rattle.hosted_core.specs.Scene.{Scene}
 use Rattle.post_core.specs.Turns.{Turn, Runs}
-use Rattle.keep_loop.specs.declared.keep.Limits.{Limits}
+use Rattle.keep_loop.specs.declared.keep.LoopLimits.{LoopLimits}
 use Rattle.keep_loop.specs.Epochs.{rules_of, since_in, stored_since}
 use Rattle.keep_loop.specs.Seen.{Happened}
 use Rattle.keep_loop.specs.Stands.{IsHonest, IsBetween}
@@ -94,14 +94,14 @@ RepeatsAreOfOpen =
     ((j : ℕ) (s : Scene) → slice_get first.objects.items j ≡ Some s → IsFresh s) → AreOfOpen first last turns
 
 -- A crash leaves one history of turns, as before, in which it is so.
-pub record LeavesOpen (first : Table) (limits : Limits) (seen_so : List Happened) (found : ℕ → List ℕ) : Type 0 where
+pub record LeavesOpen (first : Table) (limits : LoopLimits) (seen_so : List Happened) (found : ℕ → List ℕ) : Type 0 where
   pub answered : LeavesAnswered first limits seen_so found
   pub is_so : AreOfOpen first answered.left.survives.last (answered.left.survives.answered ++ answered.left.survives.later)
 
 -- So it does at each moment of a loop that is honest, where answers wait for the disk.
 abbrev pub CrashLeavesOpen : Type 0
 CrashLeavesOpen =
-    (first : Table) (limits : Limits) (seen_so : List Happened) (found : ℕ → List ℕ) → limits.waits ≡ true →
+    (first : Table) (limits : LoopLimits) (seen_so : List Happened) (found : ℕ → List ℕ) → limits.waits ≡ true →
     IsHonest (rules_of Gives Fronts) first limits seen_so →
     ((j : ℕ) → j < limits.journals → IsBetween (stored_since j seen_so) (since_in j seen_so) (found j)) →
     AllHeld first.objects.items → IsEmpty (seen first) → ((j : ℕ) (s : Scene) → slice_get first.objects.items j ≡ Some s → IsFresh s) →

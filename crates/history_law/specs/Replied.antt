@@ -10,7 +10,7 @@ use Rattle.audit_core.specs.Steps.{Begun, happened_of}
 use Rattle.hosted_core.specs.Scene.{Scene, told_of}
 use Rattle.history_law.specs.Year.{Epoch, all_ends, first_opening}
 use Rattle.post_core.specs.Turns.{Turn, Runs}
-use Rattle.keep_loop.specs.declared.keep.Limits.{Limits}
+use Rattle.keep_loop.specs.declared.keep.LoopLimits.{LoopLimits}
 use Rattle.keep_loop.specs.Seen.{Happened}
 use Rattle.keep_loop.specs.Epochs.{rules_of, since_in, stored_since}
 use Rattle.keep_loop.specs.Stands.{IsHonest, IsBetween}
@@ -91,14 +91,14 @@ RepliesStand =
     t.said ≡ front ++ (who, text) ∷ behind → IsReplied first last (before ++ t ∷ after) before h text ⊎ (IsRepeated first last (before ++ t ∷ after) before h text ⊎ SaysNoReply text)
 
 -- A crash leaves one history of turns, as before, and what is told in them is true of it.
-pub record LeavesReplied (first : Table) (limits : Limits) (seen : List Happened) (found : ℕ → List ℕ) : Type 0 where
+pub record LeavesReplied (first : Table) (limits : LoopLimits) (seen : List Happened) (found : ℕ → List ℕ) : Type 0 where
   pub answered : LeavesAnswered first limits seen found
   pub history : HaveOneHistory first answered.left.survives.last (answered.left.survives.answered ++ answered.left.survives.later)
 
 -- So it does at each moment of a loop that is honest, where answers wait for the disk.
 abbrev pub CrashLeavesReplied : Type 0
 CrashLeavesReplied =
-    (first : Table) (limits : Limits) (seen : List Happened) (found : ℕ → List ℕ) → limits.waits ≡ true →
+    (first : Table) (limits : LoopLimits) (seen : List Happened) (found : ℕ → List ℕ) → limits.waits ≡ true →
     IsHonest (rules_of Gives Fronts) first limits seen →
     ((j : ℕ) → j < limits.journals → IsBetween (stored_since j seen) (since_in j seen) (found j)) →
     LeavesReplied first limits seen found

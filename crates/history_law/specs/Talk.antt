@@ -13,9 +13,9 @@ use Rattle.word_core.specs.Text.{operation_name}
 use Rattle.word_core.specs.Answers.{cancelled_line}
 use Rattle.guest_core.specs.declared.answer.Cancelled.{Cancelled}
 use Rattle.guest_core.specs.declared.answer.SubmitFault.TheVariants as faults
-use Rattle.session_text.specs.declared.line.Line.TheVariants as lines
-use Rattle.session_text.specs.declared.line.Line.{Line as Answer}
-use Rattle.session_text.specs.declared.line.Refusal.TheVariants as refusals
+use Rattle.session_text.specs.declared.line.ReplyLine.TheVariants as lines
+use Rattle.session_text.specs.declared.line.ReplyLine.{ReplyLine as Answer}
+use Rattle.session_text.specs.declared.line.LineRefusal.TheVariants as refusals
 use Rattle.session_text.specs.Lines.{accepted_text, bye_text, cancel_name, ended_text, line_text, withdrawn_text}
 use Rattle.hosted_core.specs.Scene.{Scene}
 use Rattle.post_core.specs.declared.served.LineEnd.{LineEnd}

@@ -24,7 +24,7 @@ use Rattle.history_law.specs.Stands.{Stands}
 use Rattle.history_law.specs.Year.{Epoch, AreEpochs, IsSound, all_ends, epoch_of, first_opening}
 use Rattle.history_law.specs.Read.{IsReadOf}
 use Rattle.post_core.specs.Turns.{Turn}
-use Rattle.keep_loop.specs.declared.keep.Limits.{Limits}
+use Rattle.keep_loop.specs.declared.keep.LoopLimits.{LoopLimits}
 use Rattle.keep_loop.specs.Seen.{Happened}
 use Rattle.keep_loop.specs.Epochs.{rules_of, front_in, since_in, stored_since}
 use Rattle.keep_loop.specs.Stands.{IsHonest, IsBetween}
@@ -112,7 +112,7 @@ pub record ReadsOn (first : Table) (j : ℕ) (o : ObjectForm) (opening : List Co
 
 -- After a crash at each moment of a loop that is honest, where answers wait for the disk, there is one history of turns, as
 -- before; and of each object what a start reads of its journal, without the lines of what was held, lives on.
-pub record LeavesLives (first : Table) (limits : Limits) (seen : List Happened) (found : ℕ → List ℕ) : Type 0 where
+pub record LeavesLives (first : Table) (limits : LoopLimits) (seen : List Happened) (found : ℕ → List ℕ) : Type 0 where
   pub history : LeavesOneHistory first limits seen found
   pub anew : (j : ℕ) (o : ObjectForm) (written : Opening) (earlier : List Epoch) (text : List ℕ) → j < limits.journals → front_in j seen ≡ Some text → (s : StartsAt first j o written earlier) →
       ReadsOn first j o (first_opening (epoch_at s) earlier) (all_ends o (epoch_at s) earlier) (history.answered.left.survives.answered ++ history.answered.left.survives.later) text (found j)
@@ -120,7 +120,7 @@ pub record LeavesLives (first : Table) (limits : Limits) (seen : List Happened) 
 
 abbrev pub CrashLeavesLives : Type 0
 CrashLeavesLives =
-    (first : Table) (limits : Limits) (seen : List Happened) (found : ℕ → List ℕ) → limits.waits ≡ true →
+    (first : Table) (limits : LoopLimits) (seen : List Happened) (found : ℕ → List ℕ) → limits.waits ≡ true →
     IsHonest (rules_of Gives Fronts) first limits seen →
     ((j : ℕ) → j < limits.journals → IsBetween (stored_since j seen) (since_in j seen) (found j)) →
     LeavesLives first limits seen found

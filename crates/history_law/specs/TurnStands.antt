@@ -6,7 +6,7 @@ use Rattle.apply_core.specs.History.{End}
 use Rattle.word_core.specs.Events.{Called, history_of}
 use Rattle.audit_core.specs.Steps.{happened_of}
 use Rattle.hosted_core.specs.Scene.{Scene}
-use Rattle.client_core.specs.declared.client.Opened.{Opened}
+use Rattle.client_core.specs.declared.client.OpenObject.{OpenObject}
 use Rattle.client_core.specs.Held.{is_whole_before, waits_of}
 use Rattle.post_core.specs.Turns.{Turn}
 use Rattle.post_core.specs.declared.served.LineEnd.{LineEnd}
@@ -26,13 +26,13 @@ AreHeld is_cut held (l ∷ lines) =
     (behind : List ℕ) × NoLineFeed l.text × (held ≡ l.text ++ 10 ∷ behind) × (l.is_whole ≡ is_whole_before is_cut behind) × AreHeld is_cut behind lines
 
 -- each call there of the session that one has opened is the one that is wanted
-abbrev pub Wants : List Scene → Pool → Opened → Wanted → Type 0
+abbrev pub Wants : List Scene → Pool → OpenObject → Wanted → Type 0
 Wants objects pool o w = (call : Called) → pool o.object call → call.session ≡ o.session → IsWanted objects o.object w call
 
 -- a call of one that has opened this waits, which is wanted; or none does
-abbrev pub IsWaiting : List Scene → Pool → Option Opened → Option Wanted → Type 0
+abbrev pub IsWaiting : List Scene → Pool → Option OpenObject → Option Wanted → Type 0
 IsWaiting objects pool opened None = waits_of opened ≡ false
-IsWaiting objects pool opened (Some w) = (o : Opened) × (opened ≡ Some o) × (o.waits ≡ true) × (o.told ≡ w.number) × Wants objects pool o w
+IsWaiting objects pool opened (Some w) = (o : OpenObject) × (opened ≡ Some o) × (o.waits ≡ true) × (o.told ≡ w.number) × Wants objects pool o w
 
 -- a connection is at a place, with what it holds and waits for; or it is not there
 abbrev pub IsAt : ℕ → List Scene → Pool → Option Peer → Talk → Type 0

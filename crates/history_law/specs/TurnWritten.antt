@@ -2,7 +2,7 @@
 use Rattle.std.specs.Prelude.{◌≡◌, ◌<◌, ℕ, true, List, ◌++◌}
 use Rattle.post_core.specs.Texts.{Begins}
 use Rattle.post_core.specs.Turns.{Turn, Runs, said_to}
-use Rattle.keep_loop.specs.declared.keep.Limits.{Limits}
+use Rattle.keep_loop.specs.declared.keep.LoopLimits.{LoopLimits}
 use Rattle.keep_loop.specs.Cuts.{IsCut}
 use Rattle.keep_loop.specs.Epochs.{rules_of, since_in, stored_since}
 use Rattle.keep_loop.specs.Seen.{Happened, came_from, ended_in, written_to}
@@ -45,11 +45,11 @@ pub record AllAreServed (first : Table) (seen_so : List Happened) : Type 0 where
 -- So it is at each moment of a loop that is honest.
 abbrev pub HonestServesAll : Type 0
 HonestServesAll =
-    (first : Table) (limits : Limits) (seen_so : List Happened) → IsHonest (rules_of Gives Fronts) first limits seen_so →
+    (first : Table) (limits : LoopLimits) (seen_so : List Happened) → IsHonest (rules_of Gives Fronts) first limits seen_so →
     AllHeld first.objects.items → IsEmpty (seen first) → AllAreServed first seen_so
 
 -- A crash leaves one history of turns, as before, in which it is so.
-pub record LeavesServed (first : Table) (limits : Limits) (seen_so : List Happened) (found : ℕ → List ℕ) : Type 0 where
+pub record LeavesServed (first : Table) (limits : LoopLimits) (seen_so : List Happened) (found : ℕ → List ℕ) : Type 0 where
   pub answered : LeavesAnswered first limits seen_so found
   pub written : AreWritten first answered.left.survives.last (answered.left.survives.answered ++ answered.left.survives.later)
   pub each : (c : ℕ) → IsServed c seen_so (written.told.order.each c).parts
@@ -57,7 +57,7 @@ pub record LeavesServed (first : Table) (limits : Limits) (seen_so : List Happen
 -- So it does at each moment of a loop that is honest, where answers wait for the disk.
 abbrev pub CrashLeavesServed : Type 0
 CrashLeavesServed =
-    (first : Table) (limits : Limits) (seen_so : List Happened) (found : ℕ → List ℕ) → limits.waits ≡ true →
+    (first : Table) (limits : LoopLimits) (seen_so : List Happened) (found : ℕ → List ℕ) → limits.waits ≡ true →
     IsHonest (rules_of Gives Fronts) first limits seen_so →
     ((j : ℕ) → j < limits.journals → IsBetween (stored_since j seen_so) (since_in j seen_so) (found j)) →
     AllHeld first.objects.items → IsEmpty (seen first) → LeavesServed first limits seen_so found

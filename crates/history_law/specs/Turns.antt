@@ -13,7 +13,7 @@ use Rattle.history_law.specs.Stands.{AreSeated}
 use Rattle.post_core.specs.Texts.{to}
 use Rattle.post_core.specs.Turns.{Asked, Turn, Runs}
 use Rattle.post_core.specs.Turns.Asked.{Heard, Noted, Changes}
-use Rattle.client_core.specs.declared.client.Opened.{Opened}
+use Rattle.client_core.specs.declared.client.OpenObject.{OpenObject}
 use Rattle.client_core.specs.Deeds.{Texts}
 use Rattle.client_core.specs.State.{Peer, State, opened_in, who_in}
 use Rattle.history_law.specs.Said.{Account, HasRun, HasRemembered, SaysIn, SaysNoReply}
@@ -25,18 +25,18 @@ use Rattle.history_law.specs.Awaits.{IsIn, AllHeld}
 use Rattle.history_law.specs.Asked.{Claim, Claims, no_claims, AreAsked, ClientHas, IsAskedOf, IsHere}
 
 -- a connection has opened an object by a name, and this is known of it
-abbrev pub OpenedAs : Claims → Option ℕ → Opened → List ℕ → Type 0
+abbrev pub OpenedAs : Claims → Option ℕ → OpenObject → List ℕ → Type 0
 OpenedAs claims who o name = (o.is_named ≡ true) × claims.named who o.object name
 
 -- Objects and who has opened them: each call that waits is the one for which its client asked; who has a session of an object
 -- has it alone, and is not away, and where it has a name it has opened the object by this name; and while a call of a session without a name waits, who has that session waits for it.
 pub record AllAsked (claims : Claims) (objects : List Scene) (peers : List Peer) : Type 0 where
   pub asked : (j : ℕ) (s : Scene) → slice_get objects j ≡ Some s → IsAskedOf (claims.called j) s
-  pub here : (place : ℕ) (o : Opened) (s : Scene) → opened_in (slice_get peers place) ≡ Some o → o.session ≢ 0 → slice_get objects o.object ≡ Some s →
+  pub here : (place : ℕ) (o : OpenObject) (s : Scene) → opened_in (slice_get peers place) ≡ Some o → o.session ≢ 0 → slice_get objects o.object ≡ Some s →
       ClientHas (IsHere (OpenedAs claims (who_in (slice_get peers place)) o)) s.guests o.session
-  pub alone : (place other : ℕ) (o u : Opened) → opened_in (slice_get peers place) ≡ Some o → opened_in (slice_get peers other) ≡ Some u → o.session ≢ 0 → o.object ≡ u.object → o.session ≡ u.session →
+  pub alone : (place other : ℕ) (o u : OpenObject) → opened_in (slice_get peers place) ≡ Some o → opened_in (slice_get peers other) ≡ Some u → o.session ≢ 0 → o.object ≡ u.object → o.session ≡ u.session →
       place ≡ other
-  pub waits : (place : ℕ) (o : Opened) (s : Scene) (c : Called) → opened_in (slice_get peers place) ≡ Some o → slice_get objects o.object ≡ Some s → IsIn c s.hall.waiting → c.session ≡ o.session →
+  pub waits : (place : ℕ) (o : OpenObject) (s : Scene) (c : Called) → opened_in (slice_get peers place) ≡ Some o → slice_get objects o.object ≡ Some s → IsIn c s.hall.waiting → c.session ≡ o.session →
       slice_get s.guests.seats o.session ≡ Some Nameless → o.waits ≡ true
 
 -- an object went by steps with these lines, this is what happened, and each call that ran in them is its client's own

@@ -1,7 +1,7 @@
 -- What is read of the lines that an object added.
 use Rattle.std.specs.Prelude.{◌≡◌, ℕ, List, [], ◌++◌}
 use Rattle.decl_core.specs.ObjectForm.{ObjectForm}
-use Rattle.audit_core.specs.declared.verdict.Fault.{Fault}
+use Rattle.audit_core.specs.declared.verdict.AuditFault.{AuditFault}
 use Rattle.live_core.specs.Front.{Opening}
 use Rattle.audit_core.specs.Steps.{Step, nothing_heard}
 use Rattle.recover_core.specs.declared.recover.House.{House}
@@ -61,5 +61,5 @@ StoredIsRead =
 -- In none of their first bytes a line with a fault is found.
 abbrev pub NoFaultIsFound : Type 0
 NoFaultIsFound =
-    (o : ObjectForm) (h : House) (f : Opening) (text found more : List ℕ) (before line : ℕ) (fault : Fault) → Adds o f text →
+    (o : ObjectForm) (h : House) (f : Opening) (text found more : List ℕ) (before line : ℕ) (fault : AuditFault) → Adds o f text →
     text ≡ found ++ more → RefusesBehind o h f before found (faults.Line line fault) → ⊥

@@ -15,8 +15,8 @@ use Rattle.body_read.proofs.Exact.{Exact, bind_some, read_is, series_exact}
 use Rattle.decl_core.specs.ObjectForm.{OperationForm}
 use Rattle.decl_core.specs.HoldForm.{signatures_of, signature_of}
 use Rattle.decl_core.specs.HoldForm.{HoldForm, EveryForm, Signature, MayEnd, IsEvery, is_one_of, named_in, ending_in, called_in}
-use Rattle.hold_read.specs.declared.words.Word.{Word}
-use Rattle.hold_read.specs.declared.words.Word.TheVariants as words
+use Rattle.hold_read.specs.declared.words.HoldKeyword.{HoldKeyword}
+use Rattle.hold_read.specs.declared.words.HoldKeyword.TheVariants as words
 use Rattle.hold_read.specs.Words.{word, word_text, word_at, begins_word}
 use Rattle.decl_read.specs.Declarations.{begins}
 use Rattle.hold_read.specs.Holds.{IsOperation, is_taken, IsUndo, undo, IsNextUndo, next_undo, IsUndos, undos, IsLoose, strict, loose, IsHoldItem, a_hold, IsEveryItem, an_every}
@@ -29,7 +29,7 @@ chosen : (b : Bool) (x y : List ℕ) (ws rest : List Lexeme) → (b ≡ true →
 chosen true x y ws rest h e = let same : ws ≡ rest = cc in ap (λ z. identifier z ∷ ws) (h refl) ∙ ap (λ r. identifier y ∷ r) same
 chosen false x y ws rest h e = absurd cc
 
-pub word_found : (w : Word) (ws rest : List Lexeme) → word_at w ws ≡ Some rest → ws ≡ word w ∷ rest
+pub word_found : (w : HoldKeyword) (ws rest : List Lexeme) → word_at w ws ≡ Some rest → ws ≡ word w ∷ rest
 word_found w [] rest h = absurd cc
 word_found w (identifier bytes ∷ ws) rest h = chosen (bytes_eq bytes (word_text w)) bytes (word_text w) ws rest (bytes_eq-Decides bytes (word_text w)).0 h
 word_found w (symbol s ∷ ws) rest h = absurd cc

@@ -13,7 +13,7 @@ use Rattle.decl_read.specs.Declarations.{is_object_word}
 use Rattle.decl_read.proofs.Fronts.{provided_is}
 use Rattle.decl_read.proofs.Sources.{one_of_some}
 use Rattle.decl_core.specs.HoldForm.{RulesForm, rules_with, no_rules}
-use Rattle.hold_read.specs.declared.words.Word.TheVariants as words
+use Rattle.hold_read.specs.declared.words.HoldKeyword.TheVariants as words
 use Rattle.hold_read.specs.Words.{begins_word}
 use Rattle.hold_read.specs.Holds.{IsHoldItem, IsEveryItem, IsRules, rules, ends_object}
 use Rattle.hold_read.specs.HoldReading.{hold_in, every_in, rules_in}

@@ -16,7 +16,7 @@ use Rattle.decl_read.specs.Declarations.{begins}
 use Rattle.decl_read.specs.DeclarationReading.{provided, number_at}
 use Rattle.decl_core.specs.HoldForm.{HoldForm, EveryForm, RulesForm, rules_with, Signature, signature_of, is_one_of}
 use Rattle.decl_core.specs.HoldForm.{named_in, ending_in, called_in}
-use Rattle.hold_read.specs.declared.words.Word.TheVariants as words
+use Rattle.hold_read.specs.declared.words.HoldKeyword.TheVariants as words
 use Rattle.hold_read.specs.Words.{word_at, begins_word}
 use Rattle.hold_read.specs.Holds.{is_taken, ends_object}
 

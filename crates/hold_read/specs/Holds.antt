@@ -9,7 +9,7 @@ use Rattle.decl_core.specs.ObjectForm.{OperationForm}
 use Rattle.decl_core.specs.HoldForm.{HoldForm, EveryForm, RulesForm, rules_with, MayEnd, IsEvery, is_one_of, named_in}
 use Rattle.decl_core.specs.HoldForm.{called_in, signatures_of}
 use Rattle.decl_read.specs.Declarations.{begins, is_object_word}
-use Rattle.hold_read.specs.declared.words.Word.TheVariants as words
+use Rattle.hold_read.specs.declared.words.HoldKeyword.TheVariants as words
 use Rattle.hold_read.specs.Words.{word, word_at, begins_word}
 
 -- the names of these operations have this number at this name

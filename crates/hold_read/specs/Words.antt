@@ -1,11 +1,11 @@
 -- Words that are words in their places alone: anywhere else they are names.
 use Rattle.std.specs.Prelude.{ℕ, Bool, List, [], ◌∷◌, Option, Some, None, codes, bytes_eq, is_some, if◌then◌else◌}
 use Rattle.path_tree.specs.Lexeme.{Lexeme, symbol, number, identifier, string, end_mark}
-use Rattle.hold_read.specs.declared.words.Word.{Word}
-use Rattle.hold_read.specs.declared.words.Word.TheVariants as words
+use Rattle.hold_read.specs.declared.words.HoldKeyword.{HoldKeyword}
+use Rattle.hold_read.specs.declared.words.HoldKeyword.TheVariants as words
 
 -- how a word is written; it may be written in any case
-abbrev pub word_text : Word → List ℕ
+abbrev pub word_text : HoldKeyword → List ℕ
 word_text words.Hold = codes "hold"
 word_text words.Until = codes "until"
 word_text words.By = codes "by"
@@ -14,7 +14,7 @@ word_text words.Every = codes "every"
 word_text words.Call = codes "call"
 
 -- behind a word
-abbrev pub word_at : Word → List Lexeme → Option (List Lexeme)
+abbrev pub word_at : HoldKeyword → List Lexeme → Option (List Lexeme)
 word_at w [] = None
 word_at w (identifier bytes ∷ ws) = if bytes_eq bytes (word_text w) then Some ws else None
 word_at w (symbol s ∷ ws) = None
@@ -23,9 +23,9 @@ word_at w (string bytes ∷ ws) = None
 word_at w (end_mark ∷ ws) = None
 
 -- whether a word stands in front
-abbrev pub begins_word : Word → List Lexeme → Bool
+abbrev pub begins_word : HoldKeyword → List Lexeme → Bool
 begins_word w ws = is_some (word_at w ws)
 
 -- a word where it is one
-abbrev pub word : Word → Lexeme
+abbrev pub word : HoldKeyword → Lexeme
 word w = identifier (word_text w)

@@ -8,14 +8,14 @@ ghost use Rattle.decl_core.specs.HoldForm.{is_one_of as is_one, called_in, endin
 ghost use Rattle.decl_core.specs.HoldMap.{everies_of, holds_of};
 ghost use Rattle.decl_core.specs.ObjectMap.{operations_of};
 ghost use Rattle.hold_read.specs.Words.{begins_word as a_word_begins};
-ghost use Rattle.hold_read.specs.declared.words.Word.TheVariants.{Every as EveryWord};
+ghost use Rattle.hold_read.specs.declared.words.HoldKeyword.TheVariants.{Every as EveryWord};
 ghost use Rattle.hold_read.specs.HoldReading.{seconds_of, is_bare as is_bare_in, every_in};
 ghost use Rattle.hold_read.specs.HoldReading.{replies_none as replies_none_of};
 ghost use Rattle.hold_read.specs.Views.{everies_read};
 ghost use Rattle.decl_read.specs.DeclarationReading.{number_at};
 
 use crate::holds::{is_one_of, operation, takes_none};
-use crate::words::{Word, begins_word, behind_word};
+use crate::words::{HoldKeyword, begins_word, behind_word};
 use body_read::front::{behind, start_of};
 use body_read::terms::Read;
 use body_read::text_fault::TextFault;
@@ -111,10 +111,10 @@ fn every<'t>(
         (everies_of before.items) (lexemes tokens.now)) }
 {
     let mut all = before;
-    let opened = behind_word(tokens, Word::Every)?;
+    let opened = behind_word(tokens, HoldKeyword::Every)?;
     let (n, rest) = number(opened)?;
     let seconds = allowed(n, start_of(opened))?;
-    let named = behind_word(rest, Word::Call)?;
+    let named = behind_word(rest, HoldKeyword::Call)?;
     let (op, rest) = operation(operations, named)?;
     if ends_one(holds, op) || is_called(&all, op) {
         return Err(TextFault::DuplicateName(start_of(named)));
@@ -139,7 +139,7 @@ pub(crate) fn everies<'t>(
     ensures { Gives everies_read result (series_at (every_in (operations_of operations.now) (holds_of holds.now))
         (a_word_begins EveryWord) left (everies_of so_far.items) (lexemes tokens.now)) }
 {
-    if !begins_word(tokens, Word::Every) {
+    if !begins_word(tokens, HoldKeyword::Every) {
         return Ok((so_far, tokens));
     }
     if left == 0 {

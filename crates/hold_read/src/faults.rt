@@ -2,7 +2,7 @@
 
 use crate::rules::rules;
 use crate::sections::{begin_of, behind_object, rules_at};
-use crate::words::{Word, begins_word};
+use crate::words::{HoldKeyword, begins_word};
 use body_read::text_fault::TextFault;
 use decl_core::object::Object;
 use decl_read::fault::DeclFault;
@@ -147,7 +147,7 @@ fn is_before(fault: DeclFault, at: usize) -> bool {
 // Whether a token out of its place is a word that holds begin with.
 fn is_misplaced(fault: DeclFault, tokens: &[Token]) -> bool {
     matches!(fault, DeclFault::Syntax(_))
-        && (begins_word(tokens, Word::Hold) || begins_word(tokens, Word::Every))
+        && (begins_word(tokens, HoldKeyword::Hold) || begins_word(tokens, HoldKeyword::Every))
 }
 
 /// The first fault of a source with these tokens, that without its holds is this and has, so, this fault.

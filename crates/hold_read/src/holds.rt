@@ -14,14 +14,14 @@ ghost use Rattle.decl_core.specs.ObjectMap.{operation_of, operations_of, params_
 ghost use Rattle.decl_read.specs.Declarations.{begins as begins_with};
 ghost use Rattle.hold_read.specs.Holds.{is_taken as is_taken_in};
 ghost use Rattle.hold_read.specs.Words.{begins_word as a_word_begins};
-ghost use Rattle.hold_read.specs.declared.words.Word.TheVariants.{Hold as HoldWord};
+ghost use Rattle.hold_read.specs.declared.words.HoldKeyword.TheVariants.{Hold as HoldWord};
 ghost use Rattle.hold_read.specs.HoldReading.{operation_at, may_end as may_end_in, ends_by, same_elem};
 ghost use Rattle.hold_read.specs.HoldReading.{takes_held as takes_held_by, takes_none as takes_none_of};
 ghost use Rattle.hold_read.specs.HoldReading.{is_one_sort as is_one_sort_of};
 ghost use Rattle.hold_read.specs.HoldReading.{undo_in, next_undo_in, undos_in, loose_in, loose_by, hold_in};
 ghost use Rattle.hold_read.specs.Views.{holds_read, numbers_read};
 
-use crate::words::{Word, after_word, begins_word, behind_word};
+use crate::words::{HoldKeyword, after_word, begins_word, behind_word};
 use body_read::front::{after, behind, name, start_of};
 use body_read::terms::Read;
 use body_read::text_fault::TextFault;
@@ -270,10 +270,10 @@ fn undos<'t>(
 fn loose<'t>(tokens: &'t [Token]) -> Read<'t, bool>
     ensures { Gives (λ x. (x.0, lexemes x.1.now)) result (loose_in (lexemes tokens.now)) }
 {
-    match after_word(tokens, Word::By) {
+    match after_word(tokens, HoldKeyword::By) {
         None => Ok((false, tokens)),
         Some(opened) => {
-            let rest = behind_word(opened, Word::Any)?;
+            let rest = behind_word(opened, HoldKeyword::Any)?;
             Ok((true, rest))
         }
     }
@@ -292,12 +292,12 @@ fn hold<'t>(
         (lexemes tokens.now)) }
 {
     let mut all = before;
-    let opened = behind_word(tokens, Word::Hold)?;
+    let opened = behind_word(tokens, HoldKeyword::Hold)?;
     let (op, rest) = operation(operations, opened)?;
     if is_named(&all, op) {
         return Err(TextFault::DuplicateName(start_of(opened)));
     }
-    let rest = behind_word(rest, Word::Until)?;
+    let rest = behind_word(rest, HoldKeyword::Until)?;
     let (until, rest) = undos(alloc, operations, &all, op, rest)?;
     let (by_any, rest) = loose(rest)?;
     let rest = behind(rest, Symbol::Semicolon)?;
@@ -317,7 +317,7 @@ pub(crate) fn holds<'t>(
     ensures { Gives holds_read result (series_at (hold_in (operations_of operations.now)) (a_word_begins HoldWord) left
         (holds_of so_far.items) (lexemes tokens.now)) }
 {
-    if !begins_word(tokens, Word::Hold) {
+    if !begins_word(tokens, HoldKeyword::Hold) {
         return Ok((so_far, tokens));
     }
     if left == 0 {

@@ -9,9 +9,9 @@ ghost use Rattle.hold_read.specs.Sections.{begins_rules as rules_begin, behind_o
 ghost use Rattle.hold_read.specs.Sections.{rules_at as rules_at_in, is_of_rules as is_of_rules_in, begin_of as begin_in};
 ghost use Rattle.hold_read.specs.Sections.{end_of as end_in};
 ghost use Rattle.hold_read.specs.Words.{word_at};
-ghost use Rattle.hold_read.specs.declared.words.Word.TheVariants.{Hold, Every};
+ghost use Rattle.hold_read.specs.declared.words.HoldKeyword.TheVariants.{Hold, Every};
 
-use crate::words::{Word, after_word};
+use crate::words::{HoldKeyword, after_word};
 use path_tree::token::{Symbol, Token, TokenKind, is_same_symbol};
 
 /// Whether a token is the word `object`.
@@ -63,7 +63,7 @@ fn begins_number(tokens: &[Token]) -> bool
 fn begins_hold(tokens: &[Token]) -> bool
     ensures { result ≡ name_behind (word_at Hold (lexemes tokens.now)) }
 {
-    match after_word(tokens, Word::Hold) {
+    match after_word(tokens, HoldKeyword::Hold) {
         None => false,
         Some(rest) => begins_name(rest),
     }
@@ -73,7 +73,7 @@ fn begins_hold(tokens: &[Token]) -> bool
 fn begins_every(tokens: &[Token]) -> bool
     ensures { result ≡ number_behind (word_at Every (lexemes tokens.now)) }
 {
-    match after_word(tokens, Word::Every) {
+    match after_word(tokens, HoldKeyword::Every) {
         None => false,
         Some(rest) => begins_number(rest),
     }

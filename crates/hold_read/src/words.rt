@@ -12,7 +12,7 @@ use path_tree::token::{Token, TokenKind};
 
 /// A word that is one in its place alone.
 #[derive(Clone, Copy)]
-pub(crate) enum Word {
+pub(crate) enum HoldKeyword {
     /// `hold`
     Hold,
     /// `until`
@@ -28,28 +28,28 @@ pub(crate) enum Word {
 }
 
 /// How a word is written, in lower case.
-fn text(word: Word) -> &'static [u8]
+fn text(word: HoldKeyword) -> &'static [u8]
     ensures { result.now ≡ word_text word }
 {
     match word {
-        Word::Hold => b"hold",
-        Word::Until => b"until",
-        Word::By => b"by",
-        Word::Any => b"any",
-        Word::Every => b"every",
-        Word::Call => b"call",
+        HoldKeyword::Hold => b"hold",
+        HoldKeyword::Until => b"until",
+        HoldKeyword::By => b"by",
+        HoldKeyword::Any => b"any",
+        HoldKeyword::Every => b"every",
+        HoldKeyword::Call => b"call",
     }
 }
 
 /// Whether a name is written as this word.
-fn is_word(name: &Name, word: Word) -> bool
+fn is_word(name: &Name, word: HoldKeyword) -> bool
     ensures { result ≡ bytes_eq name.now (word_text word) }
 {
     name.as_bytes() == text(word)
 }
 
 /// The tokens behind a word, or `None` where another token stands here.
-pub(crate) fn after_word<'t>(tokens: &'t [Token], word: Word) -> Option<&'t [Token]>
+pub(crate) fn after_word<'t>(tokens: &'t [Token], word: HoldKeyword) -> Option<&'t [Token]>
     ensures { MatchOption result (word_at word (lexemes tokens.now) ≡ None)
         (λ rest. word_at word (lexemes tokens.now) ≡ Some (lexemes rest.now)) }
 {
@@ -70,7 +70,7 @@ pub(crate) fn after_word<'t>(tokens: &'t [Token], word: Word) -> Option<&'t [Tok
 }
 
 /// Whether a word stands in front.
-pub(crate) fn begins_word(tokens: &[Token], word: Word) -> bool
+pub(crate) fn begins_word(tokens: &[Token], word: HoldKeyword) -> bool
     ensures { result ≡ begins_with word (lexemes tokens.now) }
 {
     match after_word(tokens, word) {
@@ -80,7 +80,7 @@ pub(crate) fn begins_word(tokens: &[Token], word: Word) -> bool
 }
 
 /// The tokens behind a word that has to stand here.
-pub(crate) fn behind_word<'t>(tokens: &'t [Token], word: Word) -> Result<&'t [Token], TextFault>
+pub(crate) fn behind_word<'t>(tokens: &'t [Token], word: HoldKeyword) -> Result<&'t [Token], TextFault>
     ensures { Gives (λ rest. lexemes rest.now) result (word_at word (lexemes tokens.now)) }
 {
     match after_word(tokens, word) {

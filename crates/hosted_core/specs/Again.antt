@@ -8,14 +8,14 @@ use Rattle.live_core.specs.Answers.{IsSetUp}
 use Rattle.live_core.specs.Epochs.{told_behind}
 use Rattle.live_core.specs.Hall.{IsHeld}
 use Rattle.guest_core.specs.Seats.{renewed}
-use Rattle.hosted_core.specs.declared.start.Ended.{Ended}
+use Rattle.hosted_core.specs.declared.start.EndedEpoch.{EndedEpoch}
 use Rattle.hosted_core.specs.Scene.{Scene}
 
 -- It has the contents with which it ended, behind a past that leaves what its paths had counted, and which is that of its
 -- epoch; no call waits; its clients
 -- are those that it had, and the numbers of forgotten names are free; each number that will be told is greater by 65,536 at
 -- least than each of which a line tells; and it is the epoch behind that one, of this declaration.
-pub record BeginsAgain (object : Object) (ended : Ended) (source : ℕ) (limits : Limits) (s : Scene) : Type 0 where
+pub record BeginsAgain (object : Object) (ended : EndedEpoch) (source : ℕ) (limits : Limits) (s : Scene) : Type 0 where
   pub past : List PastEvent
   pub past_is : s.past ≡ past
   pub held : IsHeld s.hall (told_behind past ended.contents.items)

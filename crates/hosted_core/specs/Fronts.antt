@@ -10,7 +10,7 @@ use Rattle.live_core.specs.declared.past.PastRun.{PastRun}
 use Rattle.live_core.specs.declared.front.Answer.{Answer}
 use Rattle.live_core.specs.declared.front.Answer.TheVariants.{Replied, Cancelled}
 use Rattle.live_core.specs.declared.front.CarriedCall.{CarriedCall}
-use Rattle.live_core.specs.declared.front.Client.{Client}
+use Rattle.live_core.specs.declared.front.NamedClient.{NamedClient}
 use Rattle.live_core.specs.declared.front.KeptCall.{KeptCall}
 use Rattle.value_core.specs.Contents.{IsContents}
 use Rattle.live_core.specs.Front.{Every, IsLong, Opening}
@@ -38,7 +38,7 @@ carried_from s n [] = []
 carried_from s n (c ∷ calls) = carried_as s (n + 1) c ∷ carried_from s (n + 1) calls
 
 -- a client that has a name
-abbrev pub client_of : Guest → Client
+abbrev pub client_of : Guest → NamedClient
 client_of g = record { session = g.session; name = g.name; keys = g.keys.next - 1 }
 
 abbrev pub answer_in : Option Reply → Answer

@@ -8,8 +8,8 @@ use Rattle.guest_core.specs.declared.kept.Asked.{Asked}
 use Rattle.guest_core.specs.declared.kept.Kept.{Kept}
 use Rattle.guest_core.specs.Guests.{IsNamed}
 use Rattle.guest_core.specs.Keys.{asks, HasKey}
-use Rattle.hosted_core.specs.declared.hosted.Keyed.{Keyed}
-use Rattle.hosted_core.specs.declared.hosted.Keyed.TheVariants.{New, Repeated, Cancelled, Waits, Refused}
+use Rattle.hosted_core.specs.declared.hosted.KeyState.{KeyState}
+use Rattle.hosted_core.specs.declared.hosted.KeyState.TheVariants.{New, Repeated, Cancelled, Waits, Refused}
 use Rattle.hosted_core.specs.Scene.{Scene, told_of}
 
 -- a call of the session waits, and this number is told of it
@@ -52,7 +52,7 @@ pub record IsNext (s : Scene) (session key : ℕ) (waits : Option Asked) : Type 
   pub waits_is : guest.keys.asked ≡ waits
 
 -- what is said of a call that waits
-abbrev pub SaysWaits : Scene → ℕ → Keyed → Type 0
+abbrev pub SaysWaits : Scene → ℕ → KeyState → Type 0
 SaysWaits s session (Waits told) = WaitsAs s session told
 SaysWaits s session (Refused fault) = Unit {0}
 SaysWaits s session New = ⊥
@@ -60,7 +60,7 @@ SaysWaits s session (Repeated told reply) = ⊥
 SaysWaits s session (Cancelled told) = ⊥
 
 -- what is said of a call that is remembered
-abbrev pub SaysKept : Scene → ℕ → ℕ → Keyed → Type 0
+abbrev pub SaysKept : Scene → ℕ → ℕ → KeyState → Type 0
 SaysKept s session place (Repeated told reply) = Remembers s session place told (Some reply)
 SaysKept s session place (Cancelled told) = Remembers s session place told None
 SaysKept s session place (Refused fault) = Unit {0}
@@ -68,7 +68,7 @@ SaysKept s session place New = ⊥
 SaysKept s session place (Waits told) = ⊥
 
 -- What a key says of a call of a session that has a name.
-abbrev pub SaysKey : Scene → ℕ → ℕ → Asked → Keyed → Type 0
+abbrev pub SaysKey : Scene → ℕ → ℕ → Asked → KeyState → Type 0
 SaysKey s session key a New = IsNext s session key None
 SaysKey s session key a (Repeated told reply) = Repeats s session key a told (Some reply)
 SaysKey s session key a (Cancelled told) = Repeats s session key a told None
@@ -76,7 +76,7 @@ SaysKey s session key a (Waits told) = IsNext s session key (Some a) × WaitsAs 
 SaysKey s session key a (Refused fault) = Unit {0}
 
 -- what it says of one of a session that has none, and made so many calls: that it is the next one, or nothing
-abbrev pub SaysCount : ℕ → ℕ → Keyed → Type 0
+abbrev pub SaysCount : ℕ → ℕ → KeyState → Type 0
 SaysCount calls key New = key ≡ min (calls + 1) (2 ^ 64 - 1)
 SaysCount calls key (Refused fault) = Unit {0}
 SaysCount calls key (Repeated told reply) = ⊥
@@ -89,7 +89,7 @@ operation_or None = 65535
 operation_or (Some operation) = operation
 
 -- What a key says of a call.
-abbrev pub Says : Scene → Option ℕ → ℕ → ℕ → Option ℕ → List Datum → Keyed → Type 0
+abbrev pub Says : Scene → Option ℕ → ℕ → ℕ → Option ℕ → List Datum → KeyState → Type 0
 Says s (Some session) calls key operation arguments keyed =
     SaysKey s session key (asks (operation_or operation) arguments) keyed
 Says s None calls key operation arguments keyed = SaysCount calls key keyed

@@ -22,7 +22,7 @@ use guest_core::answer::SubmitFault;
 use guest_core::guests::{EnterFault, Entered};
 use guest_core::keys::AskFault;
 use live_core::call::Ran;
-use live_core::hall::Refusal;
+use live_core::hall::CallRefusal;
 use live_core::lines::push_all;
 use live_core::live::Taken;
 use path_count::past::PastEvent;
@@ -39,15 +39,15 @@ pub(crate) fn most_of(object: &Object, operation: OpId, arguments: &[Datum]) -> 
     }
 }
 
-fn fault_of(refusal: Refusal) -> SubmitFault {
+fn fault_of(refusal: CallRefusal) -> SubmitFault {
     match refusal {
-        Refusal::Gone => SubmitFault::Gone,
-        Refusal::UnknownOp => SubmitFault::UnknownOp,
-        Refusal::BadArgs => SubmitFault::BadArgs,
-        Refusal::SessionBusy => SubmitFault::SessionBusy,
-        Refusal::Full => SubmitFault::Full,
-        Refusal::HistoryFull => SubmitFault::HistoryFull,
-        Refusal::Memory => SubmitFault::Memory,
+        CallRefusal::Gone => SubmitFault::Gone,
+        CallRefusal::UnknownOp => SubmitFault::UnknownOp,
+        CallRefusal::BadArgs => SubmitFault::BadArgs,
+        CallRefusal::SessionBusy => SubmitFault::SessionBusy,
+        CallRefusal::Full => SubmitFault::Full,
+        CallRefusal::HistoryFull => SubmitFault::HistoryFull,
+        CallRefusal::Memory => SubmitFault::Memory,
     }
 }
 

@@ -21,7 +21,7 @@ use crate::runs::are_runs;
 use decl_core::object::Object;
 use guest_core::guest::Guest;
 use guest_core::kept::Kept;
-use live_core::call::Call;
+use live_core::call::LiveCall;
 use live_core::hall::MOST_NUMBERS;
 use live_core::past::{PastRun, runs_of};
 use live_core::write::{
@@ -197,7 +197,7 @@ impl Hosted {
     }
 
     // Adds the line of a call that waits, by the number behind this one.
-    fn push_call(&self, out: &mut Vec<u8>, number: u32, call: &Call) -> Result<(), AllocError>
+    fn push_call(&self, out: &mut Vec<u8>, number: u32, call: &LiveCall) -> Result<(), AllocError>
         requires few { number < 65536 }
         ensures { OnOk result (out.new.items ≡ out.old.items
             ++ line_of (bare (codes "carried") ∷ carried_words (object_of self.now.hall.object)
@@ -215,7 +215,7 @@ impl Hosted {
     }
 
     // Adds the lines of calls that wait, by the numbers that they will have.
-    fn push_calls(&self, out: &mut Vec<u8>, calls: &[Call]) -> Result<(), AllocError>
+    fn push_calls(&self, out: &mut Vec<u8>, calls: &[LiveCall]) -> Result<(), AllocError>
         requires few { length calls.now ≤ 65536 }
         ensures { OnOk result (out.new.items ≡ out.old.items
             ++ carried_text (object_of self.now.hall.object) (carried_from self.now 0 calls.now)) }

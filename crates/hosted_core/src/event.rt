@@ -7,7 +7,7 @@ ghost use Rattle.word_core.specs.Text.{operation_name};
 ghost use Rattle.hosted_core.specs.Lines.{cancel_words, name_words};
 
 use decl_core::object::Object;
-use live_core::call::Call;
+use live_core::call::LiveCall;
 use path_tree::name::Name;
 use path_tree::node::OpId;
 use std::alloc::AllocError;
@@ -26,7 +26,7 @@ pub(crate) fn name_of(object: &Object, operation: OpId) -> &[u8]
 
 /// Adds `cancel N sK OP ARG ..`: a call that waited was cancelled. The error is that memory was refused; how much of
 /// the line then stands in `out` is not said.
-pub fn push_cancelled(out: &mut Vec<u8>, object: &Object, call: &Call) -> Result<(), AllocError>
+pub fn push_cancelled(out: &mut Vec<u8>, object: &Object, call: &LiveCall) -> Result<(), AllocError>
     ensures { OnOk result (out.new.items ≡ out.old.items ++ line_of (cancel_words (object_of object.now) call.now)) }
 {
     push_data_line(

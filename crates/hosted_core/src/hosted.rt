@@ -23,7 +23,7 @@ use decl_core::object::Object;
 use guest_core::answer::{Cancelled, KeyedFault};
 use guest_core::guests::Guests;
 use guest_core::keys::Judged;
-use live_core::call::Call;
+use live_core::call::LiveCall;
 use live_core::live::Live;
 use path_count::past::PastEvent;
 use path_tree::name::Name;
@@ -52,7 +52,7 @@ pub const CALLS_BETWEEN: u32 = 1_000;
 
 /// What an object that is to be served begins with.
 #[derive(Drop)]
-pub struct Begun {
+pub struct HostedStart {
     /// The object, with nothing that waits.
     pub live: Live,
     /// Its clients. All that have a name are away.
@@ -73,7 +73,7 @@ pub struct Begun {
 
 /// What a key says of a call.
 #[derive(Drop)]
-pub enum Keyed {
+pub enum KeyState {
     /// It is the key of the next call.
     New,
     /// The call was made before, with this number and this reply.
@@ -155,7 +155,7 @@ fn operation_for(object: &Object, name: &Name) -> Option<OpId>
 }
 
 // The call of this number among those that wait.
-fn numbered(waiting: &[Call], number: u32) -> Option<&Call>
+fn numbered(waiting: &[LiveCall], number: u32) -> Option<&LiveCall>
     ensures { IfSome result (λ c. (k : ℕ) × (slice_get waiting.now k ≡ Some c.now) × (c.now.number ≡ number)) }
 {
     for call in waiting {
@@ -167,7 +167,7 @@ fn numbered(waiting: &[Call], number: u32) -> Option<&Call>
 }
 
 // The call of this session among those that wait.
-fn made_by(waiting: &[Call], session: u16) -> Option<&Call>
+fn made_by(waiting: &[LiveCall], session: u16) -> Option<&LiveCall>
     ensures some { IfSome result (λ c. (k : ℕ) × (slice_get waiting.now k ≡ Some c.now) × (c.now.session ≡ session)) }
     ensures none { IfNone result (Every (λ (c : Called). c.session ≢ session) waiting.now) }
 {
@@ -189,7 +189,7 @@ fn no_owners(alloc: Global, sessions: u16) -> Result<Vec<u32>, AllocError> {
 
 impl Hosted {
     /// An object to which no client is connected. The error is that memory was refused.
-    pub fn new(alloc: Global, begun: Begun) -> Result<Hosted, AllocError>
+    pub fn new(alloc: Global, begun: HostedStart) -> Result<Hosted, AllocError>
         ensures { IfOk result (λ h. h ≡ record {
           hall = begun.live;
           guests = begun.guests;
@@ -203,7 +203,7 @@ impl Hosted {
     {
         let owners = no_owners(alloc, begun.sessions)?;
         let long = begun.past.to_vec(alloc)?;
-        let Begun {
+        let HostedStart {
             live,
             guests,
             past,
@@ -340,7 +340,7 @@ impl Hosted {
     }
 
     /// The waiting call of a session.
-    pub fn waiting_of(&self, session: u16) -> Option<&Call>
+    pub fn waiting_of(&self, session: u16) -> Option<&LiveCall>
         ensures some { IfSome result (λ c. (k : ℕ) × (slice_get self.now.hall.waiting k ≡ Some c.now)
             × (c.now.session ≡ session)) }
         ensures none { IfNone result (Every (λ (c : Called). c.session ≢ session) self.now.hall.waiting) }
@@ -349,41 +349,41 @@ impl Hosted {
     }
 
     // What a key says of a call of a session that has a name.
-    fn judged(&self, session: u16, key: u64, operation: OpId, arguments: &[Datum]) -> Keyed
+    fn judged(&self, session: u16, key: u64, operation: OpId, arguments: &[Datum]) -> KeyState
         ensures { SaysKey self.now session key (asks operation arguments.now) result }
     {
         let _is_named = self.has_name(session);
         match self.guests.judge(session, key, operation, arguments) {
-            Judged::New => Keyed::New,
+            Judged::New => KeyState::New,
             Judged::Waits => self.waits(session),
             Judged::Repeat(place) => self.kept(session, place),
-            Judged::KeyReused => Keyed::Refused(KeyedFault::KeyReused),
-            Judged::BadKey => Keyed::Refused(KeyedFault::BadKey),
+            Judged::KeyReused => KeyState::Refused(KeyedFault::KeyReused),
+            Judged::BadKey => KeyState::Refused(KeyedFault::BadKey),
         }
     }
 
     // The call of a session waits.
-    fn waits(&self, session: u16) -> Keyed
+    fn waits(&self, session: u16) -> KeyState
         ensures { SaysWaits self.now session result }
     {
         match self.waiting_of(session) {
-            Some(call) => Keyed::Waits(self.told(call.number())),
-            None => Keyed::Refused(KeyedFault::BadKey),
+            Some(call) => KeyState::Waits(self.told(call.number())),
+            None => KeyState::Refused(KeyedFault::BadKey),
         }
     }
 
     // What became of the call at a place among the last ones of a session.
-    fn kept(&self, session: u16, place: usize) -> Keyed
+    fn kept(&self, session: u16, place: usize) -> KeyState
         ensures { SaysKept self.now session place result }
     {
         let Some(guest) = self.guests.guest(session) else {
-            return Keyed::Refused(KeyedFault::BadKey);
+            return KeyState::Refused(KeyedFault::BadKey);
         };
         match guest.keys().kept().get(place) {
-            None => Keyed::Refused(KeyedFault::BadKey),
+            None => KeyState::Refused(KeyedFault::BadKey),
             Some(kept) => match kept.reply() {
-                Some(reply) => Keyed::Repeated(kept.told(), reply),
-                None => Keyed::Cancelled(kept.told()),
+                Some(reply) => KeyState::Repeated(kept.told(), reply),
+                None => KeyState::Cancelled(kept.told()),
             },
         }
     }
@@ -397,16 +397,16 @@ impl Hosted {
         key: u64,
         operation: Option<OpId>,
         arguments: &[Datum],
-    ) -> Keyed
+    ) -> KeyState
         ensures { Says self.now session calls key operation arguments.now result }
     {
         match session {
             Some(session) => self.judged(session, key, operation.unwrap_or(OpId::MAX), arguments),
             None => {
                 if key == calls.saturating_add(1) {
-                    return Keyed::New;
+                    return KeyState::New;
                 }
-                Keyed::Refused(KeyedFault::BadKey)
+                KeyState::Refused(KeyedFault::BadKey)
             }
         }
     }

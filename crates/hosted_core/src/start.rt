@@ -3,7 +3,7 @@
 ghost use Rattle.std.specs.Prelude.{IfOk, IfSome};
 ghost use Rattle.hosted_core.specs.Again.{BeginsAgain};
 
-use crate::hosted::{Begun, Hosted};
+use crate::hosted::{HostedStart, Hosted};
 use decl_core::object::Object;
 use guest_core::guests::Guests;
 use live_core::call::Limits;
@@ -20,7 +20,7 @@ pub const UNTOLD: u64 = 65_536;
 
 /// What a journal told of an object when it ended.
 #[derive(Drop)]
-pub struct Ended {
+pub struct EndedEpoch {
     /// Which epoch it was, from 1.
     pub epoch: u64,
     /// What was added to the number of a call where it was told.
@@ -45,13 +45,13 @@ pub struct Ended {
 pub fn begin_again(
     alloc: Global,
     object: Object,
-    ended: Ended,
+    ended: EndedEpoch,
     source: u64,
     limits: Limits,
 ) -> Result<Option<Hosted>, AllocError>
     ensures { IfOk result (λ found. IfSome found (λ s. BeginsAgain object ended source limits s)) }
 {
-    let Ended {
+    let EndedEpoch {
         epoch,
         base,
         greatest,
@@ -69,7 +69,7 @@ pub fn begin_again(
         return Ok(None);
     };
     guests.renew();
-    let begun = Begun {
+    let begun = HostedStart {
         live,
         guests,
         past,

@@ -6,7 +6,7 @@ use Rattle.std.proofs.lemmas.List.{take_more}
 use Rattle.decl_core.specs.ObjectMap.{object_of}
 use Rattle.word_core.specs.Events.{Called}
 use Rattle.hosted_core.specs.Scene.{Scene}
-use Rattle.client_core.specs.declared.client.Opened.{Opened}
+use Rattle.client_core.specs.declared.client.OpenObject.{OpenObject}
 use Rattle.decl_core.specs.HoldForm.{HoldForm}
 use Rattle.guest_core.specs.Held.{HeldCall}
 use Rattle.check_core.specs.HeldTold.{holds_line}
@@ -55,19 +55,19 @@ added_then : {X : Type 0} (f : X → List ℕ) (xs ys : List X) (before mid afte
 added_then f xs ys before mid after one two =
     two ∙ ap (λ l. l ++ flat_map f ys) one ∙ append_assoc before (flat_map f xs) (flat_map f ys) ∙ ap (λ l. before ++ l) (sym (flat_map-append f xs ys))
 
-seats_append : (crowd : Crowd) (os ps : List (ℕ × Opened)) (rs ss : List Sitting) → AreSeats crowd os rs → AreSeats crowd ps ss → AreSeats crowd (os ++ ps) (rs ++ ss)
+seats_append : (crowd : Crowd) (os ps : List (ℕ × OpenObject)) (rs ss : List Sitting) → AreSeats crowd os rs → AreSeats crowd ps ss → AreSeats crowd (os ++ ps) (rs ++ ss)
 seats_append crowd [] ps [] ss one two = two
 seats_append crowd [] ps (r ∷ rs) ss one two = absurd one
 seats_append crowd (o ∷ os) ps [] ss one two = absurd one
 seats_append crowd (o ∷ os) ps (r ∷ rs) ss one two = (one.0, seats_append crowd os ps rs ss one.1 two)
 
-seats_count : (crowd : Crowd) (os : List (ℕ × Opened)) (rs : List Sitting) → AreSeats crowd os rs → length rs ≡ length os
+seats_count : (crowd : Crowd) (os : List (ℕ × OpenObject)) (rs : List Sitting) → AreSeats crowd os rs → length rs ≡ length os
 seats_count crowd [] [] are = refl
 seats_count crowd [] (r ∷ rs) are = absurd are
 seats_count crowd (o ∷ os) [] are = absurd are
 seats_count crowd (o ∷ os) (r ∷ rs) are = let h = seats_count crowd os rs are.1 in omega (arith, h)
 
-seats_then : (crowd : Crowd) (os ps : List (ℕ × Opened)) (before mid after : List ℕ) → AddsSeats crowd os before mid → AddsSeats crowd ps mid after → AddsSeats crowd (os ++ ps) before after
+seats_then : (crowd : Crowd) (os ps : List (ℕ × OpenObject)) (before mid after : List ℕ) → AddsSeats crowd os before mid → AddsSeats crowd ps mid after → AddsSeats crowd (os ++ ps) before after
 seats_then crowd os ps before mid after one two = record {
   rows = one.rows ++ two.rows;
   are = seats_append crowd os ps one.rows two.rows one.are two.are;
@@ -75,29 +75,29 @@ seats_then crowd os ps before mid after one two = record {
 }
 
 -- what stands where nothing does
-abbrev pub no_seat : ℕ × Opened
+abbrev pub no_seat : ℕ × OpenObject
 no_seat = (0, record { object = 0; session = 0; is_named = false; waits = false; calls = 0; told = 0 })
 
 -- one more is told
-pub seats_next : (crowd : Crowd) (all : List (ℕ × Opened)) (k : ℕ) (before mid after : List ℕ) → k < length all → AddsSeats crowd (take k all) before mid →
+pub seats_next : (crowd : Crowd) (all : List (ℕ × OpenObject)) (k : ℕ) (before mid after : List ℕ) → k < length all → AddsSeats crowd (take k all) before mid →
     AddsSeats crowd (get_or all k no_seat ∷ []) mid after → AddsSeats crowd (take (k + 1) all) before after
 seats_next crowd all k before mid after inside one two =
     subst (λ l. AddsSeats crowd l before after) (sym (take_more all k no_seat inside)) (seats_then crowd (take k all) (get_or all k no_seat ∷ []) before mid after one two)
 
-pub one_seat : (crowd : Crowd) (o : ℕ × Opened) (s : Sitting) (before after : List ℕ) → IsSeatOf crowd o s → after ≡ before ++ seat_line s.seat s.name → AddsSeats crowd (o ∷ []) before after
+pub one_seat : (crowd : Crowd) (o : ℕ × OpenObject) (s : Sitting) (before after : List ℕ) → IsSeatOf crowd o s → after ≡ before ++ seat_line s.seat s.name → AddsSeats crowd (o ∷ []) before after
 one_seat crowd o s before after is added =
     record { rows = s ∷ []; are = (is, tt); added = added ∙ ap (λ l. before ++ l) (sym (append-nil (seat_line s.seat s.name))) }
 
-waits_append : (crowd : Crowd) (seats : List (ℕ × Opened)) (object : Scene) (cs ds : List Called) (rs ss : List Refused) → AreWaits crowd seats object cs rs → AreWaits crowd seats object ds ss → AreWaits crowd seats object (cs ++ ds) (rs ++ ss)
+waits_append : (crowd : Crowd) (seats : List (ℕ × OpenObject)) (object : Scene) (cs ds : List Called) (rs ss : List Refused) → AreWaits crowd seats object cs rs → AreWaits crowd seats object ds ss → AreWaits crowd seats object (cs ++ ds) (rs ++ ss)
 waits_append crowd seats object [] ds [] ss one two = two
 waits_append crowd seats object [] ds (r ∷ rs) ss one two = absurd one
 waits_append crowd seats object (c ∷ cs) ds [] ss one two = absurd one
 waits_append crowd seats object (c ∷ cs) ds (r ∷ rs) ss one two = (one.0, waits_append crowd seats object cs ds rs ss one.1 two)
 
-waits_none : (crowd : Crowd) (seats : List (ℕ × Opened)) (object : Scene) (out : List ℕ) → AddsWaits crowd seats object [] 0 out out
+waits_none : (crowd : Crowd) (seats : List (ℕ × OpenObject)) (object : Scene) (out : List ℕ) → AddsWaits crowd seats object [] 0 out out
 waits_none crowd seats object out = record { rows = []; are = tt; count = refl; added = sym (append-nil out) }
 
-waits_then : (crowd : Crowd) (seats : List (ℕ × Opened)) (object : Scene) (cs ds : List Called) (n m : ℕ) (before mid after : List ℕ) → AddsWaits crowd seats object cs n before mid → AddsWaits crowd seats object ds m mid after →
+waits_then : (crowd : Crowd) (seats : List (ℕ × OpenObject)) (object : Scene) (cs ds : List Called) (n m : ℕ) (before mid after : List ℕ) → AddsWaits crowd seats object cs n before mid → AddsWaits crowd seats object ds m mid after →
     AddsWaits crowd seats object (cs ++ ds) (n + m) before after
 waits_then crowd seats object cs ds n m before mid after one two = record {
   rows = one.rows ++ two.rows;
@@ -106,7 +106,7 @@ waits_then crowd seats object cs ds n m before mid after one two = record {
   added = added_then (λ r. flat_map (waits_line (object_of object.hall.object) r.call) r.whys) one.rows two.rows before mid after one.added two.added;
 }
 
-pub one_wait : (crowd : Crowd) (seats : List (ℕ × Opened)) (object : Scene) (c : Called) (r : Refused) (n : ℕ) (before after : List ℕ) → IsWaitOf crowd seats object c r → n ≡ length r.whys →
+pub one_wait : (crowd : Crowd) (seats : List (ℕ × OpenObject)) (object : Scene) (c : Called) (r : Refused) (n : ℕ) (before after : List ℕ) → IsWaitOf crowd seats object c r → n ≡ length r.whys →
     after ≡ before ++ flat_map (waits_line (object_of object.hall.object) r.call) r.whys → AddsWaits crowd seats object (c ∷ []) n before after
 one_wait crowd seats object c r n before after is count added = record {
   rows = r ∷ [];
@@ -119,19 +119,19 @@ one_wait crowd seats object c r n before after is count added = record {
 chosen : Bool → Called → List Called
 chosen b c = (if b then c ∷ [] else []) ++ []
 
-pub wait_left_out : (crowd : Crowd) (seats : List (ℕ × Opened)) (object : Scene) (from : ℕ) (last : Option ℕ) (c : Called) (out : List ℕ) → is_between from last c.session ≡ false →
+pub wait_left_out : (crowd : Crowd) (seats : List (ℕ × OpenObject)) (object : Scene) (from : ℕ) (last : Option ℕ) (c : Called) (out : List ℕ) → is_between from last c.session ≡ false →
     AddsWaits crowd seats object (waiting_in from last (c ∷ [])) 0 out out
 wait_left_out crowd seats object from last c out is = subst (λ b. AddsWaits crowd seats object ((if b then c ∷ [] else []) ++ []) 0 out out) (sym is) (waits_none crowd seats object out)
 
-pub wait_told : (crowd : Crowd) (seats : List (ℕ × Opened)) (object : Scene) (from : ℕ) (last : Option ℕ) (c : Called) (n : ℕ) (before after : List ℕ) → is_between from last c.session ≡ true →
+pub wait_told : (crowd : Crowd) (seats : List (ℕ × OpenObject)) (object : Scene) (from : ℕ) (last : Option ℕ) (c : Called) (n : ℕ) (before after : List ℕ) → is_between from last c.session ≡ true →
     AddsWaits crowd seats object (c ∷ []) n before after → AddsWaits crowd seats object (waiting_in from last (c ∷ [])) n before after
 wait_told crowd seats object from last c n before after is adds = subst (λ b. AddsWaits crowd seats object ((if b then c ∷ [] else []) ++ []) n before after) (sym is) adds
 
-pub waits_from : (crowd : Crowd) (seats : List (ℕ × Opened)) (object : Scene) (from : ℕ) (last : Option ℕ) (calls : List Called) (out : List ℕ) → AddsWaits crowd seats object (waiting_in from last (take 0 calls)) 0 out out
+pub waits_from : (crowd : Crowd) (seats : List (ℕ × OpenObject)) (object : Scene) (from : ℕ) (last : Option ℕ) (calls : List Called) (out : List ℕ) → AddsWaits crowd seats object (waiting_in from last (take 0 calls)) 0 out out
 waits_from crowd seats object from last calls out = waits_none crowd seats object out
 
 -- one more is looked at
-pub waits_more : (crowd : Crowd) (seats : List (ℕ × Opened)) (object : Scene) (from : ℕ) (last : Option ℕ) (calls : List Called) (k n m : ℕ) (d c : Called) (before mid after : List ℕ) → k < length calls →
+pub waits_more : (crowd : Crowd) (seats : List (ℕ × OpenObject)) (object : Scene) (from : ℕ) (last : Option ℕ) (calls : List Called) (k n m : ℕ) (d c : Called) (before mid after : List ℕ) → k < length calls →
     c ≡ get_or calls k d → AddsWaits crowd seats object (waiting_in from last (take k calls)) n before mid → AddsWaits crowd seats object (waiting_in from last (c ∷ [])) m mid after →
     AddsWaits crowd seats object (waiting_in from last (take (k + 1) calls)) (n + m) before after
 waits_more crowd seats object from last calls k n m d c before mid after inside is one two =
@@ -141,7 +141,7 @@ waits_more crowd seats object from last calls k n m d c before mid after inside 
     (waits_then crowd seats object (waiting_in from last (take k calls)) (waiting_in from last (c ∷ [])) n m before mid after one two)
 
 -- the whole answer
-pub who_is : (crowd : Crowd) (object : Scene) (holds : List HoldForm) (held : List HeldCall) (from : ℕ) (all : List (ℕ × Opened)) (n m count : ℕ) (seats waits lines head text : List ℕ) →
+pub who_is : (crowd : Crowd) (object : Scene) (holds : List HoldForm) (held : List HeldCall) (from : ℕ) (all : List (ℕ × OpenObject)) (n m count : ℕ) (seats waits lines head text : List ℕ) →
     AreSitting crowd.at from crowd.peers all → AddsSeats crowd (take 256 all) [] seats →
     AddsWaits crowd (take 256 all) object (waiting_in from (last_told all) object.hall.waiting) n seats waits →
     AddsHeld (object_of object.hall.object) holds (take 256 (held_in from (last_told all) held)) m waits lines →

@@ -7,8 +7,8 @@ use Rattle.word_core.specs.Events.{Called}
 use Rattle.std.specs.Prelude.{Bool, true, false, ◌==◌, Option, Some, None, cond, slice_get, if◌then◌else◌}
 use Rattle.live_core.specs.Hall.{Hall}
 use Rattle.hosted_core.specs.Scene.{Scene}
-use Rattle.client_core.specs.declared.client.Opened.{Opened}
-use Rattle.client_core.specs.declared.clients.Clients.{Clients}
+use Rattle.client_core.specs.declared.client.OpenObject.{OpenObject}
+use Rattle.client_core.specs.declared.clients.ClientPlaces.{ClientPlaces}
 use Rattle.client_core.specs.People.{called_in}
 use Rattle.inside_core.specs.declared.numbers.SeenObject.{SeenObject}
 use Rattle.inside_core.specs.declared.numbers.OperationTally.{OperationTally}
@@ -48,7 +48,7 @@ tallies_more h ends k n (s ∷ ts) t same all one =
     (all.0, tallies_more h ends (k + 1) n ts t is all.1 one)
 
 -- one object more
-pub seen_more : (objects : List Scene) (tallies : List ObjectTally) (clients : Clients) (custody : Custodies) (now k n : ℕ) (all : List SeenObject) (s : SeenObject) → n ≡ k + length all →
+pub seen_more : (objects : List Scene) (tallies : List ObjectTally) (clients : ClientPlaces) (custody : Custodies) (now k n : ℕ) (all : List SeenObject) (s : SeenObject) → n ≡ k + length all →
     ShowsAll objects tallies clients custody now k all → ShowsAt objects tallies clients custody now n s → ShowsAll objects tallies clients custody now k (all ++ s ∷ [])
 seen_more objects tallies clients custody now k n [] s same shown one =
     let is : n ≡ k = omega (arith, same) in
@@ -62,7 +62,7 @@ one_or_none : {X : Type 0} (b : Bool) (x y : X) → length (if b then x ∷ [] e
 one_or_none true x y = refl
 one_or_none false x y = refl
 
-alike : (at m n : ℕ) (opened : Option Opened) → length (sits_in at 0 m opened) ≡ length (sits_in at 0 n opened)
+alike : (at m n : ℕ) (opened : Option OpenObject) → length (sits_in at 0 m opened) ≡ length (sits_in at 0 n opened)
 alike at m n None = refl
 alike at m n (Some o) = one_or_none (is_asked at 0 o) (m, o) (n, o)
 

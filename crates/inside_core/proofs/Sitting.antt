@@ -5,7 +5,7 @@ use Rattle.std.specs.List.Sorted.{IsPermutation, IsNonDecreasingBy}
 use Rattle.std.proofs.lemmas.List.{take_more, take_all, drop_all, length-take}
 use Rattle.std.proofs.lemmas.List.Sorted.{length_permutation}
 use Rattle.std.proofs.lemmas.Option.{slice_get-get_or}
-use Rattle.client_core.specs.declared.client.Opened.{Opened}
+use Rattle.client_core.specs.declared.client.OpenObject.{OpenObject}
 use Rattle.client_core.specs.State.{Peer, nobody, opened_in}
 use Rattle.client_core.specs.ToldInside.{sits_in, sitting_from, AreSitting}
 
@@ -19,7 +19,7 @@ sits_push n at from (q ∷ peers) p =
     ∙ sym (append_assoc (sits_in at from n q.opened) (sitting_from (suc n) at from peers) (sits_in at from (n + suc (length peers)) p.opened))
 
 -- one place more is looked at
-pub sits_more : (at from : ℕ) (peers : List Peer) (k : ℕ) (before after : List (ℕ × Opened)) → k < length peers →
+pub sits_more : (at from : ℕ) (peers : List Peer) (k : ℕ) (before after : List (ℕ × OpenObject)) → k < length peers →
     before ≡ sitting_from 0 at from (take k peers) → after ≡ before ++ sits_in at from k (opened_in (slice_get peers k)) →
     after ≡ sitting_from 0 at from (take (k + 1) peers)
 sits_more at from peers k before after inside was more =
@@ -29,14 +29,14 @@ sits_more at from peers k before after inside was more =
     ∙ ap (λ n. sitting_from 0 at from (take k peers) ++ sits_in at from n (get_or peers k nobody).opened) count
     ∙ sym (ap (sitting_from 0 at from) (take_more peers k nobody inside) ∙ sits_push 0 at from (take k peers) (get_or peers k nobody))
 
-in_place : (old new : List (ℕ × Opened)) (n : ℕ) → n ≡ length old → length new ≡ length old → take n (new ++ drop (length new) old) ≡ new
+in_place : (old new : List (ℕ × OpenObject)) (n : ℕ) → n ≡ length old → length new ≡ length old → take n (new ++ drop (length new) old) ≡ new
 in_place old new n is same =
-    ap (λ (l : List (ℕ × Opened)). take n (new ++ l)) (drop_all (length new) old (omega (arith, same))) ∙ ap (take n) (append-nil new) ∙ take_all n new (omega (arith, is, same))
+    ap (λ (l : List (ℕ × OpenObject)). take n (new ++ l)) (drop_all (length new) old (omega (arith, same))) ∙ ap (take n) (append-nil new) ∙ take_all n new (omega (arith, is, same))
 
 -- all are put by their numbers, in place
-pub are_sitting : (at from n : ℕ) (peers : List Peer) (was old new : List (ℕ × Opened)) → n ≡ length old → old ≡ sitting_from 0 at from peers → was ≡ old →
-    IsPermutation was new → IsNonDecreasingBy (λ (seat : ℕ × Opened). seat.1.session) new → AreSitting at from peers (take n (new ++ drop (length new) old))
+pub are_sitting : (at from n : ℕ) (peers : List Peer) (was old new : List (ℕ × OpenObject)) → n ≡ length old → old ≡ sitting_from 0 at from peers → was ≡ old →
+    IsPermutation was new → IsNonDecreasingBy (λ (seat : ℕ × OpenObject). seat.1.session) new → AreSitting at from peers (take n (new ++ drop (length new) old))
 are_sitting at from n peers was old new count all is same rising =
     let long : length new ≡ length old = length_permutation was new same ∙ ap length is in
     subst (AreSitting at from peers) (sym (in_place old new n count long))
-    (record { same = subst (λ (l : List (ℕ × Opened)). IsPermutation l new) (is ∙ all) same; rising = rising })
+    (record { same = subst (λ (l : List (ℕ × OpenObject)). IsPermutation l new) (is ∙ all) same; rising = rising })

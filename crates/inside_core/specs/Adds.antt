@@ -5,8 +5,8 @@ use Rattle.decl_core.specs.ObjectMap.{object_of}
 use Rattle.word_core.specs.Events.{Called}
 use Rattle.live_core.specs.Hall.{Every}
 use Rattle.hosted_core.specs.Scene.{Scene}
-use Rattle.client_core.specs.declared.client.Opened.{Opened}
-use Rattle.client_core.specs.declared.clients.Clients.{Clients}
+use Rattle.client_core.specs.declared.client.OpenObject.{OpenObject}
+use Rattle.client_core.specs.declared.clients.ClientPlaces.{ClientPlaces}
 use Rattle.client_core.specs.People.{people_of}
 use Rattle.decl_core.specs.HoldForm.{HoldForm}
 use Rattle.guest_core.specs.Held.{HeldCall}
@@ -19,17 +19,17 @@ use Rattle.inside_core.specs.declared.who.Refusing.{Refusing}
 use Rattle.inside_core.specs.declared.who.Whom.{Whom}
 
 -- those that are looked at
-abbrev pub crowd_of : Clients → Whom → Crowd
+abbrev pub crowd_of : ClientPlaces → Whom → Crowd
 crowd_of clients whom = record { peers = peers_of clients; people = people_of clients; now = whom.second; at = whom.at }
 
 -- the lines of these sessions are added
-pub record AddsSeats (crowd : Crowd) (all : List (ℕ × Opened)) (before after : List ℕ) : Type 0 where
+pub record AddsSeats (crowd : Crowd) (all : List (ℕ × OpenObject)) (before after : List ℕ) : Type 0 where
   pub rows : List Sitting
   pub are : AreSeats crowd all rows
   pub added : after ≡ before ++ flat_map (λ s. seat_line s.seat s.name) rows
 
 -- the lines of these calls are added, so many
-pub record AddsWaits (crowd : Crowd) (seats : List (ℕ × Opened)) (object : Scene) (calls : List Called) (n : ℕ) (before after : List ℕ) : Type 0 where
+pub record AddsWaits (crowd : Crowd) (seats : List (ℕ × OpenObject)) (object : Scene) (calls : List Called) (n : ℕ) (before after : List ℕ) : Type 0 where
   pub rows : List Refused
   pub are : AreWaits crowd seats object calls rows
   pub count : n ≡ sum (map (λ r. length r.whys) rows)

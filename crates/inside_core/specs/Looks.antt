@@ -1,7 +1,7 @@
 -- What is told of objects.
 use Rattle.std.specs.Prelude.{◌≡◌, ◌≤◌, ℕ, ◌+◌, ◌-◌, ◌==◌, ◌&&◌, List, [], ◌∷◌, Option, Some, None, count_by, length, slice_get, if◌then◌else◌}
-use Rattle.client_core.specs.declared.client.Opened.{Opened}
-use Rattle.client_core.specs.declared.clients.Clients.{Clients}
+use Rattle.client_core.specs.declared.client.OpenObject.{OpenObject}
+use Rattle.client_core.specs.declared.clients.ClientPlaces.{ClientPlaces}
 use Rattle.client_core.specs.People.{people_of, called_in}
 use Rattle.decl_core.specs.ObjectMap.{object_of}
 use Rattle.word_core.specs.Events.{Called}
@@ -34,11 +34,11 @@ abbrev pub left_of : Hall → ℕ
 left_of h = 65536 - (h.before + h.given)
 
 -- those that are there, where one looks at the object at a place in this second
-abbrev pub crowd_at : Clients → ℕ → ℕ → Crowd
+abbrev pub crowd_at : ClientPlaces → ℕ → ℕ → Crowd
 crowd_at clients at now = record { peers = peers_of clients; people = people_of clients; now = now; at = at }
 
 -- for so long one waits for a call of the object at a place, whose last call was taken so long ago
-abbrev pub wait_in : ℕ → Option Opened → ℕ → ℕ
+abbrev pub wait_in : ℕ → Option OpenObject → ℕ → ℕ
 wait_in at None ago = 0
 wait_in at (Some o) ago = if (o.object == at) && o.waits then ago else 0
 
@@ -80,7 +80,7 @@ pub record Shows (object : Scene) (tally : Option ObjectTally) (sessions longest
   pub all : length seen.operations.items ≡ length object.hall.object.operations.items
 
 -- what is told of the object at a place, where these are there in this second, and this is held
-pub record ShowsAt (objects : List Scene) (tallies : List ObjectTally) (clients : Clients) (custody : Custodies) (now at : ℕ) (seen : SeenObject) : Type 0 where
+pub record ShowsAt (objects : List Scene) (tallies : List ObjectTally) (clients : ClientPlaces) (custody : Custodies) (now at : ℕ) (seen : SeenObject) : Type 0 where
   pub seconds : ℕ
   pub longest : IsLongest (crowd_at clients at now) seconds
   pub shows : (object : Scene) → slice_get objects at ≡ Some object →
@@ -88,13 +88,13 @@ pub record ShowsAt (objects : List Scene) (tallies : List ObjectTally) (clients 
       (length (held_by (slice_get custody at))) seen
 
 -- what is told of these objects, from that at a place on
-abbrev pub ShowsAll : List Scene → List ObjectTally → Clients → Custodies → ℕ → ℕ → List SeenObject → Type 0
+abbrev pub ShowsAll : List Scene → List ObjectTally → ClientPlaces → Custodies → ℕ → ℕ → List SeenObject → Type 0
 ShowsAll objects tallies clients custody now k [] = Unit {0}
 ShowsAll objects tallies clients custody now k (s ∷ all) =
     ShowsAt objects tallies clients custody now k s × ShowsAll objects tallies clients custody now (k + 1) all
 
 -- a text tells of all these objects, in order
-pub record IsStatus (objects : List Scene) (tallies : List ObjectTally) (clients : Clients) (custody : Custodies) (now : ℕ)
+pub record IsStatus (objects : List Scene) (tallies : List ObjectTally) (clients : ClientPlaces) (custody : Custodies) (now : ℕ)
     (text : List ℕ) : Type 0 where
   pub all : List SeenObject
   pub shows : ShowsAll objects tallies clients custody now 0 all

@@ -16,12 +16,12 @@ ghost use Rattle.inside_core.specs.Looks.{ShowsAt, ShowsAll, IsStatus};
 use crate::numbers::{EndCounts, OperationTally, SeenObject};
 use crate::objects::push_objects;
 use crate::tallies::{CallEnds, Tallies};
-use client_core::client::Opened;
-use client_core::clients::Clients;
+use client_core::client::OpenObject;
+use client_core::clients::ClientPlaces;
 use custody_core::all::AllHeld;
 use decl_core::object::Object;
 use hosted_core::hosted::Hosted;
-use live_core::call::Call;
+use live_core::call::LiveCall;
 use live_core::live::Live;
 use std::alloc::{AllocError, Global};
 
@@ -29,7 +29,7 @@ use std::alloc::{AllocError, Global};
 const MOST_CALLS: u32 = 65_536;
 
 // 1 where a call is of the operation at a place; else 0.
-fn is_of(call: &Call, operation: usize) -> u64
+fn is_of(call: &LiveCall, operation: usize) -> u64
     ensures count { result ≡ (if call.now.operation == operation then 1 else 0) }
     ensures one { result ≤ 1 }
 {
@@ -40,7 +40,7 @@ fn is_of(call: &Call, operation: usize) -> u64
 }
 
 // How many of these calls are of the operation at a place.
-fn waiting_of(waiting: &[Call], operation: usize) -> u64
+fn waiting_of(waiting: &[LiveCall], operation: usize) -> u64
     ensures { result ≡ waiting_of operation waiting.now }
 {
     let mut count: u64 = 0;
@@ -51,21 +51,21 @@ fn waiting_of(waiting: &[Call], operation: usize) -> u64
 }
 
 // What the one at a place has opened.
-fn opened_at(clients: &Clients, place: usize) -> Option<Opened>
+fn opened_at(clients: &ClientPlaces, place: usize) -> Option<OpenObject>
     ensures { result ≡ opened_in (slice_get (peers_of clients.now) place) }
 {
     clients.opened(place)
 }
 
 // How many places there are.
-fn count(clients: &Clients) -> usize
+fn count(clients: &ClientPlaces) -> usize
     ensures { result ≡ length (peers_of clients.now) }
 {
     clients.count()
 }
 
 // 1 where what was opened is the object at a place, by a session; else 0.
-fn sits(opened: Option<Opened>, at: usize) -> usize
+fn sits(opened: Option<OpenObject>, at: usize) -> usize
     ensures count { result ≡ length (sits_in at 0 0 opened) }
     ensures one { result ≤ 1 }
 {
@@ -84,7 +84,7 @@ fn sits(opened: Option<Opened>, at: usize) -> usize
 }
 
 // How many connections have opened the object at a place, by a session.
-fn sessions_of(clients: &Clients, at: usize) -> usize
+fn sessions_of(clients: &ClientPlaces, at: usize) -> usize
     ensures { result ≡ length (sitting_from 0 at 0 (peers_of clients.now)) }
 {
     let mut sessions: usize = 0;
@@ -95,14 +95,14 @@ fn sessions_of(clients: &Clients, at: usize) -> usize
 }
 
 // The second in which the last call of the one at a place was taken.
-fn called_at(clients: &Clients, place: usize) -> u64
+fn called_at(clients: &ClientPlaces, place: usize) -> u64
     ensures { result ≡ called_in (slice_get (people_of clients.now) place) }
 {
     clients.called(place)
 }
 
 // For how many seconds one waits for a call of the object at a place, of which the last call was taken then.
-fn wait_of(opened: Option<Opened>, at: usize, second: u64, called: u64) -> u64
+fn wait_of(opened: Option<OpenObject>, at: usize, second: u64, called: u64) -> u64
     ensures { result ≡ wait_in at opened (second - called) }
 {
     match opened {
@@ -120,7 +120,7 @@ fn wait_of(opened: Option<Opened>, at: usize, second: u64, called: u64) -> u64
 }
 
 // For how many seconds the one at a place waits for a call of the object at another.
-fn waits_at(clients: &Clients, place: usize, at: usize, second: u64) -> u64
+fn waits_at(clients: &ClientPlaces, place: usize, at: usize, second: u64) -> u64
     ensures { result ≡ wait_at (crowd_at clients.now at second) place }
 {
     wait_of(
@@ -144,7 +144,7 @@ fn greater(one: u64, other: u64) -> u64
 }
 
 // For how many seconds the one waits that waits longest for a call of the object at a place.
-fn longest_wait(clients: &Clients, at: usize, second: u64) -> u64
+fn longest_wait(clients: &ClientPlaces, at: usize, second: u64) -> u64
     ensures { IsLongest (crowd_at clients.now at second) result }
 {
     let mut longest: u64 = 0;
@@ -293,7 +293,7 @@ fn seen_at(
     alloc: Global,
     objects: &[Hosted],
     tallies: &Tallies,
-    clients: &Clients,
+    clients: &ClientPlaces,
     custody: &AllHeld,
     second: u64,
     at: usize,
@@ -314,7 +314,7 @@ fn seen_in(
     alloc: Global,
     objects: &[Hosted],
     tallies: &Tallies,
-    clients: &Clients,
+    clients: &ClientPlaces,
     custody: &AllHeld,
     second: u64,
 ) -> Result<Vec<SeenObject>, AllocError>
@@ -336,7 +336,7 @@ pub fn write_look(
     alloc: Global,
     objects: &[Hosted],
     tallies: &Tallies,
-    clients: &Clients,
+    clients: &ClientPlaces,
     custody: &AllHeld,
     second: u64,
     out: &mut Vec<u8>,

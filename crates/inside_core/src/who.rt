@@ -3,7 +3,7 @@
 ghost use Rattle.std.specs.Prelude.{◌≡◌, ◌+◌, ◌-◌, ◌++◌, ◌∷◌, [], ℕ, Some, flat_map, length, option_map, take, true, false};
 ghost use Rattle.std.specs.Prelude.{IfNone, IfOk, IfSome, OnOk, slice_get};
 ghost use Rattle.std.specs.List.Sorted.{IsPermutation, IsNonDecreasingBy};
-ghost use Rattle.client_core.specs.declared.client.Opened.{Opened as AnOpened};
+ghost use Rattle.client_core.specs.declared.client.OpenObject.{OpenObject as AnOpened};
 ghost use Rattle.client_core.specs.People.{people_of, name_in, since_in, called_in};
 ghost use Rattle.live_core.specs.Hall.{Every};
 ghost use Rattle.client_core.specs.State.{peers_of, opened_in};
@@ -18,14 +18,14 @@ ghost use Rattle.inside_core.specs.Adds.{crowd_of, AddsSeats, AddsWaits, AddsHel
 
 use crate::why::reasons_of;
 use check_core::held::push_held_call;
-use client_core::client::Opened;
-use client_core::clients::Clients;
+use client_core::client::OpenObject;
+use client_core::clients::ClientPlaces;
 use decl_core::hold::Hold;
 use guest_core::held::HeldCall;
 use hosted_core::hosted::Hosted;
 use inside_text::reason::Reason;
-use inside_text::who::{Seat, Waiting, push_seat, push_waits, push_who};
-use live_core::call::Call;
+use inside_text::who::{SessionRow, WaitingRow, push_seat, push_waits, push_who};
+use live_core::call::LiveCall;
 use path_tree::name::Name;
 use path_tree::node::OpId;
 use std::alloc::{AllocError, Global};
@@ -59,7 +59,7 @@ struct Refusing {
 }
 
 // Whether one that has opened an object is asked for.
-fn is_asked(opened: Opened, whom: Whom) -> bool
+fn is_asked(opened: OpenObject, whom: Whom) -> bool
     ensures { result ≡ is_asked whom.at whom.from opened }
 {
     if opened.object != whom.at {
@@ -72,35 +72,35 @@ fn is_asked(opened: Opened, whom: Whom) -> bool
 }
 
 // What the one at a place has opened.
-fn opened_at(clients: &Clients, place: usize) -> Option<Opened>
+fn opened_at(clients: &ClientPlaces, place: usize) -> Option<OpenObject>
     ensures { result ≡ opened_in (slice_get (peers_of clients.now) place) }
 {
     clients.opened(place)
 }
 
 // How many places there are.
-fn count(clients: &Clients) -> usize
+fn count(clients: &ClientPlaces) -> usize
     ensures { result ≡ length (peers_of clients.now) }
 {
     clients.count()
 }
 
 // The name of the client at a place.
-fn name_at(clients: &Clients, place: usize) -> Option<&Name>
+fn name_at(clients: &ClientPlaces, place: usize) -> Option<&Name>
     ensures { option_map (λ n. n.now) result ≡ name_in (slice_get (people_of clients.now) place) }
 {
     clients.name(place)
 }
 
 // The second in which the one at a place came.
-fn since_at(clients: &Clients, place: usize) -> u64
+fn since_at(clients: &ClientPlaces, place: usize) -> u64
     ensures { result ≡ since_in (slice_get (people_of clients.now) place) }
 {
     clients.since(place)
 }
 
 // That in which its last call was taken.
-fn called_at(clients: &Clients, place: usize) -> u64
+fn called_at(clients: &ClientPlaces, place: usize) -> u64
     ensures { result ≡ called_in (slice_get (people_of clients.now) place) }
 {
     clients.called(place)
@@ -108,10 +108,10 @@ fn called_at(clients: &Clients, place: usize) -> u64
 
 // Adds the one at a place, where it is asked for.
 fn push_sitting(
-    clients: &Clients,
+    clients: &ClientPlaces,
     place: usize,
     whom: Whom,
-    all: &mut Vec<(usize, Opened)>,
+    all: &mut Vec<(usize, OpenObject)>,
 ) -> Result<(), AllocError>
     ensures { OnOk result (all.new.items ≡ all.old.items
         ++ sits_in whom.at whom.from place (opened_in (slice_get (peers_of clients.now) place))) }
@@ -129,7 +129,7 @@ fn push_sitting(
 }
 
 // All that are asked for, each with the place of its connection, by these places.
-fn sitting(alloc: Global, clients: &Clients, whom: Whom) -> Result<Vec<(usize, Opened)>, AllocError>
+fn sitting(alloc: Global, clients: &ClientPlaces, whom: Whom) -> Result<Vec<(usize, OpenObject)>, AllocError>
     ensures { IfOk result (λ all. all.items ≡ sitting_from 0 whom.at whom.from (peers_of clients.now)) }
 {
     let mut all = Vec::new(alloc);
@@ -140,7 +140,7 @@ fn sitting(alloc: Global, clients: &Clients, whom: Whom) -> Result<Vec<(usize, O
 }
 
 // The same, by their numbers.
-fn seated(alloc: Global, clients: &Clients, whom: Whom) -> Result<Vec<(usize, Opened)>, AllocError>
+fn seated(alloc: Global, clients: &ClientPlaces, whom: Whom) -> Result<Vec<(usize, OpenObject)>, AllocError>
     ensures { IfOk result (λ all. AreSitting whom.at whom.from (peers_of clients.now) all.items) }
 {
     let mut all = sitting(alloc, clients, whom)?;
@@ -149,7 +149,7 @@ fn seated(alloc: Global, clients: &Clients, whom: Whom) -> Result<Vec<(usize, Op
 }
 
 // Puts them by their numbers.
-fn sort(all: &mut [(usize, Opened)])
+fn sort(all: &mut [(usize, OpenObject)])
     ensures same { IsPermutation all.old all.new }
     ensures rising { IsNonDecreasingBy (λ (seat : ℕ × AnOpened). seat.1.session) all.new }
 {
@@ -157,7 +157,7 @@ fn sort(all: &mut [(usize, Opened)])
 }
 
 // The first 256 of them.
-fn told(all: &[(usize, Opened)]) -> &[(usize, Opened)]
+fn told(all: &[(usize, OpenObject)]) -> &[(usize, OpenObject)]
     ensures { result.now ≡ take 256 all.now }
 {
     if all.len() <= MOST_TOLD {
@@ -167,7 +167,7 @@ fn told(all: &[(usize, Opened)]) -> &[(usize, Opened)]
 }
 
 // Where there are so many, the number of the last of these.
-fn last_told(all: &[(usize, Opened)]) -> Option<u16>
+fn last_told(all: &[(usize, OpenObject)]) -> Option<u16>
     ensures { result ≡ last_told all.now }
 {
     match all.get(MOST_TOLD - 1) {
@@ -177,7 +177,7 @@ fn last_told(all: &[(usize, Opened)]) -> Option<u16>
 }
 
 // The name by which the one at a place has opened an object, or none.
-fn name_of(clients: &Clients, whom: Whom, seat: (usize, Opened)) -> Option<&Name>
+fn name_of(clients: &ClientPlaces, whom: Whom, seat: (usize, OpenObject)) -> Option<&Name>
     ensures { option_map (λ n. n.now) result ≡ seat_name (crowd_of clients.now whom) seat }
 {
     if !seat.1.is_named {
@@ -187,13 +187,13 @@ fn name_of(clients: &Clients, whom: Whom, seat: (usize, Opened)) -> Option<&Name
 }
 
 // What is told of it.
-fn seat_of(clients: &Clients, whom: Whom, seat: (usize, Opened)) -> Seat
+fn seat_of(clients: &ClientPlaces, whom: Whom, seat: (usize, OpenObject)) -> SessionRow
     ensures session { result.session ≡ seat.1.session }
     ensures calls { result.calls ≡ seat.1.calls }
     ensures since { result.seconds ≡ Some (whom.second - since_in (slice_get (people_of clients.now) seat.0)) }
 {
     let seconds = whom.second.saturating_sub(since_at(clients, seat.0));
-    Seat {
+    SessionRow {
         session: u64::from(seat.1.session),
         seconds: Some(seconds),
         calls: seat.1.calls,
@@ -203,9 +203,9 @@ fn seat_of(clients: &Clients, whom: Whom, seat: (usize, Opened)) -> Seat
 // Adds the line of a session.
 fn push_one(
     out: &mut Vec<u8>,
-    clients: &Clients,
+    clients: &ClientPlaces,
     whom: Whom,
-    seat: (usize, Opened),
+    seat: (usize, OpenObject),
 ) -> Result<(), AllocError>
     ensures { OnOk result (AddsSeats (crowd_of clients.now whom) (seat ∷ []) out.old.items out.new.items) }
 {
@@ -218,9 +218,9 @@ fn push_one(
 // Adds the lines of sessions.
 fn push_seats(
     out: &mut Vec<u8>,
-    clients: &Clients,
+    clients: &ClientPlaces,
     whom: Whom,
-    seats: &[(usize, Opened)],
+    seats: &[(usize, OpenObject)],
 ) -> Result<(), AllocError>
     ensures { OnOk result (AddsSeats (crowd_of clients.now whom) seats.now out.old.items out.new.items) }
 {
@@ -231,7 +231,7 @@ fn push_seats(
 }
 
 // Whether one waits for a call of this session of the object at a place, of which it was told this number.
-fn is_caller(opened: Opened, at: usize, session: u32, told: u64) -> bool
+fn is_caller(opened: OpenObject, at: usize, session: u32, told: u64) -> bool
     ensures { result ≡ is_caller at session told (Some opened) }
 {
     if opened.object != at {
@@ -247,7 +247,7 @@ fn is_caller(opened: Opened, at: usize, session: u32, told: u64) -> bool
 }
 
 // Whether the one at a place does.
-fn calls_at(clients: &Clients, whom: Whom, place: usize, session: u32, told: u64) -> bool
+fn calls_at(clients: &ClientPlaces, whom: Whom, place: usize, session: u32, told: u64) -> bool
     ensures { result ≡ calls_at (crowd_of clients.now whom) session told place }
 {
     match opened_at(clients, place) {
@@ -258,9 +258,9 @@ fn calls_at(clients: &Clients, whom: Whom, place: usize, session: u32, told: u64
 
 // The place of the first of these that does.
 fn caller_among(
-    clients: &Clients,
+    clients: &ClientPlaces,
     whom: Whom,
-    seats: &[(usize, Opened)],
+    seats: &[(usize, OpenObject)],
     session: u32,
     told: u64,
 ) -> Option<usize>
@@ -278,9 +278,9 @@ fn caller_among(
 
 // The place that is thought to be that of the one that waits for a call, where it is, or that of one of these.
 fn caller_or(
-    clients: &Clients,
+    clients: &ClientPlaces,
     whom: Whom,
-    seats: &[(usize, Opened)],
+    seats: &[(usize, OpenObject)],
     thought: Option<usize>,
     session: u32,
     told: u64,
@@ -302,10 +302,10 @@ fn caller_or(
 
 // For how many seconds a call waits, where one of these waits for it.
 fn waits_for(
-    clients: &Clients,
+    clients: &ClientPlaces,
     object: &Hosted,
     whom: Whom,
-    seats: &[(usize, Opened)],
+    seats: &[(usize, OpenObject)],
     session: u32,
     told: u64,
 ) -> Option<u64>
@@ -319,12 +319,12 @@ fn waits_for(
 
 // A call that waits, as it is told.
 fn waiting_of(
-    clients: &Clients,
+    clients: &ClientPlaces,
     object: &Hosted,
     whom: Whom,
-    seats: &[(usize, Opened)],
-    call: &Call,
-) -> Waiting
+    seats: &[(usize, OpenObject)],
+    call: &LiveCall,
+) -> WaitingRow
     ensures number { result.number ≡ told_of object.now call.now.number }
     ensures session { result.session ≡ call.now.session }
     ensures operation { result.operation ≡ call.now.operation }
@@ -332,7 +332,7 @@ fn waiting_of(
         (told_of object.now call.now.number) result.seconds }
 {
     let number = object.told(call.number());
-    Waiting {
+    WaitingRow {
         number,
         session: u64::from(call.session()),
         operation: call.operation(),
@@ -351,7 +351,7 @@ fn count_of(reasons: &[Reason]) -> usize
 fn push_rows(
     out: &mut Vec<u8>,
     object: &Hosted,
-    call: Waiting,
+    call: WaitingRow,
     reasons: &[Reason],
 ) -> Result<(), AllocError>
     ensures { OnOk result (out.new.items ≡ out.old.items
@@ -363,11 +363,11 @@ fn push_rows(
 // Adds the lines of a call that waits, for these reasons. It answers how many.
 fn push_waiting(
     out: &mut Vec<u8>,
-    clients: &Clients,
+    clients: &ClientPlaces,
     object: &Hosted,
     whom: Whom,
-    seats: &[(usize, Opened)],
-    call: &Call,
+    seats: &[(usize, OpenObject)],
+    call: &LiveCall,
     reasons: &[Reason],
 ) -> Result<usize, AllocError>
     requires { AreWhys object.now call.now.operation (whys_of reasons.now) }
@@ -399,12 +399,12 @@ fn reasons_in(known: &[Refusing], operation: OpId) -> Option<&[Reason]>
 fn push_call(
     alloc: Global,
     out: &mut Vec<u8>,
-    clients: &Clients,
+    clients: &ClientPlaces,
     object: &Hosted,
     whom: Whom,
-    seats: &[(usize, Opened)],
+    seats: &[(usize, OpenObject)],
     known: &mut Vec<Refusing>,
-    call: &Call,
+    call: &LiveCall,
 ) -> Result<usize, AllocError>
     requires { AreKnown object.now known.old.items }
     ensures lines { IfOk result (λ n. AddsWaits (crowd_of clients.now whom) seats.now object.now (call.now ∷ []) n
@@ -440,13 +440,13 @@ fn is_between(session: u32, from: u64, last: Option<u16>) -> bool
 fn push_if(
     alloc: Global,
     out: &mut Vec<u8>,
-    clients: &Clients,
+    clients: &ClientPlaces,
     object: &Hosted,
     whom: Whom,
-    seats: &[(usize, Opened)],
+    seats: &[(usize, OpenObject)],
     last: Option<u16>,
     known: &mut Vec<Refusing>,
-    call: &Call,
+    call: &LiveCall,
 ) -> Result<usize, AllocError>
     requires { AreKnown object.now known.old.items }
     ensures lines { IfOk result (λ n. AddsWaits (crowd_of clients.now whom) seats.now object.now
@@ -464,10 +464,10 @@ fn push_if(
 fn push_calls(
     alloc: Global,
     out: &mut Vec<u8>,
-    clients: &Clients,
+    clients: &ClientPlaces,
     object: &Hosted,
     whom: Whom,
-    seats: &[(usize, Opened)],
+    seats: &[(usize, OpenObject)],
     last: Option<u16>,
 ) -> Result<usize, AllocError>
     ensures { IfOk result (λ n. AddsWaits (crowd_of clients.now whom) seats.now object.now
@@ -565,7 +565,7 @@ fn push_held(
 /// is held by them or by who is gone, where the object has these holds, and this is held of it, the oldest first.
 pub fn who_of(
     alloc: Global,
-    clients: &Clients,
+    clients: &ClientPlaces,
     object: &Hosted,
     whom: Whom,
     holds: &[Hold],

@@ -12,13 +12,13 @@ ghost use Rattle.client_core.specs.ToldInside.{AreWhys, SaysState, SaysWhy, IsWh
 use hosted_core::hosted::Hosted;
 use inside_text::find::reasons_by;
 use inside_text::reason::Reason;
-use inside_text::why::{State, push_state, push_why};
-use live_core::call::Call;
+use inside_text::why::{CallStatus, push_state, push_why};
+use live_core::call::LiveCall;
 use path_tree::node::OpId;
 use std::alloc::{AllocError, Global};
 
 // The waiting call of which this number was told.
-fn waiting_as(object: &Hosted, told: u64) -> Option<&Call>
+fn waiting_as(object: &Hosted, told: u64) -> Option<&LiveCall>
     ensures some { IfSome result (λ c. (k : ℕ) × (slice_get object.now.hall.waiting k ≡ Some c.now)
         × (told_of object.now c.now.number ≡ told)) }
     ensures none { IfNone result (Every (λ (c : Called). told_of object.now c.number ≢ told) object.now.hall.waiting) }
@@ -46,13 +46,13 @@ pub(crate) fn reasons_of(
 }
 
 // What a call of this number is that does not wait.
-fn state_of(object: &Hosted, told: u64) -> State
+fn state_of(object: &Hosted, told: u64) -> CallStatus
     ensures { result ≡ state_by (is_given object.now told) }
 {
     if object.is_given(told) {
-        return State::Ended;
+        return CallStatus::Ended;
     }
-    State::Unknown
+    CallStatus::Unknown
 }
 
 // What is said of a call that does not wait.
@@ -79,7 +79,7 @@ fn push_reasons(
 }
 
 // Why a call waits.
-fn say_why(alloc: Global, object: &Hosted, told: u64, call: &Call) -> Result<Vec<u8>, AllocError>
+fn say_why(alloc: Global, object: &Hosted, told: u64, call: &LiveCall) -> Result<Vec<u8>, AllocError>
     requires there { (k : ℕ) × (slice_get object.now.hall.waiting k ≡ Some call.now) }
     requires told { told_of object.now call.now.number ≡ told }
     ensures { IfOk result (λ text. SaysWhy object.now told text.items) }

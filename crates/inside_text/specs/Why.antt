@@ -7,17 +7,17 @@ use Rattle.word_core.specs.Data.{session_word}
 use Rattle.inside_text.specs.Lacks.{Why}
 use Rattle.inside_text.specs.declared.reason.Lack.{Lack}
 use Rattle.inside_text.specs.declared.reason.Lack.TheVariants as lacks
-use Rattle.inside_text.specs.declared.why.State.{State}
-use Rattle.inside_text.specs.declared.why.State.TheVariants as states
-use Rattle.inside_text.specs.declared.why.Running.{Running}
+use Rattle.inside_text.specs.declared.why.CallStatus.{CallStatus}
+use Rattle.inside_text.specs.declared.why.CallStatus.TheVariants as states
+use Rattle.inside_text.specs.declared.why.RunningRow.{RunningRow}
 
-abbrev pub state_word : State → List ℕ
-state_word states.Running = codes "Running"
+abbrev pub state_word : CallStatus → List ℕ
+state_word states.Running = codes "RunningRow"
 state_word states.Ended = codes "Ended"
 state_word states.Unknown = codes "Unknown"
 
 -- `why N STATE`: the call does not wait
-abbrev pub state_line : ℕ → State → List ℕ
+abbrev pub state_line : ℕ → CallStatus → List ℕ
 state_line n state = line_of (bare (codes "why") ∷ bare (decimal n) ∷ bare (state_word state) ∷ [])
 
 abbrev pub name_word : ObjectForm → ℕ → Word
@@ -42,7 +42,7 @@ abbrev pub path_line : ObjectForm → Why → List ℕ
 path_line o why = line_of (needs_words why ++ map (name_word o) why.needs)
 
 -- `runs M sS OP`
-abbrev pub run_line : ObjectForm → Running → List ℕ
+abbrev pub run_line : ObjectForm → RunningRow → List ℕ
 run_line o run =
     line_of (bare (codes "runs") ∷ bare (decimal run.number) ∷ session_word run.session ∷ name_word o run.operation ∷ [])
 
@@ -52,6 +52,6 @@ why_line n lines =
     line_of (bare (codes "why") ∷ bare (decimal n) ∷ bare (codes "Waiting") ∷ bare (decimal lines) ∷ [])
 
 -- the whole of it, for a call that waits
-abbrev pub why_text : ObjectForm → ℕ → List Why → List Running → List ℕ
+abbrev pub why_text : ObjectForm → ℕ → List Why → List RunningRow → List ℕ
 why_text o n whys runs =
     why_line n (length whys + length runs) ++ flat_map (path_line o) whys ++ flat_map (run_line o) runs

@@ -19,7 +19,7 @@ use word_core::word::Written;
 
 /// A session, for how many seconds it is there, where that is known, and how many calls it made.
 #[derive(Clone, Copy, Debug, PartialEq, Eq)]
-pub struct Seat {
+pub struct SessionRow {
     /// Its number.
     pub session: u64,
     /// The seconds.
@@ -31,7 +31,7 @@ pub struct Seat {
 /// A call that waits: its number, its session, its operation by the place in the object, from 0, and for how many seconds
 /// it waits, where that is known.
 #[derive(Clone, Copy, Debug, PartialEq, Eq)]
-pub struct Waiting {
+pub struct WaitingRow {
     /// Its number.
     pub number: u64,
     /// Its session.
@@ -68,7 +68,7 @@ fn push_time(out: &mut Vec<u8>, seconds: Option<u64>) -> Result<(), AllocError>
 }
 
 // Adds `session sS`, and for how long it is there where that is known.
-fn push_session(out: &mut Vec<u8>, seat: Seat) -> Result<(), AllocError>
+fn push_session(out: &mut Vec<u8>, seat: SessionRow) -> Result<(), AllocError>
     ensures { OnOk result (out.new.items ≡ out.old.items ++ words_text (seat_words seat)) }
 {
     push_behind(out, b"session s", seat.session)?;
@@ -91,7 +91,7 @@ fn push_count(out: &mut Vec<u8>, calls: u64, name: Option<&Name>) -> Result<(), 
 }
 
 /// Adds the line of a session, which has a name or none.
-pub fn push_seat(out: &mut Vec<u8>, seat: Seat, name: Option<&Name>) -> Result<(), AllocError>
+pub fn push_seat(out: &mut Vec<u8>, seat: SessionRow, name: Option<&Name>) -> Result<(), AllocError>
     ensures { OnOk result (out.new.items ≡ out.old.items ++ seat_line seat (option_map (λ n. n.now) name.entry)) }
 {
     push_session(out, seat)?;
@@ -101,7 +101,7 @@ pub fn push_seat(out: &mut Vec<u8>, seat: Seat, name: Option<&Name>) -> Result<(
 }
 
 // Adds `waits N sS OP`, and for how long where that is known.
-fn push_call(out: &mut Vec<u8>, object: &Object, call: Waiting) -> Result<(), AllocError>
+fn push_call(out: &mut Vec<u8>, object: &Object, call: WaitingRow) -> Result<(), AllocError>
     ensures { OnOk result (out.new.items ≡ out.old.items ++ words_text (call_words (object_of object.now) call)) }
 {
     push_behind(out, b"waits ", call.number)?;
@@ -127,7 +127,7 @@ fn push_node(out: &mut Vec<u8>, reason: &Reason) -> Result<(), AllocError>
 fn push_wait(
     out: &mut Vec<u8>,
     object: &Object,
-    call: Waiting,
+    call: WaitingRow,
     reason: &Reason,
 ) -> Result<(), AllocError>
     ensures { OnOk result (out.new.items ≡ out.old.items
@@ -143,7 +143,7 @@ fn push_wait(
 pub fn push_waits(
     out: &mut Vec<u8>,
     object: &Object,
-    call: Waiting,
+    call: WaitingRow,
     reasons: &[Reason],
 ) -> Result<(), AllocError>
     ensures { OnOk result (out.new.items ≡ out.old.items

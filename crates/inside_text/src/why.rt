@@ -16,7 +16,7 @@ use word_core::word::Written;
 
 /// What a call is that does not wait.
 #[derive(Clone, Copy, Debug, PartialEq, Eq)]
-pub enum State {
+pub enum CallStatus {
     /// It runs.
     Running,
     /// It has ended, or was cancelled.
@@ -27,7 +27,7 @@ pub enum State {
 
 /// A call that runs: its number, its session, and its operation by the place in the object, from 0.
 #[derive(Clone, Copy, Debug, PartialEq, Eq)]
-pub struct Running {
+pub struct RunningRow {
     /// Its number.
     pub number: u64,
     /// Its session.
@@ -36,18 +36,18 @@ pub struct Running {
     pub operation: OpId,
 }
 
-fn word_of(state: State) -> &'static [u8]
+fn word_of(state: CallStatus) -> &'static [u8]
     ensures { result.now ≡ state_word state }
 {
     match state {
-        State::Running => b"Running",
-        State::Ended => b"Ended",
-        State::Unknown => b"Unknown",
+        CallStatus::Running => b"Running",
+        CallStatus::Ended => b"Ended",
+        CallStatus::Unknown => b"Unknown",
     }
 }
 
-/// Adds `why N Running`, `why N Ended` or `why N Unknown`: the call of this number does not wait.
-pub fn push_state(out: &mut Vec<u8>, number: u64, state: State) -> Result<(), AllocError>
+/// Adds `why N RunningRow`, `why N Ended` or `why N Unknown`: the call of this number does not wait.
+pub fn push_state(out: &mut Vec<u8>, number: u64, state: CallStatus) -> Result<(), AllocError>
     ensures { OnOk result (out.new.items ≡ out.old.items ++ state_line number state) }
 {
     push_line(
@@ -130,7 +130,7 @@ fn push_paths(out: &mut Vec<u8>, object: &Object, reasons: &[Reason]) -> Result<
 }
 
 // Adds `runs M sS OP`.
-fn push_run(out: &mut Vec<u8>, object: &Object, run: Running) -> Result<(), AllocError>
+fn push_run(out: &mut Vec<u8>, object: &Object, run: RunningRow) -> Result<(), AllocError>
     ensures { OnOk result (out.new.items ≡ out.old.items ++ run_line (object_of object.now) run) }
 {
     push_line(
@@ -145,7 +145,7 @@ fn push_run(out: &mut Vec<u8>, object: &Object, run: Running) -> Result<(), Allo
 }
 
 // Adds these lines, in order.
-fn push_runs(out: &mut Vec<u8>, object: &Object, runs: &[Running]) -> Result<(), AllocError>
+fn push_runs(out: &mut Vec<u8>, object: &Object, runs: &[RunningRow]) -> Result<(), AllocError>
     ensures { OnOk result (out.new.items ≡ out.old.items ++ flat_map (run_line (object_of object.now)) runs.now) }
 {
     match runs {
@@ -179,7 +179,7 @@ pub fn push_why(
     object: &Object,
     number: u64,
     reasons: &[Reason],
-    runs: &[Running],
+    runs: &[RunningRow],
 ) -> Result<(), AllocError>
     ensures { OnOk result (out.new.items ≡ out.old.items
         ++ why_text (object_of object.now) number (whys_of reasons.now) runs.now) }

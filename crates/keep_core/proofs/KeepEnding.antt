@@ -17,7 +17,7 @@ use Rattle.office_core.specs.Insides.{InsideView}
 use Rattle.office_core.specs.Receipts.{HaveSlips}
 use Rattle.office_core.specs.Closing.{IsWhyBy, place_told}
 use Rattle.keep_core.specs.declared.close.Became.{Became}
-use Rattle.keep_core.specs.declared.opening.Opening.{Opening}
+use Rattle.keep_core.specs.declared.opening.ObjectOpening.{ObjectOpening}
 use Rattle.keep_core.specs.Opening.{BeganWith, values_of}
 use Rattle.keep_core.specs.declared.trouble.Trouble.{Trouble}
 use Rattle.keep_core.specs.Troubles.{first_of, fault_in}
@@ -37,7 +37,7 @@ stays_refused (place ∷ places) = refl
 
 -- an object that is closed
 pub ends_closed : {agrees : Assignment → Type 0} {parts_were parts_are traces_were traces_are : Papers → Type 0} {became : Became} {before kept : Trouble} {kept_all keeps_all : Bool} {old known new : Option (List ℕ)} {count : ℕ}
-    (name : List ℕ) (opening : Opening) (b : Board) (after : Trouble) (result : Result (Unit {0}) LinesFault) → count ≡ length b.history →
+    (name : List ℕ) (opening : ObjectOpening) (b : Board) (after : Trouble) (result : Result (Unit {0}) LinesFault) → count ≡ length b.history →
     KeepsDesk agrees parts_were parts_are traces_were traces_are b (values_of opening) true became before kept kept_all keeps_all old known →
     AreTold (entries_lines (kept_in became) name count) result known new → after.fault ≡ first_of kept.fault (fault_in result) → after.refused ≡ kept.refused →
     EndsDesk agrees parts_were parts_are traces_were traces_are name opening b true before after kept_all keeps_all old new
@@ -76,7 +76,7 @@ ends_closed {became = became} {before = before} {old = old} {known = known} {new
 
 -- an object that is not closed
 pub ends_refused : {agrees : Assignment → Type 0} {parts_were parts_are traces_were traces_are : Papers → Type 0} {became : Became} {told_all after : Trouble} {kept_all keeps_all : Bool} {old known new : Option (List ℕ)}
-    (name : List ℕ) (opening : Opening) (b : Board) (before refused : Trouble) (result : Result (Unit {0}) LinesFault) →
+    (name : List ℕ) (opening : ObjectOpening) (b : Board) (before refused : Trouble) (result : Result (Unit {0}) LinesFault) →
     refused.fault ≡ before.fault → refused.refused ≡ true → told_all.fault ≡ first_of refused.fault (fault_in result) → told_all.refused ≡ refused.refused →
     AreTold (refused_line name ∷ []) result old known → KeepsDesk agrees parts_were parts_are traces_were traces_are b (values_of opening) false became told_all after kept_all keeps_all known new →
     EndsDesk agrees parts_were parts_are traces_were traces_are name opening b false before after kept_all keeps_all old new
@@ -115,7 +115,7 @@ ends_refused {became = became} {told_all = told_all} {old = old} {known = known}
 
 -- an object whose board is that of an office, which was closed or not
 pub ending_by : {agrees : Assignment → Type 0} {parts_were parts_are traces_were traces_are : Papers → Type 0} {before after : Trouble} {kept_all keeps_all : Bool} {old new : Option (List ℕ)} {called : List ℕ}
-    (name : List ℕ) (opening : Opening) (seats : List Seat) (slips : List Told) (b : Board) (closes : Bool) (r : InsideView) →
+    (name : List ℕ) (opening : ObjectOpening) (seats : List Seat) (slips : List Told) (b : Board) (closes : Bool) (r : InsideView) →
     called ≡ name → r.board ≡ b → IsSound b → IsClosed closes name opening r seats slips →
     EndsDesk agrees parts_were parts_are traces_were traces_are called opening b closes before after kept_all keeps_all old new →
     (e : Ended) × IsOf name opening seats slips e × IsEnding agrees parts_were parts_are traces_were traces_are e before after kept_all keeps_all old new
@@ -138,7 +138,7 @@ closed_has_all e ended closed =
     subst (λ (b : Board). HasAll e.name e.opening b e.slips) ended.of all.1
 
 -- what sessions left adds up, and nothing is missing
-pub closed_by : {given shown : List Told} (name : List ℕ) (opening : Opening) (seats : List Seat) (slips : List Told) (b : Board) (r : InsideView) → given ≡ slips → shown ≡ slips → b ≡ r.board →
+pub closed_by : {given shown : List Told} (name : List ℕ) (opening : ObjectOpening) (seats : List Seat) (slips : List Told) (b : Board) (r : InsideView) → given ≡ slips → shown ≡ slips → b ≡ r.board →
     AddsUp r seats given → HasAll name opening b shown → IsClosed true name opening r seats slips
 closed_by {shown = shown} name opening seats slips b r gives shows of adds has = (
   subst (λ (ts : List Told). AddsUp r seats ts) gives adds,
@@ -146,7 +146,7 @@ closed_by {shown = shown} name opening seats slips b r gives shows of adds has =
 )
 
 -- that adds up, and something is missing
-pub lacking_by : {given shown : List Told} (name : List ℕ) (opening : Opening) (seats : List Seat) (slips : List Told) (b : Board) (r : InsideView) → given ≡ slips → shown ≡ slips → b ≡ r.board →
+pub lacking_by : {given shown : List Told} (name : List ℕ) (opening : ObjectOpening) (seats : List Seat) (slips : List Told) (b : Board) (r : InsideView) → given ≡ slips → shown ≡ slips → b ≡ r.board →
     AddsUp r seats given → (HasAll name opening b shown → ⊥) → IsClosed false name opening r seats slips
 lacking_by {shown = shown} name opening seats slips b r gives shows of adds lacks = inr (
   subst (λ (ts : List Told). AddsUp r seats ts) gives adds,
@@ -154,12 +154,12 @@ lacking_by {shown = shown} name opening seats slips b r gives shows of adds lack
 )
 
 -- that does not add up
-pub refused_by_office : {given : List Told} (name : List ℕ) (opening : Opening) (seats : List Seat) (slips : List Told) (r : InsideView) (why : CloseFault) → given ≡ slips →
+pub refused_by_office : {given : List Told} (name : List ℕ) (opening : ObjectOpening) (seats : List Seat) (slips : List Told) (r : InsideView) (why : CloseFault) → given ≡ slips →
     IsWhyBy Told StandsIn place_told r seats given why → IsClosed false name opening r seats slips
 refused_by_office name opening seats slips r why gives is = inl (why, subst (λ (ts : List Told). IsWhyBy Told StandsIn place_told r seats ts why) gives is)
 
 -- how the test for the name, the opening and the slips is answered
-pub has_all_by : {all : Bool} {history : List Noted} {o : Object} (name : List ℕ) (opening : Opening) (slips : List Told) (b : Board) → history ≡ b.history → o ≡ b.object → o.name ≡ name → BeganWith b opening → IsTrue all ↔ HaveSlips history slips →
+pub has_all_by : {all : Bool} {history : List Noted} {o : Object} (name : List ℕ) (opening : ObjectOpening) (slips : List Told) (b : Board) → history ≡ b.history → o ≡ b.object → o.name ≡ name → BeganWith b opening → IsTrue all ↔ HaveSlips history slips →
     IsTrue all ↔ HasAll name opening b slips
 has_all_by name opening slips b told is named began have = (
   λ all. (ap (λ (x : Object). x.name) (sym is) ∙ named, began, subst (λ (h : List Noted). HaveSlips h slips) told (have.0 all)),

@@ -7,14 +7,14 @@ use Rattle.live_core.specs.declared.call.Limits.{Limits}
 use Rattle.recover_core.specs.declared.recover.House.{House}
 use Rattle.recover_core.specs.declared.recover.Recovered.{Recovered}
 use Rattle.recover_core.specs.Text.{IsRead, IsRecovered, Refuses}
-use Rattle.hosted_core.specs.declared.start.Ended.{Ended}
+use Rattle.hosted_core.specs.declared.start.EndedEpoch.{EndedEpoch}
 use Rattle.hosted_core.specs.Again.{BeginsAgain}
 use Rattle.hosted_core.specs.Scene.{Scene}
 use Rattle.keep_core.specs.declared.start.NotBegun.{NotBegun}
 use Rattle.keep_core.specs.declared.start.NotBegun.TheVariants.{Refused, NoPast, Uncounted, Damaged, Device, Memory}
 
 -- what was recovered, as an object begins again with it
-abbrev pub ended_of : Recovered → Ended
+abbrev pub ended_of : Recovered → EndedEpoch
 ended_of r =
     record {
       epoch = r.epoch;

@@ -18,7 +18,7 @@ use Rattle.office_core.specs.Insides.{InsideView}
 use Rattle.office_core.specs.Closing.{IsIdle, AreSeatsOf, IsWhyBy, place_told}
 use Rattle.office_core.specs.Receipts.{HaveSlips}
 use Rattle.keep_core.specs.declared.close.Became.{Became}
-use Rattle.keep_core.specs.declared.opening.Opening.{Opening}
+use Rattle.keep_core.specs.declared.opening.ObjectOpening.{ObjectOpening}
 use Rattle.keep_core.specs.declared.trouble.Trouble.{Trouble}
 use Rattle.keep_core.specs.Moments.{Moment}
 use Rattle.keep_core.specs.Troubles.{first_of}
@@ -60,7 +60,7 @@ KeepsIn before after b opening closes became =
 -- its desk, what became of it, and the places of its parts that are damaged.
 pub record Ended : Type 0 where
   pub name : List ℕ
-  pub opening : Opening
+  pub opening : ObjectOpening
   pub seats : List Seat
   pub slips : List Told
   pub board : Board
@@ -84,13 +84,13 @@ abbrev pub AddsUp : InsideView → List Seat → List Told → Type 0
 AddsUp r seats slips = IsIdle r.board × AreSeatsOf r seats × Every (StandsIn r.board.history) slips
 
 -- A board is of the object of this name, it began with this opening, and each entry of its history has a slip.
-abbrev pub HasAll : List ℕ → Opening → Board → List Told → Type 0
+abbrev pub HasAll : List ℕ → ObjectOpening → Board → List Told → Type 0
 HasAll name opening b slips = (b.object.name ≡ name) × BeganWith b opening × HaveSlips b.history slips
 
 -- The office of the object of this name, which began with this opening, was closed: what its sessions left adds up, and
 -- nothing is missing. Or it was not: for the first cause for which that does not add up; or it adds up, and an entry has
 -- no slip or the office is another one.
-abbrev pub IsClosed : Bool → List ℕ → Opening → InsideView → List Seat → List Told → Type 0
+abbrev pub IsClosed : Bool → List ℕ → ObjectOpening → InsideView → List Seat → List Told → Type 0
 IsClosed true name opening r seats slips = AddsUp r seats slips × HasAll name opening r.board slips
 IsClosed false name opening r seats slips =
     ((why : CloseFault) × IsWhyBy Told StandsIn place_told r seats slips why)
@@ -105,7 +105,7 @@ pub record IsAtEnd (e : Ended) : Type 0 where
   pub closed : IsClosed e.became.closed e.name e.opening inside e.seats e.slips
 
 -- it is the one of this name, with this opening, these seats and slips
-pub record IsOf (name : List ℕ) (opening : Opening) (seats : List Seat) (slips : List Told)
+pub record IsOf (name : List ℕ) (opening : ObjectOpening) (seats : List Seat) (slips : List Told)
     (e : Ended) : Type 0 where
   pub named : e.name ≡ name
   pub opened : e.opening ≡ opening
@@ -137,7 +137,7 @@ IsEndingIn before after e =
     before.keeps_all after.keeps_all before.written after.written
 
 -- an object at its end, by what is known of it where its board was ended
-abbrev pub ended_of : List ℕ → Opening → List Seat → List Told → Board → Became → List ℕ → Ended
+abbrev pub ended_of : List ℕ → ObjectOpening → List Seat → List Told → Board → Became → List ℕ → Ended
 ended_of name opening seats slips b became damaged = record {
   name = name;
   opening = opening;
@@ -151,7 +151,7 @@ ended_of name opening seats slips b became damaged = record {
 -- Ending the board of an object comes to this: it is told as closed or not, and the rest is done, whatever its sessions
 -- left.
 pub record EndsDesk (agrees : Assignment → Type 0) (parts_were parts_are traces_were traces_are : Papers → Type 0)
-    (name : List ℕ) (opening : Opening) (b : Board) (closes : Bool) (before after : Trouble)
+    (name : List ℕ) (opening : ObjectOpening) (b : Board) (closes : Bool) (before after : Trouble)
     (kept_all keeps_all : Bool) (old new : Option (List ℕ)) : Type 0 where
   pub became : Became
   pub closed : became.closed ≡ closes

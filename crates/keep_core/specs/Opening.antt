@@ -10,7 +10,7 @@ use Rattle.board_core.specs.Board.{Board}
 use Rattle.board_core.specs.Sound.{kinds_of}
 use Rattle.keep_core.specs.declared.open.NotOpened.{NotOpened}
 use Rattle.keep_core.specs.declared.open.NotOpened.TheVariants.{Damaged, Fault}
-use Rattle.keep_core.specs.declared.opening.Opening.{Opening}
+use Rattle.keep_core.specs.declared.opening.ObjectOpening.{ObjectOpening}
 use Rattle.keep_core.specs.Lines.{damaged_line}
 
 -- Why it is not opened: a part is the first damaged one, whatever the shelf may hold, and the line is that of this part;
@@ -24,14 +24,14 @@ IsNotOpened holds failed object (Fault WriteFault) = ⊥
 IsNotOpened holds failed object (Fault Memory) = Unit {0}
 
 -- the values with which the parts opened
-abbrev pub values_of : Opening → List Contents
+abbrev pub values_of : ObjectOpening → List Contents
 values_of opening = opening.values.items
 
 -- its pins were sealed with the spellings of its values, those of the parts of this object
-abbrev pub IsSealed : (Assignment → Type 0) → Object → Opening → Type 0
+abbrev pub IsSealed : (Assignment → Type 0) → Object → ObjectOpening → Type 0
 IsSealed agrees object opening =
     (a : Assignment) → agrees a → ArePinned a object.parts.items opening.pins (values_of opening)
 
 -- a board began with the pins of this opening, and its object's parts have the kinds of its values
-abbrev pub BeganWith : Board → Opening → Type 0
+abbrev pub BeganWith : Board → ObjectOpening → Type 0
 BeganWith b opening = (b.opening ≡ opening.pins) × (kinds_of b.object ≡ map kind_of (values_of opening))

@@ -19,7 +19,7 @@ ghost use Rattle.keep_core.specs.Lines.{files_text, unsaved_text, unsaved_line, 
 
 use crate::marks::Marks;
 use crate::open::{push_damaged, push_part};
-use crate::opening::{Opening, began_with};
+use crate::opening::{ObjectOpening, began_with};
 use crate::trouble::Trouble;
 use decl_core::object::Object;
 use desk_core::desk::Desk;
@@ -64,10 +64,10 @@ pub struct Closing<S: Shelf + Drop, T: Shelf + Drop, H: Hand + Drop> {
 /// An object at the end: its name, its office, what its parts opened with, and the seats and receipts that its sessions
 /// left.
 #[derive(Drop)]
-pub struct Ending {
+pub struct ClosingObject {
     pub name: Name,
     pub office: Office,
-    pub opening: Opening,
+    pub opening: ObjectOpening,
     pub seats: Vec<Seat>,
     pub receipts: Vec<Slip>,
 }
@@ -332,7 +332,7 @@ fn is_same_name(one: &Name, other: &Name) -> bool
 }
 
 // Whether a desk is of the object of this name, it began with this opening, and each entry of its history has a slip.
-fn has_all(marks: &mut Marks, name: &Name, opening: &Opening, desk: &Desk, slips: &[Slip]) -> bool
+fn has_all(marks: &mut Marks, name: &Name, opening: &ObjectOpening, desk: &Desk, slips: &[Slip]) -> bool
     ensures all { IsTrue result ↔ HasAll name.now opening.now desk.now slips.now }
     ensures sound { IsSound desk.now }
 {
@@ -467,7 +467,7 @@ impl<S: Shelf + Drop, T: Shelf + Drop, H: Hand + Drop> Closing<S, T, H> {
     fn keep<W: Write, E: Write>(
         &mut self,
         desk: &Desk,
-        opening: &Opening,
+        opening: &ObjectOpening,
         closed: bool,
         writer: &mut W,
         error: &mut E,
@@ -502,7 +502,7 @@ impl<S: Shelf + Drop, T: Shelf + Drop, H: Hand + Drop> Closing<S, T, H> {
     fn end_closed<W: Write, E: Write>(
         &mut self,
         name: &[u8],
-        opening: &Opening,
+        opening: &ObjectOpening,
         desk: &Desk,
         writer: &mut W,
         error: &mut E,
@@ -521,7 +521,7 @@ impl<S: Shelf + Drop, T: Shelf + Drop, H: Hand + Drop> Closing<S, T, H> {
     fn end_refused<W: Write, E: Write>(
         &mut self,
         name: &[u8],
-        opening: &Opening,
+        opening: &ObjectOpening,
         desk: &Desk,
         writer: &mut W,
         error: &mut E,
@@ -541,13 +541,13 @@ impl<S: Shelf + Drop, T: Shelf + Drop, H: Hand + Drop> Closing<S, T, H> {
     /// no slip, or where the office is that of an object of another name or began with other pins; this is told as
     /// refused. A fault is noted, and what does not hang on it is still done: an object that is not closed is saved all
     /// the same.
-    pub fn close_one<W: Write, E: Write>(&mut self, ending: Ending, writer: &mut W, error: &mut E)
+    pub fn close_one<W: Write, E: Write>(&mut self, ending: ClosingObject, writer: &mut W, error: &mut E)
         ensures ended { (e : Ended) × IsOf ending.name ending.opening ending.seats.items ending.receipts.items e
             × IsEndingIn (moment_of S.holds T.holds H.agrees self.old (W.contents writer.old))
             (moment_of S.holds T.holds H.agrees self.new (W.contents writer.new)) e }
         ensures files { (a : Assignment) → H.agrees self.new.hand a → H.agrees self.old.hand a }
     {
-        let Ending {
+        let ClosingObject {
             name,
             office,
             opening,

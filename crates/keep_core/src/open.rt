@@ -8,7 +8,7 @@ ghost use Rattle.keep_core.specs.Lines.{part_text, damaged_line};
 ghost use Rattle.keep_core.specs.Opening.{IsNotOpened, IsSealed, values_of};
 
 use crate::close::Closing;
-use crate::opening::Opening;
+use crate::opening::ObjectOpening;
 use decl_core::analyse::Accepted;
 use decl_core::object::Object;
 use device_core::hand::Hand;
@@ -27,7 +27,7 @@ use value_core::value::Value;
 pub struct Opened {
     pub name: Name,
     pub office: Office,
-    pub opening: Opening,
+    pub opening: ObjectOpening,
 }
 
 /// Why the parts of an object were not opened.
@@ -121,7 +121,7 @@ pub fn open_one<S: Shelf, H: Hand>(
 {
     let name = accepted.object().name.copy(alloc)?;
     let (pins, values) = parts_of(alloc, &accepted, shelf, hand)?;
-    let opening = Opening { values, pins };
+    let opening = ObjectOpening { values, pins };
     let inside = Inside::open(alloc, accepted, pins)?;
     let office = Office::open(alloc, inside)?;
     Ok(Opened {

@@ -13,7 +13,7 @@ use value_core::value::Value;
 
 /// What the parts of an object opened with: their values, and the pins of the pages in which these were sealed.
 #[derive(Drop)]
-pub struct Opening {
+pub struct ObjectOpening {
     pub values: Vec<Value>,
     pub pins: Pins,
 }
@@ -80,7 +80,7 @@ fn are_of_kinds(parts: &[Part], values: &[Value]) -> bool
 
 /// Whether a desk began with these pins, and its object's parts have the kinds of these values. The numbers of files
 /// are drawn once, so no other desk with parts began with these pins.
-pub fn began_with(desk: &Desk, opening: &Opening) -> bool
+pub fn began_with(desk: &Desk, opening: &ObjectOpening) -> bool
     ensures { IsTrue result ↔ BeganWith desk.now opening.now }
 {
     let pins = desk.opening_pins();

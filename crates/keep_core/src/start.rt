@@ -10,14 +10,14 @@ ghost use Rattle.keep_core.specs.Behind.{BeginsBehind, BeginsNot, ended_of};
 ghost use Rattle.keep_core.specs.declared.start.NotBegun.TheVariants.{NoPast as IsNoPast, Memory as IsMemory};
 
 use crate::save::key_of;
-use audit_core::epoch_replay::Played;
+use audit_core::epoch_replay::ReplayedEpoch;
 use decl_core::object::Object;
 use device_core::hand::HandFault;
 use device_core::memory::MemHand;
 use device_core::shelf::Shelf;
 use guest_core::guests::Guests;
-use hosted_core::hosted::{Begun, Hosted};
-use hosted_core::start::{Ended, begin_again};
+use hosted_core::hosted::{HostedStart, Hosted};
+use hosted_core::start::{EndedEpoch, begin_again};
 use live_core::call::Limits;
 use live_core::live::Live;
 use live_core::source::source_of;
@@ -173,7 +173,7 @@ pub fn begin_first(
     let Some(live) = found else {
         return Err(NotBegun::NoPast);
     };
-    let begun = Begun {
+    let begun = HostedStart {
         live,
         guests: Guests::new(alloc, limits.sessions, names)?,
         past,
@@ -200,13 +200,13 @@ fn go_on(alloc: Global, object: Object, came: Recovered, limits: Limits) -> Resu
         guests,
         ..
     } = came;
-    let Played {
+    let ReplayedEpoch {
         contents,
         counters,
         long,
         greatest,
     } = played;
-    let ended = Ended {
+    let ended = EndedEpoch {
         epoch,
         base,
         greatest,

@@ -4,7 +4,7 @@ ghost use Rattle.std.specs.Prelude.{◌≡◌};
 
 use crate::event::{LetGo, Work};
 use crate::log::Log;
-use keep_loop::{Fault, Outside, Read};
+use keep_loop::{Fault, Outside, ReadEnd};
 use std::alloc::AllocError;
 use std::io::Write;
 use std::time::Clock;
@@ -58,9 +58,9 @@ impl<W: Outside, R: Clock, E: Write> Outside for Logged<W, R, E> {
         self.inner.accept(who)
     }
 
-    fn read(&mut self, who: u64, piece: &mut Vec<u8>) -> Result<Read, AllocError> {
+    fn read(&mut self, who: u64, piece: &mut Vec<u8>) -> Result<ReadEnd, AllocError> {
         let read = self.inner.read(who, piece)?;
-        if read == Read::Broken {
+        if read == ReadEnd::Broken {
             self.log.let_go(who, LetGo::Broke);
         }
         Ok(read)

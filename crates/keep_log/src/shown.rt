@@ -6,7 +6,7 @@ ghost use Rattle.inside_core.specs.Server.{outside_text};
 use crate::sink::Sink;
 use inside_core::numbers::{Server, Stored};
 use inside_core::server::push_server;
-use keep_loop::{Fault, Outside, Read, Visible};
+use keep_loop::{Fault, Outside, ReadEnd, Visible};
 use std::alloc::{AllocError, Global};
 
 /// What another one has outside of the loop, with a status, which is put at the first look and then every so many seconds;
@@ -191,7 +191,7 @@ impl<W: Outside, K: Sink> Outside for Showing<W, K> {
         came
     }
 
-    fn read(&mut self, who: u64, piece: &mut Vec<u8>) -> Result<Read, AllocError> {
+    fn read(&mut self, who: u64, piece: &mut Vec<u8>) -> Result<ReadEnd, AllocError> {
         self.inner.read(who, piece)
     }
 

@@ -6,11 +6,11 @@ use Rattle.post_core.specs.Turns.{added_by}
 use Rattle.keep_loop.specs.Seen.{Happened, stored_in, added_in}
 use Rattle.keep_loop.specs.Epochs.{Rules, before_in, since_in, stored_since}
 use Rattle.keep_loop.specs.Stands.{IsHonest, IsBetween, Survives, SurvivesSince}
-use Rattle.keep_loop.specs.declared.keep.Limits.{Limits}
+use Rattle.keep_loop.specs.declared.keep.LoopLimits.{LoopLimits}
 use Rattle.keep_loop.proofs.Epochs.{handed_twice, stored_twice}
 use Rattle.keep_loop.proofs.Turns.{begins_twice}
 
-pub survives : {S : Type 0} (rules : Rules S) (first : S) (limits : Limits) (seen : List Happened) (found : ℕ → List ℕ) → limits.waits ≡ true →
+pub survives : {S : Type 0} (rules : Rules S) (first : S) (limits : LoopLimits) (seen : List Happened) (found : ℕ → List ℕ) → limits.waits ≡ true →
     IsHonest rules first limits seen → ((j : ℕ) → j < limits.journals → IsBetween (stored_in j seen) (added_in j seen) (found j)) → Survives rules.gives first limits seen found
 survives rules first limits seen found waits h between = record {
   answered = h.kept_turns;
@@ -24,7 +24,7 @@ survives rules first limits seen found waits h between = record {
   only = λ j is. begins_twice (found j) (added_in j seen) (added_by j (h.kept_turns ++ h.later)) (between j is).nothing_else (h.added j is);
 }
 
-pub survives_since : {S : Type 0} (rules : Rules S) (first : S) (limits : Limits) (seen : List Happened) (found : ℕ → List ℕ) → limits.waits ≡ true →
+pub survives_since : {S : Type 0} (rules : Rules S) (first : S) (limits : LoopLimits) (seen : List Happened) (found : ℕ → List ℕ) → limits.waits ≡ true →
     IsHonest rules first limits seen → ((j : ℕ) → j < limits.journals → IsBetween (stored_since j seen) (since_in j seen) (found j)) → SurvivesSince rules first limits seen found
 unfolding survives
 survives_since rules first limits seen found waits h between = record {

@@ -11,7 +11,7 @@ use Rattle.keep_loop.specs.Cuts.{IsCut}
 use Rattle.keep_loop.specs.Epochs.{Rules}
 use Rattle.keep_loop.specs.Stands.{Stands, Rests, IsHonest, HasEnded, Honest, Good, Rested, Ended, Ends, EndsRested, Settles, Fails, FailsRested}
 use Rattle.keep_loop.specs.declared.keep.Keep.{Keep}
-use Rattle.keep_loop.specs.declared.keep.Limits.{Limits}
+use Rattle.keep_loop.specs.declared.keep.LoopLimits.{LoopLimits}
 use Rattle.keep_loop.proofs.Epochs.{nothing_more}
 use Rattle.keep_loop.proofs.Grown.{grown, same}
 use Rattle.keep_loop.proofs.Honest.{honest, honest_none}
@@ -23,7 +23,7 @@ AreStored n seen = (j : ℕ) → j < n → stored_in j seen ≡ added_in j seen
 
 -- where all lines are kept, it is so, and the first journals are stored
 abbrev pub StoresFirst : {S : Type 0} → Rules S → ℕ → Option (List Happened) → Option (List Happened) → Keep S → Type 0
-StoresFirst {S} rules n before after keep = (first : S) (limits : Limits) → Rested rules first limits before keep
+StoresFirst {S} rules n before after keep = (first : S) (limits : LoopLimits) → Rested rules first limits before keep
     → IfSome after (λ s. Rests rules.gives first limits s keep × Always (IsHonest rules first limits) s × AreStored n s)
 
 stored_one : (b : Bool) (journal j n : ℕ) (seen : List Happened) → (journal == j) ≡ b → j < n + 1 → journal ≡ n → AreStored n seen →
@@ -57,7 +57,7 @@ module _ {S : Type 0} (rules : Rules S) where
       fails first limits (same mid mid refl (λ s. Rests rules.gives first limits s keep × Always (IsHonest rules first limits) s × AreStored n s)
       (λ s. Rests rules.gives first limits s keep × Always (IsHonest rules first limits) s) (λ seen p. (p.0, p.1)) (stores first limits rested))
 
-  module _ (first : S) (limits : Limits) where
+  module _ (first : S) (limits : LoopLimits) where
     ended : (seen : List Happened) (keep : Keep S) → AreStored limits.journals seen → Rests rules.gives first limits seen keep → HasEnded rules.gives first limits seen keep.object
     ended seen keep are r =
         let s = r.stands in
@@ -111,7 +111,7 @@ module _ {S : Type 0} (rules : Rules S) where
   pub fails_settled : (a b c : Option (List Happened)) (one two : Keep S) → Settles rules a one b two → FailsRested rules b two c → Fails rules a one c
   fails_settled a b c one two settles fails first limits good = fails first limits (settles first limits good)
 
-  module _ (first : S) (limits : Limits) where
+  module _ (first : S) (limits : LoopLimits) where
     -- nothing was seen yet
     pub honest_first : (seen : Option (List Happened)) → IfSome seen (λ s. s ≡ []) → Honest rules first limits seen
     honest_first seen none =

@@ -11,9 +11,9 @@ use Rattle.keep_loop.specs.Epochs.{Rules, HasBegun}
 use Rattle.post_core.specs.Posts.{is_here, hears, owed_to}
 use Rattle.keep_loop.specs.Stands.{Owes, Stands, Rests, IsHonest}
 use Rattle.keep_loop.specs.declared.keep.Keep.{Keep}
-use Rattle.keep_loop.specs.declared.keep.Limits.{Limits}
-use Rattle.keep_loop.specs.declared.outside.Read.{Read}
-use Rattle.keep_loop.specs.declared.outside.Read.TheVariants as reads
+use Rattle.keep_loop.specs.declared.keep.LoopLimits.{LoopLimits}
+use Rattle.keep_loop.specs.declared.outside.ReadEnd.{ReadEnd}
+use Rattle.keep_loop.specs.declared.outside.ReadEnd.TheVariants as reads
 use Rattle.post_core.specs.declared.post.Post.{Post}
 use Rattle.post_core.specs.declared.served.Note.{Note}
 use Rattle.keep_loop.proofs.Turns.{comings_last, begins_more}
@@ -37,7 +37,7 @@ both_same : (waits : Bool) (l : List ℕ) → (if waits then l else l) ≡ l
 both_same true l = refl
 both_same false l = refl
 
-module _ {S : Type 0} (rules : Rules S) (first : S) (limits : Limits) where
+module _ {S : Type 0} (rules : Rules S) (first : S) (limits : LoopLimits) where
   -- from the parts
   pub honest_by : (seen : List Happened) (base : ℕ) (post : Post) (kept_turns later : List Turn) (last : S) → Runs rules.gives first (kept_turns ++ later) last →
       ((c : ℕ) → IsCut (ended_in c seen) (came_from c seen) (heard_of c (kept_turns ++ later))) →
@@ -97,7 +97,7 @@ module _ {S : Type 0} (rules : Rules S) (first : S) (limits : Limits) where
       (λ j is. ahead rules keep.object journal front stands seen s.kept_turns s.later j (s.begun j is))
 
   -- a piece was read, or an end
-  pub honest_read : (seen : List Happened) (keep : Keep S) (who : ℕ) (bytes : List ℕ) (read : Read) → hears keep.post.places.items who ≡ true →
+  pub honest_read : (seen : List Happened) (keep : Keep S) (who : ℕ) (bytes : List ℕ) (read : ReadEnd) → hears keep.post.places.items who ≡ true →
       Stands rules.gives first limits seen keep → IsHonest rules first limits (read_of who bytes read ∷ seen)
   honest_read seen keep who bytes reads.More hearing s = honest_came seen keep who bytes hearing s
   honest_read seen keep who bytes reads.NoMore hearing s = honest_came seen keep who bytes hearing s

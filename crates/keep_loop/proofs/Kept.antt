@@ -9,8 +9,8 @@ use Rattle.post_core.specs.Posts.{is_here, hears, owed_to}
 use Rattle.keep_loop.specs.Epochs.{Rules}
 use Rattle.keep_loop.specs.Stands.{Stands, Rests, IsHonest, Good, Rested, Keeps, Settles, Sends, Renews, Fails, FailsRested}
 use Rattle.keep_loop.specs.declared.keep.Keep.{Keep}
-use Rattle.keep_loop.specs.declared.keep.Limits.{Limits}
-use Rattle.keep_loop.specs.declared.outside.Read.{Read}
+use Rattle.keep_loop.specs.declared.keep.LoopLimits.{LoopLimits}
+use Rattle.keep_loop.specs.declared.outside.ReadEnd.{ReadEnd}
 use Rattle.post_core.specs.declared.served.Note.{Note}
 use Rattle.keep_loop.proofs.Grown.{grown, same}
 use Rattle.keep_loop.proofs.Stood.{rests_kept, stands_added, stands_stored, rests_synced}
@@ -19,7 +19,7 @@ use Rattle.keep_loop.proofs.Honest.{honest, honest_broke, honest_changed, honest
 module _ {S : Type 0} (rules : Rules S) where
   -- nothing was seen
   pub keeps_quiet : (before after : Option (List Happened)) (old new : Keep S) → after ≡ before →
-      ((first : S) (limits : Limits) (seen : List Happened) → Stands rules.gives first limits seen old → Stands rules.gives first limits seen new) → Keeps rules before old after new
+      ((first : S) (limits : LoopLimits) (seen : List Happened) → Stands rules.gives first limits seen old → Stands rules.gives first limits seen new) → Keeps rules before old after new
   keeps_quiet before after old new is step first limits =
       same before after is (λ s. Stands rules.gives first limits s old × Always (IsHonest rules first limits) s) (λ s. Stands rules.gives first limits s new × Always (IsHonest rules first limits) s)
       (λ seen p. (step first limits seen p.0, p.1))
@@ -33,13 +33,13 @@ module _ {S : Type 0} (rules : Rules S) where
 
   -- one event was seen
   pub keeps_event : (e : Happened) (before after : Option (List Happened)) (old new : Keep S) → Grows e before after →
-      ((first : S) (limits : Limits) (seen : List Happened) → Stands rules.gives first limits seen old → Stands rules.gives first limits (e ∷ seen) new) → Keeps rules before old after new
+      ((first : S) (limits : LoopLimits) (seen : List Happened) → Stands rules.gives first limits seen old → Stands rules.gives first limits (e ∷ seen) new) → Keeps rules before old after new
   keeps_event e before after old new is step first limits =
       grown e before after is (λ s. Stands rules.gives first limits s old × Always (IsHonest rules first limits) s) (λ s. Stands rules.gives first limits s new × Always (IsHonest rules first limits) s)
       (λ seen p. (let now = step first limits seen p.0 in (now, (honest rules first limits (e ∷ seen) new now, p.1))))
 
   pub fails_event : (e : Happened) (before after : Option (List Happened)) (old : Keep S) → Grows e before after →
-      ((first : S) (limits : Limits) (seen : List Happened) → Stands rules.gives first limits seen old → IsHonest rules first limits (e ∷ seen)) → Fails rules before old after
+      ((first : S) (limits : LoopLimits) (seen : List Happened) → Stands rules.gives first limits seen old → IsHonest rules first limits (e ∷ seen)) → Fails rules before old after
   fails_event e before after old is step first limits =
       grown e before after is (λ s. Stands rules.gives first limits s old × Always (IsHonest rules first limits) s) (λ s. Always (IsHonest rules first limits) s)
       (λ seen p. (step first limits seen p.0, p.1))
@@ -53,7 +53,7 @@ module _ {S : Type 0} (rules : Rules S) where
   fails_broke who before after old is =
       fails_event (Broke who) before after old is (λ first limits seen s. honest_broke rules first limits seen old who s)
 
-  pub fails_read : (who : ℕ) (bytes : List ℕ) (read : Read) (before after : Option (List Happened)) (old : Keep S) → Grows (read_of who bytes read) before after →
+  pub fails_read : (who : ℕ) (bytes : List ℕ) (read : ReadEnd) (before after : Option (List Happened)) (old : Keep S) → Grows (read_of who bytes read) before after →
       hears old.post.places.items who ≡ true → Fails rules before old after
   fails_read who bytes read before after old is hearing =
       fails_event (read_of who bytes read) before after old is (λ first limits seen s. honest_read rules first limits seen old who bytes read hearing s)
@@ -82,20 +82,20 @@ module _ {S : Type 0} (rules : Rules S) where
   pub fails_rested_then : (a b c : Option (List Happened)) (one two : Keep S) → Sends rules a one b two → FailsRested rules b two c → FailsRested rules a one c
   fails_rested_then a b c one two first_step second first limits good = second first limits (first_step first limits good)
 
-  pub good_of_rested : (a : Option (List Happened)) (one : Keep S) (first : S) (limits : Limits) → Rested rules first limits a one → Good rules first limits a one
+  pub good_of_rested : (a : Option (List Happened)) (one : Keep S) (first : S) (limits : LoopLimits) → Rested rules first limits a one → Good rules first limits a one
   good_of_rested a one first limits =
       same a a refl (λ s. Rests rules.gives first limits s one × Always (IsHonest rules first limits) s) (λ s. Stands rules.gives first limits s one × Always (IsHonest rules first limits) s)
       (λ seen p. (p.0.stands, p.1))
 
   -- a state all of whose lines are kept
   pub sends_quiet : (before after : Option (List Happened)) (old new : Keep S) → after ≡ before →
-      ((first : S) (limits : Limits) (seen : List Happened) → Rests rules.gives first limits seen old → Rests rules.gives first limits seen new) → Sends rules before old after new
+      ((first : S) (limits : LoopLimits) (seen : List Happened) → Rests rules.gives first limits seen old → Rests rules.gives first limits seen new) → Sends rules before old after new
   sends_quiet before after old new is step first limits =
       same before after is (λ s. Rests rules.gives first limits s old × Always (IsHonest rules first limits) s) (λ s. Rests rules.gives first limits s new × Always (IsHonest rules first limits) s)
       (λ seen p. (step first limits seen p.0, p.1))
 
   pub sends_event : (e : Happened) (before after : Option (List Happened)) (old new : Keep S) → Grows e before after →
-      ((first : S) (limits : Limits) (seen : List Happened) → Rests rules.gives first limits seen old → Rests rules.gives first limits (e ∷ seen) new) → Sends rules before old after new
+      ((first : S) (limits : LoopLimits) (seen : List Happened) → Rests rules.gives first limits seen old → Rests rules.gives first limits (e ∷ seen) new) → Sends rules before old after new
   sends_event e before after old new is step first limits =
       grown e before after is (λ s. Rests rules.gives first limits s old × Always (IsHonest rules first limits) s) (λ s. Rests rules.gives first limits s new × Always (IsHonest rules first limits) s)
       (λ seen p. (let now = step first limits seen p.0 in (now, (honest rules first limits (e ∷ seen) new now.stands, p.1))))
@@ -105,7 +105,7 @@ module _ {S : Type 0} (rules : Rules S) where
       same before after is (λ s. Rests rules.gives first limits s old × Always (IsHonest rules first limits) s) (λ s. Always (IsHonest rules first limits) s) (λ seen p. p.1)
 
   pub fails_rested_event : (e : Happened) (before after : Option (List Happened)) (old : Keep S) → Grows e before after →
-      ((first : S) (limits : Limits) (seen : List Happened) → Rests rules.gives first limits seen old → IsHonest rules first limits (e ∷ seen)) → FailsRested rules before old after
+      ((first : S) (limits : LoopLimits) (seen : List Happened) → Rests rules.gives first limits seen old → IsHonest rules first limits (e ∷ seen)) → FailsRested rules before old after
   fails_rested_event e before after old is step first limits =
       grown e before after is (λ s. Rests rules.gives first limits s old × Always (IsHonest rules first limits) s) (λ s. Always (IsHonest rules first limits) s)
       (λ seen p. (step first limits seen p.0, p.1))
@@ -122,7 +122,7 @@ module _ {S : Type 0} (rules : Rules S) where
 
   pub sends_wrote : (who n : ℕ) (bytes : List ℕ) (before after : Option (List Happened)) (old new : Keep S) → Grows (Wrote who (take n bytes)) before after →
       bytes ≡ owed_to old.post.places.items who →
-      ((first : S) (limits : Limits) (seen : List Happened) → Rests rules.gives first limits seen old → Rests rules.gives first limits (Wrote who (take n (owed_to old.post.places.items who)) ∷ seen) new) →
+      ((first : S) (limits : LoopLimits) (seen : List Happened) → Rests rules.gives first limits seen old → Rests rules.gives first limits (Wrote who (take n (owed_to old.post.places.items who)) ∷ seen) new) →
       Sends rules before old after new
   sends_wrote who n bytes before after old new is are step =
       sends_event (Wrote who (take n bytes)) before after old new is
@@ -173,8 +173,8 @@ module _ {S : Type 0} (rules : Rules S) where
 
   -- a journal has begun anew, where all lines are kept, or could not
   pub renews_changed : (journal : ℕ) (front : List ℕ) (went : Bool) (before after : Option (List Happened)) (old new : Keep S) → GrowsIf went (Changed journal front) before after →
-      (went ≡ true → (first : S) (limits : Limits) (seen : List Happened) → Rests rules.gives first limits seen old → Stands rules.gives first limits (Changed journal front ∷ seen) new) →
-      (went ≡ false → (first : S) (limits : Limits) (seen : List Happened) → Stands rules.gives first limits seen old → Stands rules.gives first limits seen new) → Renews rules before old after new
+      (went ≡ true → (first : S) (limits : LoopLimits) (seen : List Happened) → Rests rules.gives first limits seen old → Stands rules.gives first limits (Changed journal front ∷ seen) new) →
+      (went ≡ false → (first : S) (limits : LoopLimits) (seen : List Happened) → Stands rules.gives first limits seen old → Stands rules.gives first limits seen new) → Renews rules before old after new
   renews_changed journal front true before after old new is renewed stays first limits =
       grown (Changed journal front) before after is (λ s. Rests rules.gives first limits s old × Always (IsHonest rules first limits) s)
       (λ s. Stands rules.gives first limits s new × Always (IsHonest rules first limits) s)

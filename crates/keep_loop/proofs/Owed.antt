@@ -6,7 +6,7 @@ use Rattle.post_core.specs.Texts.{Begins, text_at, to}
 use Rattle.post_core.specs.Turns.{Turn, joins, said_to, added_by, has_joined}
 use Rattle.post_core.specs.Posts.{is_here, is_here_in, owed_to, Writes}
 use Rattle.keep_loop.specs.Stands.{Owes}
-use Rattle.keep_loop.specs.declared.keep.Limits.{Limits}
+use Rattle.keep_loop.specs.declared.keep.LoopLimits.{LoopLimits}
 use Rattle.post_core.specs.declared.post.Post.{Post}
 use Rattle.keep_loop.proofs.Turns.{joined_last, said_last, said_first, said_more, added_last, begins_more, begins_twice}
 
@@ -16,7 +16,7 @@ GoesOn old new base t c =
     ((is_here old.places.items c ≡ true) × (owed_to new.places.items c ≡ owed_to old.places.items c ++ to c t.said))
     ⊎ ((base ≤ c) × (joins c t.asked ≡ true) × (owed_to new.places.items c ≡ to c t.said))
 
-module _ (limits : Limits) (written kept added : ℕ → List ℕ) where
+module _ (limits : LoopLimits) (written kept added : ℕ → List ℕ) where
   -- a turn
   pub owes_turn : (old new : Post) (base next : ℕ) (kept_turns later : List Turn) (t : Turn) → base ≤ next →
       length new.lines.items ≡ length old.lines.items →

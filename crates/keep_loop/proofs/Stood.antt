@@ -13,7 +13,7 @@ use Rattle.post_core.specs.declared.post.Stage.TheVariants.{Gone}
 use Rattle.post_core.specs.Posts.{is_here_in, hears_in, stage_of, is_here, hears, owed_to, Tells, Opens, Closes, Writes, Does}
 use Rattle.keep_loop.specs.Stands.{Owes, Heeds, Stands, Rests, held_of}
 use Rattle.keep_loop.specs.declared.keep.Keep.{Keep}
-use Rattle.keep_loop.specs.declared.keep.Limits.{Limits}
+use Rattle.keep_loop.specs.declared.keep.LoopLimits.{LoopLimits}
 use Rattle.post_core.specs.declared.post.Post.{Post}
 use Rattle.post_core.specs.declared.post.Text.{Text}
 use Rattle.post_core.specs.declared.served.LineEnd.{LineEnd}
@@ -71,7 +71,7 @@ held_apart_more places held now who c count one two not x is =
     is ∙ ap (λ n. held_of held c ++ (if (who % n) == (c % n) then x else [])) count ∙ ap (λ b. held_of held c ++ (if b then x else [])) (same_place places who c one two ∙ not)
     ∙ append-nil (held_of held c)
 
-module _ {S : Type 0} (gives : Gives S) (first : S) (limits : Limits) where
+module _ {S : Type 0} (gives : Gives S) (first : S) (limits : LoopLimits) where
   -- nothing is done
   pub stands_same : (seen : List Happened) (keep new : Keep S) → new.object ≡ keep.object → new.held ≡ keep.held → new.base ≡ keep.base → new.limits ≡ keep.limits →
       Tells keep.post new.post [] [] → Stands gives first limits seen keep → Stands gives first limits seen new

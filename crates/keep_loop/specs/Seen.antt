@@ -1,8 +1,8 @@
 -- What is seen of a server from outside, the newest first.
 use Rattle.std.specs.Prelude.{◌≡◌, ℕ, ◌+◌, Bool, true, false, Option, Some, None, List, [], ◌∷◌, ◌++◌, if◌then◌else◌, ◌==◌}
 use Rattle.post_core.specs.Turns.{is_joining}
-use Rattle.keep_loop.specs.declared.outside.Read.{Read}
-use Rattle.keep_loop.specs.declared.outside.Read.TheVariants as reads
+use Rattle.keep_loop.specs.declared.outside.ReadEnd.{ReadEnd}
+use Rattle.keep_loop.specs.declared.outside.ReadEnd.TheVariants as reads
 use Rattle.post_core.specs.declared.served.Note.{Note}
 
 -- bytes of a connection came; its input ended; it broke; bytes were written to it; a note; lines were handed to a journal;
@@ -18,7 +18,7 @@ pub data Happened : Type 0 where
   Changed : (journal : ℕ) → (front : List ℕ) → Happened
 
 -- what a read saw
-abbrev pub read_of : ℕ → List ℕ → Read → Happened
+abbrev pub read_of : ℕ → List ℕ → ReadEnd → Happened
 read_of who bytes reads.More = Came who bytes
 read_of who bytes reads.NoMore = Came who bytes
 read_of who bytes reads.Ended = Ended who

@@ -7,7 +7,7 @@ use Rattle.keep_loop.specs.Seen.{Happened, came_from, ended_in, written_to, note
 use Rattle.post_core.specs.Texts.{Begins, text_at}
 use Rattle.post_core.specs.Turns.{Turn, Gives, Runs, said_to, heard_of, added_by, notes_by, has_joined}
 use Rattle.keep_loop.specs.declared.keep.Keep.{Keep}
-use Rattle.keep_loop.specs.declared.keep.Limits.{Limits}
+use Rattle.keep_loop.specs.declared.keep.LoopLimits.{LoopLimits}
 use Rattle.post_core.specs.declared.post.Post.{Post}
 use Rattle.post_core.specs.declared.post.Text.{Text}
 use Rattle.post_core.specs.declared.served.Note.{Note}
@@ -15,7 +15,7 @@ use Rattle.post_core.specs.declared.served.Note.{Note}
 -- There is one sequential history, such that what each connection said begins with its lines in it, and what each was
 -- written is a front of what the history tells it, no further than the lines of all turns up to there are kept. Numbers of
 -- connections never come twice. Each journal last began anew in a turn of the history, or has just done so
-pub record IsHonest {S : Type 0} (rules : Rules S) (first : S) (limits : Limits) (seen : List Happened) : Type 0 where
+pub record IsHonest {S : Type 0} (rules : Rules S) (first : S) (limits : LoopLimits) (seen : List Happened) : Type 0 where
   pub kept_turns : List Turn
   pub later : List Turn
   pub last : S
@@ -35,7 +35,7 @@ pub record IsBetween (stored text found : List ℕ) : Type 0 where
 
 -- of one history, whose lines are those that are found in each journal, cut off somewhere: each connection was written a front
 -- of what a beginning of the history told it, and the lines of that beginning are all there
-pub record Survives {S : Type 0} (gives : Gives S) (first : S) (limits : Limits) (seen : List Happened) (found : ℕ → List ℕ) : Type 0 where
+pub record Survives {S : Type 0} (gives : Gives S) (first : S) (limits : LoopLimits) (seen : List Happened) (found : ℕ → List ℕ) : Type 0 where
   pub answered : List Turn
   pub later : List Turn
   pub last : S
@@ -47,14 +47,14 @@ pub record Survives {S : Type 0} (gives : Gives S) (first : S) (limits : Limits)
 
 -- The same, where of each journal the front is found by which it last began anew, and these lines behind it; and in this
 -- history it last began anew by that front
-pub record SurvivesSince {S : Type 0} (rules : Rules S) (first : S) (limits : Limits) (seen : List Happened) (found : ℕ → List ℕ) : Type 0 where
+pub record SurvivesSince {S : Type 0} (rules : Rules S) (first : S) (limits : LoopLimits) (seen : List Happened) (found : ℕ → List ℕ) : Type 0 where
   pub survives : Survives rules.gives first limits seen (λ j. before_in j seen ++ found j)
   pub begun : (j : ℕ) → j < limits.journals → HasBegun rules survives.last j seen (survives.answered ++ survives.later)
 
 -- The server has ended, and this is what it leaves of what it served: one history leads there, which has each note. What each
 -- connection said begins with its lines in it, and what each was written is a front of what it tells it. Each journal was
 -- handed the lines of the history and no others, and all of them are stored
-pub record HasEnded {S : Type 0} (gives : Gives S) (first : S) (limits : Limits) (seen : List Happened) (last : S) : Type 0 where
+pub record HasEnded {S : Type 0} (gives : Gives S) (first : S) (limits : LoopLimits) (seen : List Happened) (last : S) : Type 0 where
   pub turns : List Turn
   pub runs : Runs gives first turns last
   pub heard : (c : ℕ) → IsCut (ended_in c seen) (came_from c seen) (heard_of c turns)
@@ -64,7 +64,7 @@ pub record HasEnded {S : Type 0} (gives : Gives S) (first : S) (limits : Limits)
   pub stored : (j : ℕ) → j < limits.journals → stored_in j seen ≡ added_by j turns
 
 -- what is owed is what was said and not written, and what was added and not handed on
-pub record Owes (limits : Limits) (written kept added : ℕ → List ℕ) (post : Post) (base : ℕ) (kept_turns later : List Turn) : Type 0 where
+pub record Owes (limits : LoopLimits) (written kept added : ℕ → List ℕ) (post : Post) (base : ℕ) (kept_turns later : List Turn) : Type 0 where
   pub journals : length post.lines.items ≡ limits.journals
   pub begun_kept : (j : ℕ) → j < limits.journals → Begins (added_by j kept_turns) (kept j)
   pub even : (j : ℕ) → j < limits.journals → kept j ≡ added j
@@ -93,7 +93,7 @@ pub record Heeds (came : ℕ → List ℕ) (ended : ℕ → ℕ) (notes : List N
   pub unheard : (c : ℕ) → base ≤ c → (came c ≡ []) × (heard_of c all ≡ []) × (ended c ≡ 0)
 
 -- the loop's state says what was seen
-pub record Stands {S : Type 0} (gives : Gives S) (first : S) (limits : Limits) (seen : List Happened) (keep : Keep S) : Type 0 where
+pub record Stands {S : Type 0} (gives : Gives S) (first : S) (limits : LoopLimits) (seen : List Happened) (keep : Keep S) : Type 0 where
   pub kept_turns : List Turn
   pub later : List Turn
   pub limited : keep.limits ≡ limits
@@ -103,46 +103,46 @@ pub record Stands {S : Type 0} (gives : Gives S) (first : S) (limits : Limits) (
   pub begun : (j : ℕ) → j < limits.journals → AgreesIn j seen (kept_turns ++ later)
 
 -- and the lines of all turns are kept
-pub record Rests {S : Type 0} (gives : Gives S) (first : S) (limits : Limits) (seen : List Happened) (keep : Keep S) : Type 0 where
+pub record Rests {S : Type 0} (gives : Gives S) (first : S) (limits : LoopLimits) (seen : List Happened) (keep : Keep S) : Type 0 where
   pub stands : Stands gives first limits seen keep
   pub none : stands.later ≡ []
 
 -- where it is known what was seen, it was honest at each moment, and
-abbrev pub Honest : {S : Type 0} → Rules S → S → Limits → Option (List Happened) → Type 0
+abbrev pub Honest : {S : Type 0} → Rules S → S → LoopLimits → Option (List Happened) → Type 0
 Honest rules first limits seen = IfSome seen (λ s. Always (IsHonest rules first limits) s)
 
-abbrev pub Good : {S : Type 0} → Rules S → S → Limits → Option (List Happened) → Keep S → Type 0
+abbrev pub Good : {S : Type 0} → Rules S → S → LoopLimits → Option (List Happened) → Keep S → Type 0
 Good rules first limits seen keep = IfSome seen (λ s. Stands rules.gives first limits s keep × Always (IsHonest rules first limits) s)
 
-abbrev pub Rested : {S : Type 0} → Rules S → S → Limits → Option (List Happened) → Keep S → Type 0
+abbrev pub Rested : {S : Type 0} → Rules S → S → LoopLimits → Option (List Happened) → Keep S → Type 0
 Rested rules first limits seen keep = IfSome seen (λ s. Rests rules.gives first limits s keep × Always (IsHonest rules first limits) s)
 
 -- what a step keeps: from a state that says what was seen to one, to one all of whose lines are kept, from one of these to
 -- another, and to one that says what was seen
 abbrev pub Keeps : {S : Type 0} → Rules S → Option (List Happened) → Keep S → Option (List Happened) → Keep S → Type 0
-Keeps {S} rules before old after new = (first : S) (limits : Limits) → Good rules first limits before old → Good rules first limits after new
+Keeps {S} rules before old after new = (first : S) (limits : LoopLimits) → Good rules first limits before old → Good rules first limits after new
 
 abbrev pub Settles : {S : Type 0} → Rules S → Option (List Happened) → Keep S → Option (List Happened) → Keep S → Type 0
-Settles {S} rules before old after new = (first : S) (limits : Limits) → Good rules first limits before old → Rested rules first limits after new
+Settles {S} rules before old after new = (first : S) (limits : LoopLimits) → Good rules first limits before old → Rested rules first limits after new
 
 abbrev pub Sends : {S : Type 0} → Rules S → Option (List Happened) → Keep S → Option (List Happened) → Keep S → Type 0
-Sends {S} rules before old after new = (first : S) (limits : Limits) → Rested rules first limits before old → Rested rules first limits after new
+Sends {S} rules before old after new = (first : S) (limits : LoopLimits) → Rested rules first limits before old → Rested rules first limits after new
 
 abbrev pub Renews : {S : Type 0} → Rules S → Option (List Happened) → Keep S → Option (List Happened) → Keep S → Type 0
-Renews {S} rules before old after new = (first : S) (limits : Limits) → Rested rules first limits before old → Good rules first limits after new
+Renews {S} rules before old after new = (first : S) (limits : LoopLimits) → Rested rules first limits before old → Good rules first limits after new
 
 abbrev pub Fails : {S : Type 0} → Rules S → Option (List Happened) → Keep S → Option (List Happened) → Type 0
-Fails {S} rules before old after = (first : S) (limits : Limits) → Good rules first limits before old → Honest rules first limits after
+Fails {S} rules before old after = (first : S) (limits : LoopLimits) → Good rules first limits before old → Honest rules first limits after
 
 abbrev pub FailsRested : {S : Type 0} → Rules S → Option (List Happened) → Keep S → Option (List Happened) → Type 0
-FailsRested {S} rules before old after = (first : S) (limits : Limits) → Rested rules first limits before old → Honest rules first limits after
+FailsRested {S} rules before old after = (first : S) (limits : LoopLimits) → Rested rules first limits before old → Honest rules first limits after
 
 -- to an end: all lines are stored
-abbrev pub Ended : {S : Type 0} → Rules S → S → Limits → Option (List Happened) → S → Type 0
+abbrev pub Ended : {S : Type 0} → Rules S → S → LoopLimits → Option (List Happened) → S → Type 0
 Ended rules first limits seen last = IfSome seen (λ s. HasEnded rules.gives first limits s last × Always (IsHonest rules first limits) s)
 
 abbrev pub Ends : {S : Type 0} → Rules S → Option (List Happened) → Keep S → Option (List Happened) → S → Type 0
-Ends {S} rules before old after last = (first : S) (limits : Limits) → Good rules first limits before old → Ended rules first limits after last
+Ends {S} rules before old after last = (first : S) (limits : LoopLimits) → Good rules first limits before old → Ended rules first limits after last
 
 abbrev pub EndsRested : {S : Type 0} → Rules S → Option (List Happened) → Keep S → Option (List Happened) → S → Type 0
-EndsRested {S} rules before old after last = (first : S) (limits : Limits) → Rested rules first limits before old → Ended rules first limits after last
+EndsRested {S} rules before old after last = (first : S) (limits : LoopLimits) → Rested rules first limits before old → Ended rules first limits after last

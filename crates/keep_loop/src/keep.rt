@@ -13,7 +13,7 @@ ghost use Rattle.post_core.specs.Turns.Asked.{Heard};
 ghost use Rattle.post_core.specs.declared.served.Note.TheVariants.{Joins, Leaves};
 
 use crate::cut::split_line;
-use crate::outside::Read;
+use crate::outside::ReadEnd;
 use post_core::post::{Post, Text, clear, join, no_texts};
 use post_core::served::{LineEnd, Note, Served};
 use std::alloc::{AllocError, Global};
@@ -26,7 +26,7 @@ const MOST_OWED: usize = 65_536;
 
 /// How many connections and journals a loop has.
 #[derive(Clone, Copy, Debug, PartialEq, Eq)]
-pub struct Limits {
+pub struct LoopLimits {
     /// The most connections at once. One more waits until another is closed.
     pub places: usize,
     /// The number of journals.
@@ -49,7 +49,7 @@ pub struct Keep<O> {
     pub(crate) free: Vec<usize>,
     // Whether a place was let go since one was last looked for.
     pub(crate) has_freed: bool,
-    pub(crate) limits: Limits,
+    pub(crate) limits: LoopLimits,
 }
 
 // The places from 0 on, so many, the lowest last.
@@ -93,7 +93,7 @@ fn is_too_long(held: &[u8], more: &[u8]) -> bool
 
 impl<O: Served + Drop> Keep<O> {
     /// An object with no connections yet. The error is that memory was refused.
-    pub fn new(alloc: Global, object: O, limits: Limits) -> Result<Keep<O>, AllocError>
+    pub fn new(alloc: Global, object: O, limits: LoopLimits) -> Result<Keep<O>, AllocError>
         ensures stands { IfOk result (λ keep. Stands O.gives object limits [] keep) }
     {
         let post = Post::new(alloc, limits.places, limits.journals)?;
@@ -145,7 +145,7 @@ impl<O: Served> Keep<O> {
 
     // Connections are looked for that wait for a place.
     pub(crate) fn looks(&mut self)
-        ensures stands { (first : O) (limits : Limits) (seen : List Happened) → Stands O.gives first limits seen self.old
+        ensures stands { (first : O) (limits : LoopLimits) (seen : List Happened) → Stands O.gives first limits seen self.old
             → Stands O.gives first limits seen self.new }
     {
         self.has_freed = false;
@@ -157,7 +157,7 @@ impl<O: Served> Keep<O> {
         requires below { who < next }
         requires some { 0 < length self.old.post.places.items }
         requires held { 0 < length self.old.held.items }
-        ensures stands { OnOk result ((first : O) (limits : Limits) (seen : List Happened) → Stands O.gives first limits seen self.old
+        ensures stands { OnOk result ((first : O) (limits : LoopLimits) (seen : List Happened) → Stands O.gives first limits seen self.old
             → Stands O.gives first limits (Noticed (Joins who) ∷ seen) self.new) }
     {
         self.free.pop();
@@ -171,7 +171,7 @@ impl<O: Served> Keep<O> {
     /// Does what is to be done for a note, other than that a connection comes.
     pub(crate) fn noted(&mut self, note: Note) -> Result<(), AllocError>
         requires { (c : ℕ) → is_joining c note ≡ false }
-        ensures stands { OnOk result ((first : O) (limits : Limits) (seen : List Happened) → Stands O.gives first limits seen self.old
+        ensures stands { OnOk result ((first : O) (limits : LoopLimits) (seen : List Happened) → Stands O.gives first limits seen self.old
             → Stands O.gives first limits (Noticed note ∷ seen) self.new) }
     {
         self.object.note(note, &mut self.post)?;
@@ -180,7 +180,7 @@ impl<O: Served> Keep<O> {
 
     // Nothing more is read of a connection.
     pub(crate) fn left(&mut self, who: u64) -> Result<(), AllocError>
-        ensures stands { OnOk result ((first : O) (limits : Limits) (seen : List Happened) → Stands O.gives first limits seen self.old
+        ensures stands { OnOk result ((first : O) (limits : LoopLimits) (seen : List Happened) → Stands O.gives first limits seen self.old
             → Stands O.gives first limits (Noticed (Leaves who) ∷ seen) self.new) }
     {
         self.post.leave(who)?;
@@ -196,9 +196,9 @@ impl<O: Served> Keep<O> {
         went: bool,
     ) -> Result<(), AllocError>
         requires { O.fronts self.old.object journal front.now }
-        ensures renewed { OnOk result (went ≡ true → (first : O) (limits : Limits) (seen : List Happened) → Rests O.gives first limits seen self.old
+        ensures renewed { OnOk result (went ≡ true → (first : O) (limits : LoopLimits) (seen : List Happened) → Rests O.gives first limits seen self.old
             → Stands O.gives first limits (Changed journal front.now ∷ seen) self.new) }
-        ensures stays { OnOk result (went ≡ false → (first : O) (limits : Limits) (seen : List Happened) → Stands O.gives first limits seen self.old
+        ensures stays { OnOk result (went ≡ false → (first : O) (limits : LoopLimits) (seen : List Happened) → Stands O.gives first limits seen self.old
             → Stands O.gives first limits seen self.new) }
     {
         self.object.changed(journal, front, went)?;
@@ -271,7 +271,7 @@ impl<O: Served> Keep<O> {
         requires clear { NoLineFeed front.now }
         ensures count { OnOk result (length self.new.held.items ≡ length self.old.held.items) }
         ensures base { OnOk result (self.new.base ≡ self.old.base) }
-        ensures stands { OnOk result ((first : O) (limits : Limits) (seen : List Happened) (done : List ℕ) → ended_in who seen ≡ 0
+        ensures stands { OnOk result ((first : O) (limits : LoopLimits) (seen : List Happened) (done : List ℕ) → ended_in who seen ≡ 0
             → Stands O.gives first limits (Came who done ∷ seen) self.old
             → Stands O.gives first limits (Came who (done ++ (front.now ++ 10 ∷ [])) ∷ seen) self.new) }
     {
@@ -288,7 +288,7 @@ impl<O: Served> Keep<O> {
         requires some { 0 < length self.old.held.items }
         requires hears { hears self.old.post.places.items who ≡ true }
         requires clear { NoLineFeed rest.now }
-        ensures stands { OnOk result ((first : O) (limits : Limits) (seen : List Happened) (done : List ℕ) → ended_in who seen ≡ 0
+        ensures stands { OnOk result ((first : O) (limits : LoopLimits) (seen : List Happened) (done : List ℕ) → ended_in who seen ≡ 0
             → Stands O.gives first limits (Came who done ∷ seen) self.old
             → Stands O.gives first limits (Came who (done ++ rest.now) ∷ seen) self.new) }
     {
@@ -304,7 +304,7 @@ impl<O: Served> Keep<O> {
     fn heard(&mut self, who: u64, piece: &[u8]) -> Result<(), AllocError>
         requires some { 0 < length self.old.held.items }
         requires hears { hears self.old.post.places.items who ≡ true }
-        ensures stands { OnOk result ((first : O) (limits : Limits) (seen : List Happened) → Stands O.gives first limits seen self.old
+        ensures stands { OnOk result ((first : O) (limits : LoopLimits) (seen : List Happened) → Stands O.gives first limits seen self.old
             → Stands O.gives first limits (Came who piece.now ∷ seen) self.new) }
     {
         let mut rest = piece;
@@ -326,7 +326,7 @@ impl<O: Served> Keep<O> {
     fn heard_more(&mut self, who: u64, piece: &[u8]) -> Result<(), AllocError>
         requires some { 0 < length self.old.held.items }
         requires hears { hears self.old.post.places.items who ≡ true }
-        ensures stands { OnOk result ((first : O) (limits : Limits) (seen : List Happened) → Stands O.gives first limits seen self.old
+        ensures stands { OnOk result ((first : O) (limits : LoopLimits) (seen : List Happened) → Stands O.gives first limits seen self.old
             → Stands O.gives first limits (Came who piece.now ∷ seen) self.new) }
     {
         self.heard(who, piece)?;
@@ -338,7 +338,7 @@ impl<O: Served> Keep<O> {
     fn ended(&mut self, who: u64) -> Result<(), AllocError>
         requires some { 0 < length self.old.held.items }
         requires hears { hears self.old.post.places.items who ≡ true }
-        ensures stands { OnOk result ((first : O) (limits : Limits) (seen : List Happened) → Stands O.gives first limits seen self.old
+        ensures stands { OnOk result ((first : O) (limits : LoopLimits) (seen : List Happened) → Stands O.gives first limits seen self.old
             → Stands O.gives first limits (Ended who ∷ seen) self.new) }
     {
         if self.held(who).is_empty() {
@@ -351,7 +351,7 @@ impl<O: Served> Keep<O> {
 
     // A connection broke.
     pub(crate) fn broke(&mut self, who: u64) -> Result<(), AllocError>
-        ensures stands { OnOk result ((first : O) (limits : Limits) (seen : List Happened) → Stands O.gives first limits seen self.old
+        ensures stands { OnOk result ((first : O) (limits : LoopLimits) (seen : List Happened) → Stands O.gives first limits seen self.old
             → Stands O.gives first limits (Broke who ∷ seen) self.new) }
     {
         self.post.quit(who)?;
@@ -370,17 +370,17 @@ impl<O: Served> Keep<O> {
     }
 
     // Hears what a read brought.
-    pub(crate) fn came(&mut self, who: u64, piece: &[u8], read: Read) -> Result<(), AllocError>
+    pub(crate) fn came(&mut self, who: u64, piece: &[u8], read: ReadEnd) -> Result<(), AllocError>
         requires some { 0 < length self.old.held.items }
         requires hears { hears self.old.post.places.items who ≡ true }
-        ensures stands { OnOk result ((first : O) (limits : Limits) (seen : List Happened) → Stands O.gives first limits seen self.old
+        ensures stands { OnOk result ((first : O) (limits : LoopLimits) (seen : List Happened) → Stands O.gives first limits seen self.old
             → Stands O.gives first limits (read_of who piece.now read ∷ seen) self.new) }
     {
         match read {
-            Read::More => self.heard_more(who, piece)?,
-            Read::NoMore => self.heard(who, piece)?,
-            Read::Ended => self.ended(who)?,
-            Read::Broken => self.broke(who)?,
+            ReadEnd::More => self.heard_more(who, piece)?,
+            ReadEnd::NoMore => self.heard(who, piece)?,
+            ReadEnd::Ended => self.ended(who)?,
+            ReadEnd::Broken => self.broke(who)?,
         }
         Ok(())
     }
@@ -389,7 +389,7 @@ impl<O: Served> Keep<O> {
     pub(crate) fn wrote(&mut self, who: u64, n: usize) -> Result<(), AllocError>
         requires here { is_here self.old.post.places.items who ≡ true }
         requires bound { n ≤ length (owed_to self.old.post.places.items who) }
-        ensures rests { OnOk result ((first : O) (limits : Limits) (seen : List Happened) → Rests O.gives first limits seen self.old
+        ensures rests { OnOk result ((first : O) (limits : LoopLimits) (seen : List Happened) → Rests O.gives first limits seen self.old
             → Rests O.gives first limits (Wrote who (take n (owed_to self.old.post.places.items who)) ∷ seen) self.new) }
     {
         let owed_much = self.post.owed(who).len() > MOST_OWED;
@@ -400,7 +400,7 @@ impl<O: Served> Keep<O> {
 
     // The connection that is to be read next, where there is one.
     pub(crate) fn next_called(&mut self) -> Option<u64>
-        ensures stands { (first : O) (limits : Limits) (seen : List Happened) → Stands O.gives first limits seen self.old
+        ensures stands { (first : O) (limits : LoopLimits) (seen : List Happened) → Stands O.gives first limits seen self.old
             → Stands O.gives first limits seen self.new }
     {
         self.post.next_called()
@@ -408,7 +408,7 @@ impl<O: Served> Keep<O> {
 
     // Whether a connection is not to be read for a while, which is then noted.
     pub(crate) fn pauses(&mut self, who: u64) -> Result<bool, AllocError>
-        ensures stands { OnOk result ((first : O) (limits : Limits) (seen : List Happened) → Stands O.gives first limits seen self.old
+        ensures stands { OnOk result ((first : O) (limits : LoopLimits) (seen : List Happened) → Stands O.gives first limits seen self.old
             → Stands O.gives first limits seen self.new) }
     {
         if self.object.may_read(who) {
@@ -420,7 +420,7 @@ impl<O: Served> Keep<O> {
 
     // The one that waits longest is read again, where it may be. Else it is answered, where it waits for what others do.
     pub(crate) fn resume_one(&mut self) -> Result<Option<u64>, AllocError>
-        ensures stands { OnOk result ((first : O) (limits : Limits) (seen : List Happened) → Stands O.gives first limits seen self.old
+        ensures stands { OnOk result ((first : O) (limits : LoopLimits) (seen : List Happened) → Stands O.gives first limits seen self.old
             → Stands O.gives first limits seen self.new) }
     {
         match self.post.next_paused() {
@@ -443,7 +443,7 @@ impl<O: Served> Keep<O> {
 
     // A connection that quit, where there is one of which the object was not told.
     pub(crate) fn next_quit(&mut self) -> Option<u64>
-        ensures stands { (first : O) (limits : Limits) (seen : List Happened) → Stands O.gives first limits seen self.old
+        ensures stands { (first : O) (limits : LoopLimits) (seen : List Happened) → Stands O.gives first limits seen self.old
             → Stands O.gives first limits seen self.new }
     {
         self.post.next_quit()
@@ -451,7 +451,7 @@ impl<O: Served> Keep<O> {
 
     // The connection that is to be written to next, where there is one.
     pub(crate) fn next_told(&mut self) -> Option<u64>
-        ensures rests { (first : O) (limits : Limits) (seen : List Happened) → Rests O.gives first limits seen self.old
+        ensures rests { (first : O) (limits : LoopLimits) (seen : List Happened) → Rests O.gives first limits seen self.old
             → Rests O.gives first limits seen self.new }
     {
         self.post.next_told()
@@ -488,7 +488,7 @@ impl<O: Served> Keep<O> {
 
     // A connection is closed.
     pub(crate) fn closed(&mut self, who: u64) -> Result<(), AllocError>
-        ensures rests { OnOk result ((first : O) (limits : Limits) (seen : List Happened) → Rests O.gives first limits seen self.old
+        ensures rests { OnOk result ((first : O) (limits : LoopLimits) (seen : List Happened) → Rests O.gives first limits seen self.old
             → Rests O.gives first limits seen self.new) }
     {
         self.has_freed = true;
@@ -501,7 +501,7 @@ impl<O: Served> Keep<O> {
 
     // It was not possible to write to a connection.
     pub(crate) fn unwritten(&mut self, who: u64) -> Result<(), AllocError>
-        ensures rests { OnOk result ((first : O) (limits : Limits) (seen : List Happened) → Rests O.gives first limits seen self.old
+        ensures rests { OnOk result ((first : O) (limits : LoopLimits) (seen : List Happened) → Rests O.gives first limits seen self.old
             → Rests O.gives first limits seen self.new) }
     {
         self.post.break_off(who)?;

@@ -8,9 +8,9 @@ mod laws;
 mod outside;
 mod rounds;
 
-pub use keep::{Limits, MOST_LINE};
+pub use keep::{LoopLimits, MOST_LINE};
 pub use laws::{crash_keeps_the_last_epoch, crash_keeps_what_was_answered};
-pub use outside::{Fault, Outside, Read, Visible};
+pub use outside::{Fault, Outside, ReadEnd, Visible};
 pub use post_core::post::{Place, Post, Stage, Text};
 pub use post_core::served::{LineEnd, Note, Served};
 pub use rounds::run;

@@ -24,7 +24,7 @@ impl From<AllocError> for Fault {
 
 /// What a read brought.
 #[derive(Clone, Copy, Debug, PartialEq, Eq)]
-pub enum Read {
+pub enum ReadEnd {
     /// These bytes, and there may be more.
     More,
     /// These bytes, which may be none, and there are no more for now: who has more will be told by `next`.
@@ -64,7 +64,7 @@ pub trait Outside {
         ensures none { result ≡ false → seen self.new ≡ seen self.old };
 
     /// Reads once, in place of what is in `piece`. At `Ended` and `Broken` what is then in `piece` counts for nothing.
-    fn read(&mut self, who: u64, piece: &mut Vec<u8>) -> Result<Read, AllocError>
+    fn read(&mut self, who: u64, piece: &mut Vec<u8>) -> Result<ReadEnd, AllocError>
         ensures ok { IfOk result (λ read. Grows (read_of who piece.new.items read) (seen self.old) (seen self.new)) }
         ensures err { OnErr result (seen self.new ≡ seen self.old) };
 

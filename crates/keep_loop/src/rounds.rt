@@ -8,7 +8,7 @@ ghost use Rattle.keep_loop.specs.Epochs.{rules_of};
 ghost use Rattle.keep_loop.specs.Stands.{IsHonest, HasEnded, Stands, Keeps, Settles, Sends, Renews, Ends, EndsRested, Fails, FailsRested};
 ghost use Rattle.post_core.specs.Texts.{text_at};
 
-use crate::keep::{Keep, Limits};
+use crate::keep::{Keep, LoopLimits};
 use crate::outside::{Fault, Outside, Visible};
 use post_core::served::{Note, Served};
 use std::alloc::{AllocError, Global};
@@ -29,7 +29,7 @@ const LAST_TICKS: u32 = 50;
 
 // A connection can be read or written again.
 fn ready<O: Served>(keep: &mut Keep<O>, who: u64) -> Result<(), AllocError>
-    ensures stands { OnOk result ((first : O) (limits : Limits) (seen : List Happened) → Stands O.gives first limits seen keep.old
+    ensures stands { OnOk result ((first : O) (limits : LoopLimits) (seen : List Happened) → Stands O.gives first limits seen keep.old
         → Stands O.gives first limits seen keep.new) }
 {
     keep.post.ready(who)?;
@@ -572,7 +572,7 @@ fn serve<O: Served + Visible, W: Outside>(
 pub fn run<O: Served + Visible + Drop, W: Outside>(
     alloc: Global,
     object: O,
-    limits: Limits,
+    limits: LoopLimits,
     outside: &mut W,
     rounds: u64,
 ) -> Result<O, Fault>

@@ -9,7 +9,7 @@ use answer_core::answer::REFUSED;
 use answer_core::explanation::explained;
 use answer_core::failure::Failure;
 use answer_core::said::{telling_of, written};
-use check_core::judge::{Judged, judge};
+use check_core::judge::{JudgedSource, judge};
 use command_line::past::Past;
 use command_line::request::Keeping;
 use custody_core::all::AllHeld;
@@ -263,10 +263,10 @@ pub fn begin_source<W: Write, E: Write, L: Write>(
 ) -> Result<Option<Kept>, Failure> {
     let alloc = rt.alloc();
     match judge(alloc, source)? {
-        Judged::Ready(accepted) => {
+        JudgedSource::Ready(accepted) => {
             begin_accepted(rt, accepted, rules, asked, away, pasts, writer, error, log)
         }
-        Judged::Told(lines) => {
+        JudgedSource::Told(lines) => {
             let ended = written(&lines, REFUSED, writer);
             let telling = telling_of(rt, asked.explain);
             explained(alloc, ended, telling, asked.file, source, None, error)?;

@@ -6,7 +6,7 @@ use answer_core::lack::{Lacking, Wanted};
 use answer_core::socket::{Socket, socket_at};
 use command_line::request::{Address, Keeping};
 use mio::net::{TcpListener as PortListener, UnixListener as PathListener};
-use mio_core::stream::Listener as Ears;
+use mio_core::stream::ClientListener as Ears;
 use std::alloc::{AllocError, Global};
 use std::io::{self, Write};
 use std::net::{Ipv4Addr, TcpListener};

@@ -1,7 +1,7 @@
 //! What is told of objects that are not begun with.
 
 use answer_core::failure::Failure;
-use audit_core::verdict::Fault as TraceFault;
+use audit_core::verdict::AuditFault as TraceFault;
 use decl_core::object::Object;
 use keep_core::open::push_damaged;
 use keep_core::start::NotBegun;

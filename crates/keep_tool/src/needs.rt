@@ -10,7 +10,7 @@ use command_line::mistakes::keep_error;
 use command_line::request::Keeping;
 use command_line::watching::{Apart, OddOption, Watching};
 use decl_core::hold::Rules;
-use mio_core::stream::Listener as Ears;
+use mio_core::stream::ClientListener as Ears;
 use std::alloc::Global;
 use std::fs::File;
 

@@ -15,12 +15,12 @@ use keep_log::line::LineForm;
 use keep_log::log::Log;
 use keep_log::logged::Logged;
 use keep_log::shown::Showing;
-use keep_loop::Limits as LoopLimits;
-use mio_core::clock::Pace;
+use keep_loop::LoopLimits;
+use mio_core::clock::Intervals;
 use mio_core::journals::Journals;
-use mio_core::stream::Listener;
+use mio_core::stream::ClientListener;
 use mio_core::traces::epoch_of;
-use mio_core::wires::{Serving, Wires};
+use mio_core::wires::{ServeOptions, Wires};
 use std::alloc::{AllocError, Global};
 use std::io::Write;
 use std::rt::Stderr;
@@ -101,10 +101,10 @@ fn server_of(asked: Keeping<'_>, watching: Watching, start: u64) -> Server {
 }
 
 // What serves the connections of a server: how long it waits, and for what it stops.
-fn serving_of(asked: Keeping<'_>) -> Serving {
-    Serving {
+fn serving_of(asked: Keeping<'_>) -> ServeOptions {
+    ServeOptions {
         places: asked.at_once,
-        pace: Pace {
+        pace: Intervals {
             tick: TICK,
             sync: pace_of(asked.sync),
         },
@@ -137,7 +137,7 @@ fn outside_of(
     fronts: &[Vec<u8>],
     asked: Keeping<'_>,
     watching: Watching,
-    listener: Listener,
+    listener: ClientListener,
     start: u64,
 ) -> Result<AllOutside, Failure> {
     let alloc = rt.alloc();
@@ -167,7 +167,7 @@ pub fn begin_outside<W: Write, L: Write>(
     fronts: &[Vec<u8>],
     asked: Keeping<'_>,
     watching: Watching,
-    listener: Listener,
+    listener: ClientListener,
     start: u64,
     writer: &mut W,
     log: &mut Log<HostRuntime, L>,

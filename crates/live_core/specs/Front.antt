@@ -13,7 +13,7 @@ use Rattle.live_core.specs.declared.past.PastRun.{PastRun}
 use Rattle.live_core.specs.declared.past.PastRun.TheVariants.{Calls, Begins, Ends}
 use Rattle.live_core.specs.declared.front.Front.{Front}
 use Rattle.live_core.specs.declared.front.CarriedCall.{CarriedCall}
-use Rattle.live_core.specs.declared.front.Client.{Client}
+use Rattle.live_core.specs.declared.front.NamedClient.{NamedClient}
 use Rattle.live_core.specs.declared.front.KeptCall.{KeptCall}
 use Rattle.live_core.specs.declared.front.Answer.{Answer}
 use Rattle.live_core.specs.declared.front.Answer.TheVariants.{Replied, Cancelled}
@@ -26,7 +26,7 @@ pub record Opening : Type 0 where
   pub past : List PastRun
   pub base : ℕ
   pub carried : List CarriedCall
-  pub clients : List Client
+  pub clients : List NamedClient
   pub kept : List KeptCall
 
 abbrev pub opening_of : Front → Opening
@@ -84,7 +84,7 @@ pub record IsCarried (o : ObjectForm) (c : CarriedCall) : Type 0 where
   pub session : IsSession c.session
   pub call : IsCall o c.operation c.arguments
 
-pub record IsClient (c : Client) : Type 0 where
+pub record IsClient (c : NamedClient) : Type 0 where
   pub session : IsSession c.session
   pub name : IsName c.name
   pub keys : IsLong c.keys

@@ -12,7 +12,7 @@ use Rattle.word_core.specs.Text.{operation_name, parts_words, reply_words, lines
 use Rattle.live_core.specs.declared.past.PastRun.{PastRun}
 use Rattle.live_core.specs.declared.past.PastRun.TheVariants.{Calls, Begins, Ends}
 use Rattle.live_core.specs.declared.front.CarriedCall.{CarriedCall}
-use Rattle.live_core.specs.declared.front.Client.{Client}
+use Rattle.live_core.specs.declared.front.NamedClient.{NamedClient}
 use Rattle.live_core.specs.declared.front.KeptCall.{KeptCall}
 use Rattle.live_core.specs.declared.front.Answer.{Answer}
 use Rattle.live_core.specs.declared.front.Answer.TheVariants.{Replied, Cancelled}
@@ -47,7 +47,7 @@ carried_words o c =
     bare (decimal c.number) ∷ bare (decimal c.told) ∷ session_word c.session ∷ call_words o c.operation c.arguments
 
 -- behind `client`: `sK NAME B`
-abbrev pub client_words : Client → List Word
+abbrev pub client_words : NamedClient → List Word
 client_words c = session_word c.session ∷ bare c.name ∷ bare (decimal c.keys) ∷ []
 
 -- `done`, `done VALUE`, `refused WORD`, `failed WORD` or `cancelled`
@@ -76,7 +76,7 @@ runs_text o runs = lines_of (rows (codes "past") (run_words o) runs)
 abbrev pub carried_text : ObjectForm → List CarriedCall → List ℕ
 carried_text o calls = lines_of (rows (codes "carried") (carried_words o) calls)
 
-abbrev pub clients_text : List Client → List ℕ
+abbrev pub clients_text : List NamedClient → List ℕ
 clients_text clients = lines_of (rows (codes "client") client_words clients)
 
 abbrev pub kept_text : ObjectForm → List KeptCall → List ℕ

@@ -11,7 +11,7 @@ ghost use Rattle.word_core.specs.Events.{body_at};
 ghost use Rattle.live_core.specs.Hall.{IsCallOf};
 ghost use Rattle.live_core.specs.Bodies.{GivesReply, FailsForMemory};
 
-use crate::call::Call;
+use crate::call::LiveCall;
 use apply_core::fits::arguments_fit;
 use apply_core::reply::{Failure, Reply};
 use decl_core::object::{Object, Operation, Part};
@@ -62,7 +62,7 @@ fn reply_of(
 }
 
 // Does a call on the values of all parts, in place.
-pub(crate) fn do_call(alloc: Global, object: &Object, call: &Call, parts: &mut Vec<Value>) -> Reply
+pub(crate) fn do_call(alloc: Global, object: &Object, call: &LiveCall, parts: &mut Vec<Value>) -> Reply
     requires call { IsCallOf (object_of object.now) call.now }
     requires held { map kind_of parts.old.items ≡ map (λ p. p.1) (object_of object.now).parts }
     ensures reply { IsReplyOn result (body_at (object_of object.now) call.now.operation) call.now.arguments

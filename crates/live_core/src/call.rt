@@ -9,14 +9,14 @@ use value_core::datum::Datum;
 
 /// A call: its number in this epoch, its session, its operation by the place in the object, and its arguments.
 #[derive(Drop)]
-pub struct Call {
+pub struct LiveCall {
     number: u32,
     session: u32,
     operation: OpId,
     arguments: Vec<Datum>,
 }
 
-impl Model for Call {
+impl Model for LiveCall {
     ghost use Rattle.word_core.specs.Events.{Called};
     ghost use Rattle.std.specs.Coded.{codes};
 
@@ -32,9 +32,9 @@ impl Model for Call {
     } };
 }
 
-impl Call {
+impl LiveCall {
     /// The call of this number.
-    pub fn new(number: u32, session: u32, operation: OpId, arguments: Vec<Datum>) -> Call
+    pub fn new(number: u32, session: u32, operation: OpId, arguments: Vec<Datum>) -> LiveCall
         ensures { result ≡ record {
           number = number;
           session = session;
@@ -42,7 +42,7 @@ impl Call {
           arguments = arguments.items;
         } }
     {
-        Call {
+        LiveCall {
             number,
             session,
             operation,
@@ -90,7 +90,7 @@ impl Call {
 #[derive(Drop)]
 pub struct Ran {
     /// The call.
-    pub call: Call,
+    pub call: LiveCall,
     /// What it replied.
     pub reply: Reply,
 }

@@ -24,7 +24,7 @@ pub struct Front {
     /// The calls that wait, by their numbers from 1; at most one of a session.
     pub carried: Vec<CarriedCall>,
     /// The clients that have a name; no two of one session or of one name.
-    pub clients: Vec<Client>,
+    pub clients: Vec<NamedClient>,
     /// The calls that are remembered, those of one session behind each other and in the order of their keys.
     pub kept: Vec<KeptCall>,
 }
@@ -46,7 +46,7 @@ pub struct CarriedCall {
 
 /// A client that has a name.
 #[derive(Drop)]
-pub struct Client {
+pub struct NamedClient {
     /// Its session, 1 to 65,535.
     pub session: u32,
     /// Its name.

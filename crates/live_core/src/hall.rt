@@ -15,11 +15,11 @@ ghost use Rattle.live_core.specs.Hall.{Told, trace, IsKept, IsHeld, IsCallOf, Ev
 ghost use Rattle.live_core.specs.Bodies.{IsFirstAt, IsNumberedAt, IsOfSessionAt};
 ghost use Rattle.live_core.specs.Epochs.{IsBegun, IsShortOf, told_behind};
 ghost use Rattle.live_core.specs.Answers.{asked, IsTaken, IsRefused, IsSetUp};
-ghost use Rattle.live_core.specs.declared.hall.Refusal.TheVariants.{Memory as OutOfMemory};
+ghost use Rattle.live_core.specs.declared.hall.CallRefusal.TheVariants.{Memory as OutOfMemory};
 ghost use Rattle.live_core.specs.Steps.{joined, Leaves, IsSame, RunsOne, SettlesTo};
 
 use crate::body::{are_of, do_call, fits};
-use crate::call::{Call, Limits, Ran};
+use crate::call::{LiveCall, Limits, Ran};
 use crate::waiting::{first_to_start, place_for, place_of, renumber, take_at};
 use decl_core::object::Object;
 use path_count::counters::Counters;
@@ -36,7 +36,7 @@ pub const MOST_NUMBERS: u32 = 65_536;
 
 /// Why a call is refused. The first that applies is told, in this order.
 #[derive(Clone, Copy, Debug, PartialEq, Eq, Error)]
-pub enum Refusal {
+pub enum CallRefusal {
     /// There is no such session: its number is 0, or above the limit.
     #[error("Gone")]
     Gone,
@@ -78,7 +78,7 @@ pub(crate) struct Hall {
     object: Object,
     counters: Counters,
     parts: Vec<Value>,
-    waiting: Vec<Call>,
+    waiting: Vec<LiveCall>,
     // the numbers that were given out in this epoch
     given: u32,
     // the calls of the past
@@ -261,28 +261,28 @@ impl Hall {
         session: u32,
         operation: OpId,
         arguments: &[Datum],
-    ) -> Option<Refusal>
+    ) -> Option<CallRefusal>
         ensures refused { IfSome result (λ f. (f ≢ OutOfMemory)
             × IsRefused self.now (asked self.now session operation arguments.now) f) }
         ensures taken { IfNone result (IsTaken self.now (asked self.now session operation arguments.now)) }
     {
         if session == 0 || session > u32::from(self.limits.sessions) {
-            return Some(Refusal::Gone);
+            return Some(CallRefusal::Gone);
         }
         if operation as usize >= self.object.operations.len() {
-            return Some(Refusal::UnknownOp);
+            return Some(CallRefusal::UnknownOp);
         }
         if !fits(&self.object, operation, arguments) {
-            return Some(Refusal::BadArgs);
+            return Some(CallRefusal::BadArgs);
         }
         if place_for(&self.waiting, session).is_some() {
-            return Some(Refusal::SessionBusy);
+            return Some(CallRefusal::SessionBusy);
         }
         if self.waiting.len() >= self.limits.waiting as usize {
-            return Some(Refusal::Full);
+            return Some(CallRefusal::Full);
         }
         if self.before >= MOST_NUMBERS || self.given >= MOST_NUMBERS - self.before {
-            return Some(Refusal::HistoryFull);
+            return Some(CallRefusal::HistoryFull);
         }
         None
     }
@@ -321,7 +321,7 @@ impl Hall {
         &self.parts
     }
 
-    pub(crate) fn waiting(&self) -> &[Call]
+    pub(crate) fn waiting(&self) -> &[LiveCall]
         ensures { result.now ≡ self.now.waiting }
     {
         &self.waiting
@@ -335,7 +335,7 @@ impl Hall {
     }
 
     // What an epoch ends with: the contents, and the calls that wait.
-    pub(crate) fn end(self) -> (Vec<Value>, Vec<Call>)
+    pub(crate) fn end(self) -> (Vec<Value>, Vec<LiveCall>)
         ensures contents { result.0.items ≡ self.contents }
         ensures waiting { result.1.items ≡ self.waiting }
     {
@@ -344,7 +344,7 @@ impl Hall {
     }
 
     // Takes out the waiting call at this place.
-    pub(crate) fn drop_at(&mut self, place: usize) -> Call
+    pub(crate) fn drop_at(&mut self, place: usize) -> LiveCall
         requires { place < length self.old.waiting }
         ensures left { Leaves self.old result self.new }
         ensures there { (c : Called) → slice_get self.old.waiting place ≡ Some c → result ≡ c }
@@ -383,7 +383,7 @@ impl Hall {
         self.waiting.reserve(1)?;
         let number = self.given + 1;
         self.waiting
-            .push_reserved(Call::new(number, session, operation, arguments));
+            .push_reserved(LiveCall::new(number, session, operation, arguments));
         self.given = number;
         Ok(number)
     }

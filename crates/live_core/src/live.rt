@@ -11,8 +11,8 @@ ghost use Rattle.live_core.specs.Steps.{joined, IsFixed, IsSame, Leaves, Settles
 ghost use Rattle.live_core.specs.Epochs.{IsBegun, told_behind};
 ghost use Rattle.live_core.specs.Answers.{asked, carried_from, IsTaken, IsRefused, IsSetUp};
 
-use crate::call::{Call, Carried, Limits, Ran};
-use crate::hall::{Hall, Refusal};
+use crate::call::{LiveCall, Carried, Limits, Ran};
+use crate::hall::{Hall, CallRefusal};
 use decl_core::object::Object;
 use path_count::counters::Counters;
 use path_count::past::PastEvent;
@@ -203,7 +203,7 @@ impl Live {
     }
 
     /// The calls that wait, in the order of their numbers.
-    pub fn waiting(&self) -> &[Call]
+    pub fn waiting(&self) -> &[LiveCall]
         ensures { result.now ≡ self.now.waiting }
     {
         self.hall.waiting()
@@ -217,7 +217,7 @@ impl Live {
     }
 
     /// What this epoch ends with: the contents and the calls that wait.
-    pub fn end(self) -> (Vec<Value>, Vec<Call>)
+    pub fn end(self) -> (Vec<Value>, Vec<LiveCall>)
         ensures contents { result.0.items ≡ self.contents }
         ensures waiting { result.1.items ≡ self.waiting }
     {
@@ -227,14 +227,14 @@ impl Live {
     /// Takes a call of a session, of the operation at this place of the object. Where it may start, it is done now, and
     /// then each waiting call that may start then, in the order of their numbers; else it waits.
     ///
-    /// The errors are those of [`Refusal`], in their order; a refused call takes no number and changes nothing. Where
+    /// The errors are those of [`CallRefusal`], in their order; a refused call takes no number and changes nothing. Where
     /// memory is refused to a body, its call fails (`failed N memory`).
     pub fn submit(
         &mut self,
         session: u32,
         operation: OpId,
         arguments: Vec<Datum>,
-    ) -> Result<Taken, Refusal>
+    ) -> Result<Taken, CallRefusal>
         ensures number { IfOk result (λ a. a.number ≡ self.old.given + 1) }
         ensures taken { IfOk result (λ a. IsTaken self.old (asked self.old session operation arguments.items)) }
         ensures settles { IfOk result (λ a. (t : Told) → IsHeld self.old t →
@@ -249,10 +249,10 @@ impl Live {
             return Err(refusal);
         }
         let Ok(mut ran) = Vec::with_capacity(self.alloc, self.hall.waits() + 1) else {
-            return Err(Refusal::Memory);
+            return Err(CallRefusal::Memory);
         };
         match self.hall.join(session, operation, arguments) {
-            Err(AllocError) => Err(Refusal::Memory),
+            Err(AllocError) => Err(CallRefusal::Memory),
             Ok(number) => {
                 self.hall.settle(&mut ran);
                 Ok(Taken { number, ran })

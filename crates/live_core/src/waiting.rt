@@ -11,11 +11,11 @@ ghost use Rattle.live_core.specs.Hall.{Every};
 ghost use Rattle.live_core.specs.Bodies.{IsFirstAt, IsNumberedAt, IsOfSessionAt};
 ghost use Rattle.live_core.specs.Epochs.{numbered_from};
 
-use crate::call::Call;
+use crate::call::LiveCall;
 use path_count::counters::Counters;
 
 // The place of the first of these calls that may start.
-pub(crate) fn first_to_start(counters: &Counters, waiting: &[Call]) -> Option<usize>
+pub(crate) fn first_to_start(counters: &Counters, waiting: &[LiveCall]) -> Option<usize>
     ensures some { (n : ℕ) (paths : List Path) (t : List Event) → StandsFor counters.now n paths t →
         Every (λ c. c.operation < n) waiting.now → IfSome result (IsFirstAt paths t waiting.now) }
     ensures none { (n : ℕ) (paths : List Path) (t : List Event) → StandsFor counters.now n paths t →
@@ -31,7 +31,7 @@ pub(crate) fn first_to_start(counters: &Counters, waiting: &[Call]) -> Option<us
 }
 
 // The place of the call of this session.
-pub(crate) fn place_for(waiting: &[Call], session: u32) -> Option<usize>
+pub(crate) fn place_for(waiting: &[LiveCall], session: u32) -> Option<usize>
     ensures some { IfSome result (IsOfSessionAt waiting.now session) }
     ensures none { IfNone result (Every (λ (c : Called). c.session ≢ session) waiting.now) }
 {
@@ -44,7 +44,7 @@ pub(crate) fn place_for(waiting: &[Call], session: u32) -> Option<usize>
 }
 
 // The place of the call of this number.
-pub(crate) fn place_of(waiting: &[Call], number: u32) -> Option<usize>
+pub(crate) fn place_of(waiting: &[LiveCall], number: u32) -> Option<usize>
     ensures some { IfSome result (IsNumberedAt waiting.now number) }
     ensures none { IfNone result (Every (λ (c : Called). c.number ≢ number) waiting.now) }
 {
@@ -57,7 +57,7 @@ pub(crate) fn place_of(waiting: &[Call], number: u32) -> Option<usize>
 }
 
 // Takes out the call at this place.
-pub(crate) fn take_at(waiting: &mut Vec<Call>, place: usize) -> Call
+pub(crate) fn take_at(waiting: &mut Vec<LiveCall>, place: usize) -> LiveCall
     requires { place < length waiting.old.items }
     ensures rest { waiting.new.items ≡ take place waiting.old.items ++ drop (place + 1) waiting.old.items }
     ensures call { (c : Called) → slice_get waiting.old.items place ≡ Some c → result ≡ c }
@@ -66,7 +66,7 @@ pub(crate) fn take_at(waiting: &mut Vec<Call>, place: usize) -> Call
 }
 
 // Gives them the numbers from 1, in their order.
-pub(crate) fn renumber(waiting: &mut Vec<Call>)
+pub(crate) fn renumber(waiting: &mut Vec<LiveCall>)
     requires { length waiting.old.items < 2 ^ 32 }
     ensures { waiting.new.items ≡ numbered_from 0 waiting.old.items }
 {

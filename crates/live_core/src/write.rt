@@ -13,7 +13,7 @@ ghost use Rattle.live_core.specs.Text.{answer_words, answer_of, call_words, kept
 ghost use Rattle.live_core.specs.Text.{clients_text};
 ghost use Rattle.live_core.specs.Text.{kept_text, calls_text, behind_parts, front_text};
 
-use crate::front::{Answer, CarriedCall, Client, Front, KeptCall};
+use crate::front::{Answer, CarriedCall, NamedClient, Front, KeptCall};
 use crate::past::PastRun;
 use apply_core::reply::Reply;
 use decl_core::object::{Object, Part};
@@ -347,14 +347,14 @@ fn push_all_carried(
 }
 
 // Adds the line of a client.
-fn push_one_client(out: &mut Vec<u8>, client: &Client) -> Result<(), AllocError>
+fn push_one_client(out: &mut Vec<u8>, client: &NamedClient) -> Result<(), AllocError>
     ensures { OnOk result (out.new.items ≡ out.old.items
         ++ line_of (bare (codes "client") ∷ client_words client.now)) }
 {
     push_client(out, client.session, client.name.as_bytes(), client.keys)
 }
 
-fn push_all_clients(out: &mut Vec<u8>, clients: &[Client]) -> Result<(), AllocError>
+fn push_all_clients(out: &mut Vec<u8>, clients: &[NamedClient]) -> Result<(), AllocError>
     ensures { OnOk result (out.new.items ≡ out.old.items ++ clients_text clients.now) }
 {
     for client in clients {

@@ -7,7 +7,7 @@ use std::time::{Clock, Duration, Instant};
 
 /// How often things are due, in milliseconds.
 #[derive(Clone, Copy, Debug, PartialEq, Eq)]
-pub struct Pace {
+pub struct Intervals {
     /// So often the object is told the time.
     pub tick: u64,
     /// So often journals are stored for which no answer waits. 0: never.
@@ -18,7 +18,7 @@ pub struct Pace {
 #[derive(Drop)]
 pub struct Watch {
     start: Instant,
-    pace: Pace,
+    pace: Intervals,
     tick_at: u64,
     sync_at: u64,
     time: u64,
@@ -26,7 +26,7 @@ pub struct Watch {
 
 impl Watch {
     /// It begins now. The error is that of the clock.
-    pub fn begin(clock: &impl Clock, pace: Pace) -> io::Result<Watch>
+    pub fn begin(clock: &impl Clock, pace: Intervals) -> io::Result<Watch>
         ensures now { IfOk result (λ watch. watch.time ≡ 0) }
         ensures tick { IfOk result (λ watch. watch.tick_at ≡ pace.tick) }
         ensures sync { IfOk result (λ watch. watch.sync_at ≡ pace.sync) }

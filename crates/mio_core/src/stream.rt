@@ -7,31 +7,31 @@ use std::net::Shutdown;
 
 /// Where clients connect. Nobody waits in an `accept`.
 #[derive(Drop)]
-pub enum Listener {
+pub enum ClientListener {
     /// At a port.
     Port(TcpListener),
     /// At the path of a socket.
     Path(UnixListener),
 }
 
-impl Listener {
+impl ClientListener {
     /// Has connections that wait be told. The error is that of the system.
     pub(crate) fn register(&mut self, registry: &Registry, token: Token) -> io::Result<()> {
         match self {
-            Listener::Port(listener) => registry.register(listener, token, Interest::READABLE),
-            Listener::Path(listener) => registry.register(listener, token, Interest::READABLE),
+            ClientListener::Port(listener) => registry.register(listener, token, Interest::READABLE),
+            ClientListener::Path(listener) => registry.register(listener, token, Interest::READABLE),
         }
     }
 
     /// Takes a connection that waits. The error is that of the system: `WouldBlock` where none waits.
     pub(crate) fn accept(&self) -> io::Result<Stream> {
         match self {
-            Listener::Port(listener) => {
+            ClientListener::Port(listener) => {
                 let (stream, _) = listener.accept()?;
                 let _ = stream.set_nodelay(true);
                 Ok(Stream::Port(stream))
             }
-            Listener::Path(listener) => {
+            ClientListener::Path(listener) => {
                 let (stream, _) = listener.accept()?;
                 Ok(Stream::Path(stream))
             }

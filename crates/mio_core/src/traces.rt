@@ -11,7 +11,7 @@ const MOST_AT_END: u32 = 64;
 
 // What is known of the files of one object.
 #[derive(Drop)]
-struct Row {
+struct TraceRow {
     name: String,
     // The number of the oldest file, and one more than that of the newest; both are 0 where there is none.
     oldest: u64,
@@ -28,7 +28,7 @@ pub struct Traces<R: Files + AllocGlobal> {
     folder: String,
     // The most bytes of all of them.
     most: u64,
-    rows: Vec<Row>,
+    rows: Vec<TraceRow>,
     told: bool,
 }
 
@@ -74,7 +74,7 @@ pub fn epoch_of(lines: &[u8]) -> Option<u64> {
     None
 }
 
-impl Row {
+impl TraceRow {
     // One file more.
     fn count(&mut self, number: u64, bytes: u64) {
         if self.behind == 0 {
@@ -102,7 +102,7 @@ impl<R: Files + AllocGlobal + Copy + Eprint + Drop> Traces<R> {
         let alloc = rt.alloc();
         let mut rows = Vec::new(alloc);
         for name in names {
-            let row = Row {
+            let row = TraceRow {
                 name: String::from_str(alloc, name.as_str()).ok()?,
                 oldest: 0,
                 behind: 0,

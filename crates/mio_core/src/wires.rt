@@ -1,10 +1,10 @@
 //! Connections by epoll, standard input as a stop, a clock, and journals.
 
-use crate::clock::{Pace, Watch};
+use crate::clock::{Intervals, Watch};
 use crate::journals::Journals;
 use crate::places::{Got, Places};
-use crate::stream::Listener;
-use keep_loop::{Fault, Outside, Read};
+use crate::stream::ClientListener;
+use keep_loop::{Fault, Outside, ReadEnd};
 use mio::unix::SourceFd;
 use mio::{Events, Interest, Poll, Token};
 use std::alloc::AllocError;
@@ -37,7 +37,7 @@ pub struct Wires<R: Files + AllocGlobal + Input, E: Write> {
     rt: R,
     poll: Poll,
     events: Events,
-    listener: Listener,
+    listener: ClientListener,
     // Whether somebody may wait to be taken.
     may_take: bool,
     // Whether somebody waits for whom the system had no file or memory.
@@ -59,11 +59,11 @@ pub struct Wires<R: Files + AllocGlobal + Input, E: Write> {
 
 /// How a server serves.
 #[derive(Clone, Copy, Debug, PartialEq, Eq)]
-pub struct Serving {
+pub struct ServeOptions {
     /// The most connections at once.
     pub places: usize,
     /// How often what is due.
-    pub pace: Pace,
+    pub pace: Intervals,
     /// Whether the end of standard input ends the server.
     pub stops_with_input: bool,
 }
@@ -79,9 +79,9 @@ impl<R: Files + AllocGlobal + Input + Clock + Eprint + Drop, E: Write + Drop> Wi
     pub fn open(
         net: &impl Net,
         rt: R,
-        mut listener: Listener,
+        mut listener: ClientListener,
         journals: Journals<R>,
-        serving: Serving,
+        serving: ServeOptions,
         errors: E,
     ) -> io::Result<Wires<R, E>> {
         let alloc = rt.alloc();
@@ -250,12 +250,12 @@ impl<R: Files + AllocGlobal + Input + Clock + Eprint + Drop, E: Write + Drop> Ou
         false
     }
 
-    fn read(&mut self, who: u64, piece: &mut Vec<u8>) -> Result<Read, AllocError> {
+    fn read(&mut self, who: u64, piece: &mut Vec<u8>) -> Result<ReadEnd, AllocError> {
         match self.places.read(who, piece)? {
-            Got::Some => Ok(Read::More),
-            Got::All => Ok(Read::NoMore),
-            Got::End => Ok(Read::Ended),
-            Got::Broken => Ok(Read::Broken),
+            Got::Some => Ok(ReadEnd::More),
+            Got::All => Ok(ReadEnd::NoMore),
+            Got::End => Ok(ReadEnd::Ended),
+            Got::Broken => Ok(ReadEnd::Broken),
         }
     }
 

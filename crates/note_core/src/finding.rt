@@ -2,16 +2,16 @@
 
 use crate::line_words::LineWords;
 use crate::page::{Page, push_said};
-use crate::said::{Said, Words, say};
+use crate::said::{Message, MessageWords, say};
 use crate::span::{Span, front, text_at};
 use std::alloc::{AllocError, Global};
 use word_core::number::{integer_of, session_of};
 
 /// A place of a text, and what is said of it. In the sentences `%` is what stands there.
 #[derive(Clone, Copy)]
-pub struct Finding {
+pub struct Diagnostic {
     pub span: Span,
-    pub said: Said,
+    pub said: Message,
 }
 
 // The most bytes of a word that a sentence shows.
@@ -42,15 +42,15 @@ pub fn push_finding(
     alloc: Global,
     out: &mut Vec<u8>,
     page: Page<'_>,
-    finding: Finding,
+    finding: Diagnostic,
 ) -> Result<(), AllocError> {
     let word = shown(alloc, text_at(page.source, finding.span))?;
     push_said(out, page, finding.span, finding.said, only(&word))
 }
 
 /// The words of a sentence that has one: `#` stands for itself there.
-pub fn only(first: &[u8]) -> Words<'_> {
-    Words {
+pub fn only(first: &[u8]) -> MessageWords<'_> {
+    MessageWords {
         first,
         second: b"",
         third: b"",
@@ -59,8 +59,8 @@ pub fn only(first: &[u8]) -> Words<'_> {
 }
 
 /// The words of a sentence that has two.
-pub fn two<'a>(first: &'a [u8], second: &'a [u8]) -> Words<'a> {
-    Words {
+pub fn two<'a>(first: &'a [u8], second: &'a [u8]) -> MessageWords<'a> {
+    MessageWords {
         first,
         second,
         third: b"",
@@ -73,17 +73,17 @@ fn at_word(
     words: &LineWords<'_>,
     number: usize,
     is_right: bool,
-    missing: Said,
-    wrong: Said,
-) -> Option<Finding> {
+    missing: Message,
+    wrong: Message,
+) -> Option<Diagnostic> {
     let span = words.span(number);
     match words.at(number) {
         None => match words.bad {
-            Some(span) => Some(Finding {
+            Some(span) => Some(Diagnostic {
                 span,
                 said: no_word(),
             }),
-            None => Some(Finding {
+            None => Some(Diagnostic {
                 span,
                 said: missing,
             }),
@@ -91,13 +91,13 @@ fn at_word(
         Some(_) => if is_right {
             None
         } else {
-            Some(Finding { span, said: wrong })
+            Some(Diagnostic { span, said: wrong })
         },
     }
 }
 
 /// What is said of something in a line that is no word.
-pub fn no_word() -> Said {
+pub fn no_word() -> Message {
     say(
         "this is not a text",
         "a text stands in apostrophes, as in 'tea', has at most 1000 bytes of 32 to 126, and a space comes after it; \
@@ -106,7 +106,7 @@ pub fn no_word() -> Said {
 }
 
 /// What is wrong with the word of this number, which has to be a session.
-pub fn wrong_session(words: &LineWords<'_>, number: usize) -> Option<Finding> {
+pub fn wrong_session(words: &LineWords<'_>, number: usize) -> Option<Diagnostic> {
     at_word(
         words,
         number,
@@ -123,7 +123,7 @@ pub fn wrong_session(words: &LineWords<'_>, number: usize) -> Option<Finding> {
 }
 
 /// What is wrong with the word of this number, which has to be the number of a call.
-pub fn wrong_call(words: &LineWords<'_>, number: usize) -> Option<Finding> {
+pub fn wrong_call(words: &LineWords<'_>, number: usize) -> Option<Diagnostic> {
     at_word(
         words,
         number,
@@ -140,7 +140,7 @@ pub fn wrong_call(words: &LineWords<'_>, number: usize) -> Option<Finding> {
 }
 
 /// What is wrong with the word of this number, which has to be the name of an operation.
-pub fn wrong_name(words: &LineWords<'_>, number: usize, is_right: bool) -> Option<Finding> {
+pub fn wrong_name(words: &LineWords<'_>, number: usize, is_right: bool) -> Option<Diagnostic> {
     at_word(
         words,
         number,
@@ -161,17 +161,17 @@ pub fn wrong_word(
     words: &LineWords<'_>,
     number: usize,
     is_right: bool,
-    missing: Said,
-    wrong: Said,
-) -> Option<Finding> {
+    missing: Message,
+    wrong: Message,
+) -> Option<Diagnostic> {
     at_word(words, number, is_right, missing, wrong)
 }
 
 /// What is wrong with the words from this number on, which have to be integers and texts.
-pub fn wrong_data(words: &LineWords<'_>, number: usize) -> Option<Finding> {
+pub fn wrong_data(words: &LineWords<'_>, number: usize) -> Option<Diagnostic> {
     for (place, placed) in words.all.iter().enumerate() {
         if place >= number && !placed.is_datum {
-            return Some(Finding {
+            return Some(Diagnostic {
                 span: placed.span,
                 said: say(
                     "`%` is neither an integer nor a text",
@@ -181,7 +181,7 @@ pub fn wrong_data(words: &LineWords<'_>, number: usize) -> Option<Finding> {
         }
     }
     match words.bad {
-        Some(span) => Some(Finding {
+        Some(span) => Some(Diagnostic {
             span,
             said: no_word(),
         }),
@@ -190,7 +190,7 @@ pub fn wrong_data(words: &LineWords<'_>, number: usize) -> Option<Finding> {
 }
 
 /// What is said where words from this number on are too many.
-pub fn surplus(words: &LineWords<'_>, number: usize, form: &'static str) -> Option<Finding> {
+pub fn surplus(words: &LineWords<'_>, number: usize, form: &'static str) -> Option<Diagnostic> {
     if words.at(number).is_none() && words.bad.is_none() {
         return None;
     }
@@ -201,7 +201,7 @@ pub fn surplus(words: &LineWords<'_>, number: usize, form: &'static str) -> Opti
             None => words.line,
         },
     };
-    Some(Finding {
+    Some(Diagnostic {
         span,
         said: say("`%` is too much in this line", form),
     })

@@ -6,7 +6,7 @@ use std::io::{self, ErrorKind, Read};
 /// A reader that hands on what another one gives, and keeps a copy of its first bytes as long as there is memory for
 /// that, and why a read failed last.
 #[derive(Drop)]
-pub struct Kept<R> {
+pub struct CopyingReader<R> {
     inner: R,
     most: usize,
     copy: Option<Vec<u8>>,
@@ -28,10 +28,10 @@ fn with_more(copy: Option<Vec<u8>>, most: usize, bytes: &[u8]) -> Option<Vec<u8>
     }
 }
 
-impl<R: Read + Drop> Kept<R> {
+impl<R: Read + Drop> CopyingReader<R> {
     /// A reader over another one, of which nothing has been read. It keeps so many bytes.
-    pub fn new(alloc: Global, inner: R, most: usize) -> Kept<R> {
-        Kept {
+    pub fn new(alloc: Global, inner: R, most: usize) -> CopyingReader<R> {
+        CopyingReader {
             inner,
             most,
             copy: Some(Vec::new(alloc)),
@@ -53,7 +53,7 @@ impl<R: Read + Drop> Kept<R> {
     }
 }
 
-impl<R: Read> Read for Kept<R> {
+impl<R: Read> Read for CopyingReader<R> {
     fn read(&mut self, buf: &mut [u8]) -> io::Result<usize> {
         match self.inner.read(buf) {
             Ok(count) => {

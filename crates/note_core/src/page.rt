@@ -1,7 +1,7 @@
 //! Notes on places of a source.
 
-use crate::place::{Place, place_of};
-use crate::said::{Said, Words, push_sentence};
+use crate::place::{Position, place_of};
+use crate::said::{Message, MessageWords, push_sentence};
 use crate::span::{Span, behind, front};
 use itoa::Buffer;
 use path_tree::token::Token;
@@ -138,7 +138,7 @@ fn push_caret(
 }
 
 // Adds `FILE:LINE:COLUMN: `.
-fn push_place(out: &mut Vec<u8>, file: &[u8], place: Place) -> Result<(), AllocError> {
+fn push_place(out: &mut Vec<u8>, file: &[u8], place: Position) -> Result<(), AllocError> {
     out.extend_from_slice(file)?;
     out.push(b':')?;
     push_number(out, place.line)?;
@@ -153,7 +153,7 @@ pub fn push_note(
     page: Page<'_>,
     span: Span,
     sentence: &str,
-    words: Words<'_>,
+    words: MessageWords<'_>,
 ) -> Result<(), AllocError> {
     let place = place_of(page.source, span.start);
     push_place(out, page.file, place)?;
@@ -173,7 +173,7 @@ pub fn push_note(
 }
 
 /// Adds a line that says what helps.
-pub fn push_help(out: &mut Vec<u8>, help: &str, words: Words<'_>) -> Result<(), AllocError> {
+pub fn push_help(out: &mut Vec<u8>, help: &str, words: MessageWords<'_>) -> Result<(), AllocError> {
     push_margin(out, b" = ")?;
     push_sentence(out, help, words)?;
     out.push(b'\n')?;
@@ -185,8 +185,8 @@ pub fn push_said(
     out: &mut Vec<u8>,
     page: Page<'_>,
     span: Span,
-    said: Said,
-    words: Words<'_>,
+    said: Message,
+    words: MessageWords<'_>,
 ) -> Result<(), AllocError> {
     push_note(out, page, span, said.sentence, words)?;
     push_help(out, said.help, words)

@@ -5,7 +5,7 @@ ghost use Rattle.note_core.specs.Places.{column_after, column_behind, column_of,
 
 /// Where a byte of a source stands.
 #[derive(Clone, Copy, Debug, PartialEq, Eq)]
-pub struct Place {
+pub struct Position {
     /// The line, from 1; a line feed ends a line.
     pub line: usize,
     /// The column, from 1. Columns count bytes: a TAB is one, and so is each byte of a character outside ASCII.
@@ -29,7 +29,7 @@ fn next_column(column: usize, byte: u8) -> usize
 }
 
 // The place behind these bytes of a source.
-fn place_behind(before: &[u8]) -> Place
+fn place_behind(before: &[u8]) -> Position
     ensures line { result.line ≡ line_after 1 before.now }
     ensures column { result.column ≡ column_after 1 before.now }
 {
@@ -41,7 +41,7 @@ fn place_behind(before: &[u8]) -> Place
         column = next_column(column, *byte);
         rest = tail;
     }
-    Place { line, column }
+    Position { line, column }
 }
 
 // The first bytes of a source, so many at most.
@@ -56,7 +56,7 @@ fn front(source: &[u8], at: usize) -> &[u8]
 }
 
 /// The place of a byte of a source, counted from 0; that of its end for each byte behind it.
-pub fn place_of(source: &[u8], at: usize) -> Place
+pub fn place_of(source: &[u8], at: usize) -> Position
     ensures line { result.line ≡ line_of source.now at }
     ensures column { result.column ≡ column_of source.now at }
 {

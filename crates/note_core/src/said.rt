@@ -4,14 +4,14 @@ use std::alloc::AllocError;
 
 /// What is said of a place: a sentence, and what would help. In both `%`, `$`, `@` and `#` stand for words.
 #[derive(Clone, Copy)]
-pub struct Said {
+pub struct Message {
     pub sentence: &'static str,
     pub help: &'static str,
 }
 
 /// The words of a sentence.
 #[derive(Clone, Copy)]
-pub struct Words<'a> {
+pub struct MessageWords<'a> {
     /// What `%` stands for.
     pub first: &'a [u8],
     /// What `$` stands for.
@@ -22,12 +22,12 @@ pub struct Words<'a> {
     pub fourth: &'a [u8],
 }
 
-pub fn say(sentence: &'static str, help: &'static str) -> Said {
-    Said { sentence, help }
+pub fn say(sentence: &'static str, help: &'static str) -> Message {
+    Message { sentence, help }
 }
 
 // Adds a byte of a sentence, or the word that it stands for.
-fn push_piece(out: &mut Vec<u8>, byte: u8, words: Words<'_>) -> Result<(), AllocError> {
+fn push_piece(out: &mut Vec<u8>, byte: u8, words: MessageWords<'_>) -> Result<(), AllocError> {
     match byte {
         b'%' => out.extend_from_slice(words.first),
         b'$' => out.extend_from_slice(words.second),
@@ -44,7 +44,7 @@ fn push_piece(out: &mut Vec<u8>, byte: u8, words: Words<'_>) -> Result<(), Alloc
 pub fn push_sentence(
     out: &mut Vec<u8>,
     sentence: &str,
-    words: Words<'_>,
+    words: MessageWords<'_>,
 ) -> Result<(), AllocError> {
     for byte in sentence.as_bytes() {
         push_piece(out, *byte, words)?;

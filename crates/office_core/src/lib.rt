@@ -6,7 +6,7 @@
 //! held for a call of the inside alone, never while a body runs.
 //!
 //! A `client_seat::Seat` is a session that was given out, with what its holder has seen of the history.
-//! `clients::Clients` is the table of names: a seat that was given out under a name can be parked, and is given out
+//! `clients::ClientPlaces` is the table of names: a seat that was given out under a name can be parked, and is given out
 //! again under that name. `seats::are_seats` answers whether seats, with those that are parked, are those of all
 //! sessions, each once.
 //!

@@ -5,13 +5,13 @@ use Rattle.device_core.specs.Papers.{Papers}
 use Rattle.hosted_core.specs.Scene.{Scene}
 use Rattle.keep_loop.specs.Seen.{Happened}
 use Rattle.keep_loop.specs.Stands.{HasEnded}
-use Rattle.keep_loop.specs.declared.keep.Limits.{Limits}
+use Rattle.keep_loop.specs.declared.keep.LoopLimits.{LoopLimits}
 use Rattle.keep_core.specs.Ending.{ObjectsAreSaved}
 use Rattle.post_core.specs.Turns.{Gives}
 use Rattle.pathserve.specs.Kept.{IsKept}
 
 -- what the loop handed back, with its objects saved
-pub kept_by : {T : Type 0} (gives : Gives T) (objects_of : T → List Scene) (first last : T) (limits : Limits) (seen : Option (List Happened)) (before after : Papers → Type 0) (objects : List Scene) →
+pub kept_by : {T : Type 0} (gives : Gives T) (objects_of : T → List Scene) (first last : T) (limits : LoopLimits) (seen : Option (List Happened)) (before after : Papers → Type 0) (objects : List Scene) →
     objects ≡ objects_of last → IfSome seen (λ s. HasEnded gives first limits s last) →
     ((papers : Papers) → after papers → (was : Papers) × before was × ObjectsAreSaved objects was papers) → IsKept gives objects_of first limits seen before after
 kept_by gives objects_of first last limits seen before after objects same ended saved = record {

@@ -12,7 +12,7 @@ ghost use Rattle.pathserve.specs.Kept.{IsKept};
 use answer_core::answer::{ACCEPTED, REFUSED};
 use answer_core::failure::Failure;
 use device_core::shelf::Shelf;
-use keep_loop::{Fault, Limits, Outside, run};
+use keep_loop::{Fault, LoopLimits, Outside, run};
 use keep_tool::ending::end_objects;
 use std::alloc::Global;
 use std::io::Write;
@@ -50,7 +50,7 @@ pub fn status_of_keep(end: KeepEnd) -> u8
 pub fn serve_table<O: Outside, S: Shelf, W: Write, E: Write>(
     alloc: Global,
     table: Table,
-    limits: Limits,
+    limits: LoopLimits,
     outside: &mut O,
     shelf: &mut S,
     writer: &mut W,

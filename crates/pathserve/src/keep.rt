@@ -13,7 +13,7 @@ use keep_tool::needs::{KeepNeeds, needs_of, watching_of};
 use keep_tool::outside::{begin_outside, form_of, limits_of};
 use keep_tool::pasts::pasts_in;
 use keep_tool::status::seconds_now;
-use mio_core::stream::Listener;
+use mio_core::stream::ClientListener;
 use std::io::{self, Write};
 use table_core::table::Table;
 
@@ -33,7 +33,7 @@ fn serve_kept<W: Write, E: Write, L: Write>(
     kept: Kept,
     asked: Keeping<'_>,
     watching: Watching,
-    listener: Listener,
+    listener: ClientListener,
     writer: &mut W,
     error: &mut E,
     log: &mut Log<HostRuntime, L>,
@@ -81,7 +81,7 @@ fn keep_source<W: Write, E: Write>(
     asked: Keeping<'_>,
     watching: Watching,
     pasts: &[Past<'_>],
-    listener: Listener,
+    listener: ClientListener,
     writer: &mut W,
     error: &mut E,
 ) -> Result<KeepEnd, Failure> {

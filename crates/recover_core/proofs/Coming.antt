@@ -2,7 +2,7 @@
 use Rattle.std.proofs.Common.{◌≡◌, ℕ, List, ◌∷◌, ◌++◌, Bool, false}
 use Rattle.std.specs.Prelude.{Option, Result, Ok, Err}
 use Rattle.apply_core.specs.declared.reply.Reply.{Reply}
-use Rattle.live_core.specs.declared.front.Client.{Client}
+use Rattle.live_core.specs.declared.front.NamedClient.{NamedClient}
 use Rattle.live_core.specs.declared.front.KeptCall.{KeptCall}
 use Rattle.guest_core.specs.declared.guest.Guest.{Guest}
 use Rattle.guest_core.specs.declared.keys.AskFault.{AskFault}
@@ -27,6 +27,6 @@ remembers old mid new session call told reply so asks named nameless = record {
 }
 
 -- a client more has come
-pub one_more : (now : ℕ) (old mid : Guests) (c : Client) (clients : List Client) (mine others kept : List KeptCall) → kept ≡ mine ++ others → Opens now old c mine mid →
+pub one_more : (now : ℕ) (old mid : Guests) (c : NamedClient) (clients : List NamedClient) (mine others kept : List KeptCall) → kept ≡ mine ++ others → Opens now old c mine mid →
     (new : Guests) → OpenAll now mid clients others new → OpenAll now old (c ∷ clients) kept new
 one_more now old mid c clients mine others kept cut opens new rest = (mine, others, mid, cut, opens, rest)

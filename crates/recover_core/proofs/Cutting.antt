@@ -3,7 +3,7 @@ use Rattle.std.proofs.Common.{◌≡◌, ℕ, ◌∷◌, [], ◌++◌, List, len
 use Rattle.std.proofs.lemmas.List.{append-nil}
 use Rattle.word_core.specs.Events.{Called}
 use Rattle.live_core.specs.declared.front.CarriedCall.{CarriedCall}
-use Rattle.audit_core.specs.declared.carried.Carried.{Carried}
+use Rattle.audit_core.specs.declared.carried.WaitedCall.{WaitedCall}
 use Rattle.audit_core.specs.Carried.{carried_calls}
 use Rattle.recover_core.specs.Lines.{IsLine, AreLines, joined}
 use Rattle.recover_core.specs.Carried.{calls_of}
@@ -24,15 +24,15 @@ pub take_front : {X : Type 0} (xs ys : List X) → take (length xs) (xs ++ ys) �
 take_front [] ys = refl
 take_front (x ∷ xs) ys = ap (λ l. x ∷ l) (take_front xs ys)
 
-abbrev call_of : Carried → Called
+abbrev call_of : WaitedCall → Called
 call_of c = record { number = c.number; session = c.session; operation = c.operation; arguments = c.arguments }
 
-carried_push : (all : List Carried) (c : Carried) (more : List Called) → carried_calls (all ++ c ∷ []) ++ more ≡ carried_calls all ++ call_of c ∷ more
+carried_push : (all : List WaitedCall) (c : WaitedCall) (more : List Called) → carried_calls (all ++ c ∷ []) ++ more ≡ carried_calls all ++ call_of c ∷ more
 carried_push [] c more = refl
 carried_push (x ∷ all) c more = ap (λ l. call_of x ∷ l) (carried_push all c more)
 
 -- a waiting call more
-pub carried_more : (all : List Carried) (c : Carried) (call : CarriedCall) (more : List CarriedCall) (whole : List Called) → (c.number ≡ call.number) × (c.session ≡ call.session) × (c.operation ≡ call.operation) × (c.arguments ≡ call.arguments) →
+pub carried_more : (all : List WaitedCall) (c : WaitedCall) (call : CarriedCall) (more : List CarriedCall) (whole : List Called) → (c.number ≡ call.number) × (c.session ≡ call.session) × (c.operation ≡ call.operation) × (c.arguments ≡ call.arguments) →
     carried_calls all ++ calls_of (call ∷ more) ≡ whole → carried_calls (all ++ c ∷ []) ++ calls_of more ≡ whole
 carried_more all c call more whole same is =
     let one : ◌≡◌ {A = Called} (call_of c) (record { number = call.number; session = call.session; operation = call.operation; arguments = call.arguments }) =

@@ -9,9 +9,9 @@ use Rattle.decl_core.specs.ObjectForm.{ObjectForm}
 use Rattle.audit_core.specs.View.{told_view}
 use Rattle.live_core.specs.Front.{Opening}
 use Rattle.guest_core.specs.Guests.{Guests}
-use Rattle.audit_core.specs.declared.epoch_replay.Note.{Note}
+use Rattle.audit_core.specs.declared.epoch_replay.ReplayNote.{ReplayNote}
 use Rattle.audit_core.specs.declared.epoch_replay.Replay.{Replay}
-use Rattle.audit_core.specs.declared.epoch_replay.Note.TheVariants as notes
+use Rattle.audit_core.specs.declared.epoch_replay.ReplayNote.TheVariants as notes
 use Rattle.audit_core.specs.EpochSaid.{Says, Asked, a_start}
 use Rattle.audit_core.specs.Steps.{Step, ran, cancelled, named, Heard, nothing_heard, ended_in}
 use Rattle.audit_core.specs.EpochTells.{Tells, Tell, start_told, end_told, cancel_told, name_told}
@@ -20,8 +20,8 @@ use Rattle.audit_core.specs.EpochStands.{Stands, IsNote, known_call}
 use Rattle.audit_core.proofs.EpochStanding.{stands_sound}
 use Rattle.audit_core.proofs.EpochExact.{sound_no_fault}
 use Rattle.recover_core.specs.declared.playing.Playing.{Playing}
-use Rattle.recover_core.specs.declared.playing.Refused.{Refused}
-use Rattle.recover_core.specs.declared.playing.Refused.TheVariants.{Faulty, Odd}
+use Rattle.recover_core.specs.declared.playing.RefusedLine.{RefusedLine}
+use Rattle.recover_core.specs.declared.playing.RefusedLine.TheVariants.{Faulty, Odd}
 use Rattle.recover_core.specs.Lines.{IsLine, AreLines, joined}
 use Rattle.recover_core.specs.Clients.{Makes, MakeAll}
 use Rattle.recover_core.specs.Odd.{CannotCome, IsOdd, IsOddNote}
@@ -74,7 +74,7 @@ step_more o f now opened heard line old new after step p told same stands made e
 )
 
 -- what a note makes of the clients, in the words of the front
-taken : (o : ObjectForm) (f : Opening) (now : ℕ) (opened : Guests) (heard : Heard) (old : Playing) (note : Note) (guests : Guests) → PlayStands o f now opened old heard → TakesNote old.numbers.base old.numbers.carried.items old.now old.guests note guests →
+taken : (o : ObjectForm) (f : Opening) (now : ℕ) (opened : Guests) (heard : Heard) (old : Playing) (note : ReplayNote) (guests : Guests) → PlayStands o f now opened old heard → TakesNote old.numbers.base old.numbers.carried.items old.now old.guests note guests →
     TakesNote f.base f.carried now old.guests note guests
 taken o f now opened heard old note guests p takes =
     subst (λ b. TakesNote b f.carried now old.guests note guests) p.base
@@ -84,7 +84,7 @@ if_ok : {A E : Type 0} {P Q : A → Type 0} (r : Result A E) → ((a : A) → P 
 if_ok (Ok a) on is = on a is
 if_ok (Err e) on is = tt
 
-module _ (r : Result Bool AllocError) (base now : ℕ) (carried : List CarriedCall) (old new : Guests) (note : Note) where
+module _ (r : Result Bool AllocError) (base now : ℕ) (carried : List CarriedCall) (old new : Guests) (note : ReplayNote) where
   abbrev Taken : Bool → Type 0
   Taken b = IsTrue b → TakesNote base carried now old note new
 
@@ -97,7 +97,7 @@ module _ (r : Result Bool AllocError) (base now : ℕ) (carried : List CarriedCa
   pub took_name : (session : ℕ) (name : List ℕ) → note ≡ notes.Named session name → IfOk r (λ yes. IsTrue yes → (b : ℕ) (c : List CarriedCall) → Makes b c now old (named session name) new) → IfOk r Taken
   took_name session name is = if_ok r (λ b h yes. subst (λ x. TakesNote base carried now old x new) (sym is) (h yes base carried))
 
-module _ (r : Result Bool AllocError) (base : ℕ) (carried : List CarriedCall) (old : Guests) (note : Note) where
+module _ (r : Result Bool AllocError) (base : ℕ) (carried : List CarriedCall) (old : Guests) (note : ReplayNote) where
   abbrev Odd_note : Bool → Type 0
   Odd_note b = b ≡ false → IsOddNote base carried old note
 
@@ -111,7 +111,7 @@ module _ (r : Result Bool AllocError) (base : ℕ) (carried : List CarriedCall) 
   odd_name session name is = if_ok r (λ b h no. subst (IsOddNote base carried old) (sym is) (h no))
 
 -- a line was heard, and its clients were told of it
-pub note_taken : (o : ObjectForm) (f : Opening) (now : ℕ) (opened : Guests) (heard : Heard) (line : List ℕ) (old new : Playing) (note : Note) (count : ℕ) (rests : Bool) → PlayStands o f now opened old heard →
+pub note_taken : (o : ObjectForm) (f : Opening) (now : ℕ) (opened : Guests) (heard : Heard) (line : List ℕ) (old new : Playing) (note : ReplayNote) (count : ℕ) (rests : Bool) → PlayStands o f now opened old heard →
     (after : Heard) × Tells o (begun_by f) heard line after × IsNote heard note after × Stands o (begun_by f) new.replay after →
     TakesNote old.numbers.base old.numbers.carried.items old.now old.guests note new.guests → Counts note count → new.ended ≡ old.ended + count → new.numbers ≡ old.numbers → new.now ≡ old.now → IsRest note rests →
     PlaysSo o f now opened heard line (Ok rests) new
@@ -143,11 +143,11 @@ note_taken o f now opened heard line old new (notes.Named session name) count re
     (old.guests, p.clients, taken o f now opened heard old (notes.Named session name) new.guests p takes) (omega (arith, ended, counts, p.ended)) numbers second)
 
 -- what a note tells does not fit the clients, in the words of the front
-odd_note : (o : ObjectForm) (f : Opening) (now : ℕ) (opened : Guests) (heard : Heard) (old : Playing) (note : Note) → PlayStands o f now opened old heard → IsOddNote old.numbers.base old.numbers.carried.items old.guests note → IsOddNote f.base f.carried old.guests note
+odd_note : (o : ObjectForm) (f : Opening) (now : ℕ) (opened : Guests) (heard : Heard) (old : Playing) (note : ReplayNote) → PlayStands o f now opened old heard → IsOddNote old.numbers.base old.numbers.carried.items old.guests note → IsOddNote f.base f.carried old.guests note
 odd_note o f now opened heard old note p odd = subst (λ b. IsOddNote b f.carried old.guests note) p.base (subst (λ c. IsOddNote old.numbers.base c old.guests note) p.carried odd)
 
 -- a line was heard, and what it told does not fit the clients
-pub note_odd : (o : ObjectForm) (f : Opening) (now : ℕ) (opened : Guests) (heard : Heard) (line : List ℕ) (old : Playing) (replay : Replay) (note : Note) → PlayStands o f now opened old heard →
+pub note_odd : (o : ObjectForm) (f : Opening) (now : ℕ) (opened : Guests) (heard : Heard) (line : List ℕ) (old : Playing) (replay : Replay) (note : ReplayNote) → PlayStands o f now opened old heard →
     (after : Heard) × Tells o (begun_by f) heard line after × IsNote heard note after × Stands o (begun_by f) replay after → IsOddNote old.numbers.base old.numbers.carried.items old.guests note → IsContradiction o f now opened heard line
 note_odd o f now opened heard line old replay notes.Began p h odd = absurd odd
 note_odd o f now opened heard line old replay (notes.Ran known reply) p h odd = record {
@@ -282,7 +282,7 @@ follow_end o f now opened behind rest p number mark s none = record {
 }
 
 -- a line with a fault
-pub follow_fault : (o : ObjectForm) (f : Opening) (now : ℕ) (opened : Guests) (behind rest line tail : List ℕ) (old new : Playing) (number mark next : ℕ) (refused : Refused) → Follows o f now opened behind rest old number mark → IsLine line → rest ≡ line ++ 10 ∷ tail →
+pub follow_fault : (o : ObjectForm) (f : Opening) (now : ℕ) (opened : Guests) (behind rest line tail : List ℕ) (old new : Playing) (number mark next : ℕ) (refused : RefusedLine) → Follows o f now opened behind rest old number mark → IsLine line → rest ≡ line ++ 10 ∷ tail →
     ((heard : Heard) → PlayStands o f now opened old heard → PlaysSo o f now opened heard line (Err refused) new) → next ≡ number + 1 → IsRefusedAt o f now opened behind next refused
 follow_fault o f now opened behind rest line tail old new number mark next Odd s is cut hears counted = record {
   before = s.before;

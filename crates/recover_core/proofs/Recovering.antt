@@ -6,8 +6,8 @@ use Rattle.live_core.specs.Front.{Opening}
 use Rattle.guest_core.specs.Guests.{Guests}
 use Rattle.audit_core.specs.Steps.{Heard}
 use Rattle.recover_core.specs.declared.playing.Playing.{Playing}
-use Rattle.recover_core.specs.declared.playing.Refused.{Refused}
-use Rattle.recover_core.specs.declared.playing.Refused.TheVariants.{Faulty, Odd}
+use Rattle.recover_core.specs.declared.playing.RefusedLine.{RefusedLine}
+use Rattle.recover_core.specs.declared.playing.RefusedLine.TheVariants.{Faulty, Odd}
 use Rattle.recover_core.specs.declared.recover.House.{House}
 use Rattle.recover_core.specs.declared.recover.Recovered.{Recovered}
 use Rattle.recover_core.specs.Carried.{AreCounted}
@@ -45,7 +45,7 @@ is_behind o h f opened bytes mark behind p r s counted opens comes guests length
 }
 
 -- a line that was not taken
-pub refused_so : (o : ObjectForm) (h : House) (f : Opening) (opened : Guests) (lines number line : ℕ) (behind : List ℕ) (refused : Refused) → AreCounted 0 f.carried → OpenAll h.now (nobody h) f.clients f.kept opened →
+pub refused_so : (o : ObjectForm) (h : House) (f : Opening) (opened : Guests) (lines number line : ℕ) (behind : List ℕ) (refused : RefusedLine) → AreCounted 0 f.carried → OpenAll h.now (nobody h) f.clients f.kept opened →
     IsRefusedAt o f h.now opened behind number refused → line ≡ lines + number → RefusesBehind o h f lines behind (told_of line refused)
 refused_so o h f opened lines number line behind (Faulty fault) counted opens is at = (number, at, is)
 refused_so o h f opened lines number line behind Odd counted opens is at = inr (opened, record { counted = counted; opens = opens }, (number, at, is))

@@ -2,7 +2,7 @@
 use Rattle.std.specs.Prelude.{◌≡◌, ◌≢◌, ℕ, ◌+◌, ◌≤◌, List, [], ◌∷◌, ◌++◌, length}
 use Rattle.decl_core.specs.ObjectForm.{ObjectForm}
 use Rattle.path_count.specs.Found.{LeavesSame}
-use Rattle.live_core.specs.declared.front.Client.{Client}
+use Rattle.live_core.specs.declared.front.NamedClient.{NamedClient}
 use Rattle.live_core.specs.declared.front.KeptCall.{KeptCall}
 use Rattle.live_core.specs.Front.{Opening}
 use Rattle.live_core.specs.Past.{events_in}
@@ -29,20 +29,20 @@ pub record IsSameCall (k : KeptCall) (c : Kept) : Type 0 where
 
 -- A kept line is of this call of a client, behind which so many calls of it are kept: it has the client's session and the
 -- call's key, the last key that the client has used less so many.
-pub record IsLineFor (client : Client) (behind : ℕ) (k : KeptCall) (c : Kept) : Type 0 where
+pub record IsLineFor (client : NamedClient) (behind : ℕ) (k : KeptCall) (c : Kept) : Type 0 where
   pub session : k.session ≡ client.session
   pub key : k.key + behind ≡ client.keys
   pub same : IsSameCall k c
 
 -- kept lines, the oldest call first, are of these calls of a client, the newest first
-abbrev pub AreLinesFor : Client → List KeptCall → List Kept → Type 0
+abbrev pub AreLinesFor : NamedClient → List KeptCall → List Kept → Type 0
 AreLinesFor client [] kept = kept ≡ []
 AreLinesFor client (k ∷ calls) kept =
     (others : List Kept) × (last : Kept) × (kept ≡ others ++ last ∷ []) × IsLineFor client (length others) k last
     × AreLinesFor client calls others
 
 -- the client of this line was known, with this session and this next key; these of its calls are kept
-pub record IsKnown (v : Guests) (c : Client) (kept : List Kept) : Type 0 where
+pub record IsKnown (v : Guests) (c : NamedClient) (kept : List Kept) : Type 0 where
   pub place : ℕ
   pub guest : Guest
   pub by : IsNamed v c.session place guest
@@ -51,7 +51,7 @@ pub record IsKnown (v : Guests) (c : Client) (kept : List Kept) : Type 0 where
   pub kept_is : guest.keys.kept ≡ kept
 
 -- so were all clients, each with its kept lines, which stand in the order of the clients
-abbrev pub AreKnown : Guests → List Client → List KeptCall → Type 0
+abbrev pub AreKnown : Guests → List NamedClient → List KeptCall → Type 0
 AreKnown v [] kept = kept ≡ []
 AreKnown v (c ∷ clients) kept =
     (mine : List KeptCall) × (more : List KeptCall) × (calls : List Kept) × (kept ≡ mine ++ more)

@@ -2,7 +2,7 @@
 use Rattle.std.specs.Prelude.{◌≡◌, ℕ, ◌+◌, ◌≤◌, Bool, List, [], ◌∷◌, ◌++◌, length, Option, Some, None, Ok}
 use Rattle.apply_core.specs.declared.reply.Reply.{Reply}
 use Rattle.live_core.specs.declared.front.CarriedCall.{CarriedCall}
-use Rattle.live_core.specs.declared.front.Client.{Client}
+use Rattle.live_core.specs.declared.front.NamedClient.{NamedClient}
 use Rattle.live_core.specs.declared.front.KeptCall.{KeptCall}
 use Rattle.live_core.specs.declared.front.Answer.{Answer}
 use Rattle.live_core.specs.declared.front.Answer.TheVariants.{Replied, Cancelled}
@@ -43,7 +43,7 @@ Recalls session old (k ∷ kept) new =
 
 -- A client of a new name comes, away since this second, with its kept calls, 16 at most; the last of them has the last
 -- key that it has used.
-pub record Opens (now : ℕ) (old : Guests) (c : Client) (kept : List KeptCall) (new : Guests) : Type 0 where
+pub record Opens (now : ℕ) (old : Guests) (c : NamedClient) (kept : List KeptCall) (new : Guests) : Type 0 where
   pub first : ℕ
   pub mid : Guests
   pub unknown : IsUnknown old c.name
@@ -53,7 +53,7 @@ pub record Opens (now : ℕ) (old : Guests) (c : Client) (kept : List KeptCall) 
   pub few : length kept ≤ 16
 
 -- the clients of a front, each with its kept calls, which stand in the order of the clients
-abbrev pub OpenAll : ℕ → Guests → List Client → List KeptCall → Guests → Type 0
+abbrev pub OpenAll : ℕ → Guests → List NamedClient → List KeptCall → Guests → Type 0
 OpenAll now old [] kept new = (kept ≡ []) × (new ≡ old)
 OpenAll now old (c ∷ clients) kept new =
     (mine : List KeptCall) × (more : List KeptCall) × (mid : Guests) × (kept ≡ mine ++ more)

@@ -5,8 +5,8 @@ use Rattle.live_core.specs.declared.front.CarriedCall.{CarriedCall}
 use Rattle.guest_core.specs.declared.guest.Guest.{Guest}
 use Rattle.guest_core.specs.declared.seats.Seat.TheVariants.{Free}
 use Rattle.guest_core.specs.Guests.{Guests, IsNamed, HasNoName}
-use Rattle.audit_core.specs.declared.epoch_replay.Note.{Note}
-use Rattle.audit_core.specs.declared.epoch_replay.Note.TheVariants as notes
+use Rattle.audit_core.specs.declared.epoch_replay.ReplayNote.{ReplayNote}
+use Rattle.audit_core.specs.declared.epoch_replay.ReplayNote.TheVariants as notes
 use Rattle.audit_core.specs.EpochStands.{known_call}
 use Rattle.audit_core.specs.Steps.{Step, ran, cancelled, named}
 use Rattle.recover_core.specs.Carried.{told_by}
@@ -36,7 +36,7 @@ IsOdd base carried v (cancelled c) = CannotRemember v c.session (told_by base ca
 IsOdd base carried v (named session name) = CannotCome v session
 
 -- why what a line told does not
-abbrev pub IsOddNote : ℕ → List CarriedCall → Guests → Note → Type 0
+abbrev pub IsOddNote : ℕ → List CarriedCall → Guests → ReplayNote → Type 0
 IsOddNote base carried v notes.Began = ⊥
 IsOddNote base carried v (notes.Ran known reply) = IsOdd base carried v (ran (known_call known) (told_view reply))
 IsOddNote base carried v (notes.Cancelled known) = IsOdd base carried v (cancelled (known_call known))

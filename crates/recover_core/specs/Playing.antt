@@ -2,20 +2,20 @@
 use Rattle.std.specs.Prelude.{◌≡◌, ℕ, Bool, true, false, List, ◌∷◌, ◌+◌, [], ◌++◌, length, None, Result, Ok, Err}
 use Rattle.decl_core.specs.ObjectForm.{ObjectForm}
 use Rattle.audit_core.specs.View.{told_view}
-use Rattle.audit_core.specs.declared.verdict.Fault.{Fault}
+use Rattle.audit_core.specs.declared.verdict.AuditFault.{AuditFault}
 use Rattle.live_core.specs.declared.front.CarriedCall.{CarriedCall}
 use Rattle.live_core.specs.Front.{Opening}
 use Rattle.live_core.specs.Past.{events_in}
 use Rattle.guest_core.specs.Guests.{Guests}
-use Rattle.audit_core.specs.declared.epoch_replay.Note.{Note}
-use Rattle.audit_core.specs.declared.epoch_replay.Note.TheVariants as notes
+use Rattle.audit_core.specs.declared.epoch_replay.ReplayNote.{ReplayNote}
+use Rattle.audit_core.specs.declared.epoch_replay.ReplayNote.TheVariants as notes
 use Rattle.audit_core.specs.Steps.{Step, ran, cancelled, named, Begun, Heard, nothing_heard, ended_in}
 use Rattle.audit_core.specs.EpochTells.{Tells, Tell}
 use Rattle.audit_core.specs.Sound.{IsSound, IsPlayed, IsFault, IsFirstFault}
 use Rattle.audit_core.specs.EpochStands.{Stands, known_call}
 use Rattle.recover_core.specs.declared.playing.Playing.{Playing}
-use Rattle.recover_core.specs.declared.playing.Refused.{Refused}
-use Rattle.recover_core.specs.declared.playing.Refused.TheVariants.{Faulty, Odd}
+use Rattle.recover_core.specs.declared.playing.RefusedLine.{RefusedLine}
+use Rattle.recover_core.specs.declared.playing.RefusedLine.TheVariants.{Faulty, Odd}
 use Rattle.recover_core.specs.Lines.{IsLine, AreLines, joined}
 use Rattle.recover_core.specs.Carried.{calls_of}
 use Rattle.recover_core.specs.Clients.{Makes, MakeAll}
@@ -26,7 +26,7 @@ abbrev pub begun_by : Opening → Begun
 begun_by f = record { past = events_in f.past; opening = f.parts; carried = calls_of f.carried }
 
 -- what a line told makes of the clients
-abbrev pub TakesNote : ℕ → List CarriedCall → ℕ → Guests → Note → Guests → Type 0
+abbrev pub TakesNote : ℕ → List CarriedCall → ℕ → Guests → ReplayNote → Guests → Type 0
 TakesNote base carried now old notes.Began new = new ≡ old
 TakesNote base carried now old (notes.Ran known reply) new =
     Makes base carried now old (ran (known_call known) (told_view reply)) new
@@ -35,14 +35,14 @@ TakesNote base carried now old (notes.Cancelled known) new =
 TakesNote base carried now old (notes.Named session name) new = Makes base carried now old (named session name) new
 
 -- how many calls ended by what a line told
-abbrev pub Counts : Note → ℕ → Type 0
+abbrev pub Counts : ReplayNote → ℕ → Type 0
 Counts (notes.Ran known reply) n = n ≡ 1
 Counts notes.Began n = n ≡ 0
 Counts (notes.Cancelled known) n = n ≡ 0
 Counts (notes.Named session name) n = n ≡ 0
 
 -- whether no call runs behind a line that told this
-abbrev pub IsRest : Note → Bool → Type 0
+abbrev pub IsRest : ReplayNote → Bool → Type 0
 IsRest notes.Began so = so ≡ false
 IsRest (notes.Ran known reply) so = so ≡ true
 IsRest (notes.Cancelled known) so = so ≡ true
@@ -74,18 +74,18 @@ pub record IsContradiction (o : ObjectForm) (f : Opening) (now : ℕ) (opened : 
   pub odd : IsOdd f.base f.carried clients step
 
 -- why a line is not taken
-abbrev pub IsRefusal : ObjectForm → Opening → ℕ → Guests → Heard → List ℕ → Refused → Type 0
+abbrev pub IsRefusal : ObjectForm → Opening → ℕ → Guests → Heard → List ℕ → RefusedLine → Type 0
 IsRefusal o f now opened heard line (Faulty fault) = IsFault o (begun_by f) heard line fault
 IsRefusal o f now opened heard line Odd = IsContradiction o f now opened heard line
 
 -- what was found in a line
-abbrev pub PlaysSo : ObjectForm → Opening → ℕ → Guests → Heard → List ℕ → Result Bool Refused → Playing → Type 0
+abbrev pub PlaysSo : ObjectForm → Opening → ℕ → Guests → Heard → List ℕ → Result Bool RefusedLine → Playing → Type 0
 PlaysSo o f now opened heard line (Ok rests) new =
     (after : Heard) × Tells o (begun_by f) heard line after × StepsOn rests heard after
     × PlayStands o f now opened new after
 PlaysSo o f now opened heard line (Err refused) new = IsRefusal o f now opened heard line refused
 
-abbrev pub Plays : ObjectForm → List ℕ → Playing → Result Bool Refused → Playing → Type 0
+abbrev pub Plays : ObjectForm → List ℕ → Playing → Result Bool RefusedLine → Playing → Type 0
 Plays o line old found new = (f : Opening) (now : ℕ) (opened : Guests) (heard : Heard) →
     PlayStands o f now opened old heard → PlaysSo o f now opened heard line found new
 
@@ -103,7 +103,7 @@ pub record PlayedTo (o : ObjectForm) (f : Opening) (now : ℕ) (opened : Guests)
 
 -- The last of these lines, of this number, has a fault, and those before it are sound: no epoch of which these are the
 -- first lines is sound.
-pub record IsFaultyAt (o : ObjectForm) (f : Opening) (behind : List ℕ) (number : ℕ) (fault : Fault) : Type 0 where
+pub record IsFaultyAt (o : ObjectForm) (f : Opening) (behind : List ℕ) (number : ℕ) (fault : AuditFault) : Type 0 where
   pub lines : List (List ℕ)
   pub rest : List ℕ
   pub each : AreLines lines
@@ -126,12 +126,12 @@ pub record IsContradictedAt (o : ObjectForm) (f : Opening) (now : ℕ) (opened :
   pub contradicts : IsContradiction o f now opened heard line
 
 -- why the line of this number is not taken
-abbrev pub IsRefusedAt : ObjectForm → Opening → ℕ → Guests → List ℕ → ℕ → Refused → Type 0
+abbrev pub IsRefusedAt : ObjectForm → Opening → ℕ → Guests → List ℕ → ℕ → RefusedLine → Type 0
 IsRefusedAt o f now opened behind number (Faulty fault) = IsFaultyAt o f behind number fault
 IsRefusedAt o f now opened behind number Odd = IsContradictedAt o f now opened behind number
 
 -- what was found in all lines
-abbrev pub PlaysAll : ObjectForm → List ℕ → Playing → Result ℕ (ℕ × Refused) → Playing → Type 0
+abbrev pub PlaysAll : ObjectForm → List ℕ → Playing → Result ℕ (ℕ × RefusedLine) → Playing → Type 0
 PlaysAll o behind old (Ok mark) new = (f : Opening) (now : ℕ) (opened : Guests) →
     PlayStands o f now opened old nothing_heard → PlayedTo o f now opened behind mark new
 PlaysAll o behind old (Err refused) new = (f : Opening) (now : ℕ) (opened : Guests) →

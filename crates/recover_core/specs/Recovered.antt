@@ -16,8 +16,8 @@ use Rattle.recover_core.specs.declared.recover.RecoverFault.TheVariants as fault
 use Rattle.recover_core.specs.declared.recover.FrontSize.{FrontSize}
 use Rattle.recover_core.specs.declared.recover.Head.{Head}
 use Rattle.recover_core.specs.declared.playing.Playing.{Playing}
-use Rattle.recover_core.specs.declared.playing.Refused.{Refused}
-use Rattle.recover_core.specs.declared.playing.Refused.TheVariants.{Faulty, Odd}
+use Rattle.recover_core.specs.declared.playing.RefusedLine.{RefusedLine}
+use Rattle.recover_core.specs.declared.playing.RefusedLine.TheVariants.{Faulty, Odd}
 use Rattle.recover_core.specs.Lines.{IsLine, AreLines, joined}
 use Rattle.recover_core.specs.Carried.{AreCounted}
 use Rattle.recover_core.specs.Clients.{OpenAll, MakeAll}
@@ -82,7 +82,7 @@ RefusesBehind o h f lines behind (faults.Line line fault) =
     (number : ℕ) × (line ≡ lines + number) × IsFaultyAt o f behind number fault
 
 -- what is told of a line that is not taken
-abbrev pub told_of : ℕ → Refused → RecoverFault
+abbrev pub told_of : ℕ → RefusedLine → RecoverFault
 told_of line (Faulty fault) = faults.Line line fault
 told_of line Odd = faults.Contradicts line
 

@@ -1,7 +1,7 @@
 -- The lines that tell of the epochs of an object.
 use Rattle.std.specs.Prelude.{ℕ, List, ◌++◌, codes, decimal}
-use Rattle.audit_core.specs.declared.verdict.Fault.{Fault}
-use Rattle.audit_core.specs.declared.verdict.Fault.TheVariants as lines
+use Rattle.audit_core.specs.declared.verdict.AuditFault.{AuditFault}
+use Rattle.audit_core.specs.declared.verdict.AuditFault.TheVariants as lines
 use Rattle.recover_core.specs.declared.chain.ChainFault.{ChainFault}
 use Rattle.recover_core.specs.declared.chain.ChainFault.TheVariants as chains
 use Rattle.recover_core.specs.declared.recover.RecoverFault.{RecoverFault}
@@ -14,7 +14,7 @@ abbrev pub at_line : ℕ → List ℕ → List ℕ
 at_line line more = (codes " line " ++ decimal line) ++ more
 
 -- what is told of a faulty line
-abbrev pub line_words : ℕ → Fault → List ℕ
+abbrev pub line_words : ℕ → AuditFault → List ℕ
 line_words line lines.Bad = at_line line (codes " bad\n")
 line_words line (lines.Breaks path) = at_line line (codes " breaks path " ++ (decimal path ++ codes "\n"))
 line_words line lines.Wrong = at_line line (codes " wrong reply\n")

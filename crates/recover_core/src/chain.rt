@@ -12,7 +12,7 @@ use crate::recover::Recovered;
 use decl_core::object::Object;
 use guest_core::guests::Guests;
 use guest_core::kept::Kept;
-use live_core::front::{Answer, Client, Front, KeptCall};
+use live_core::front::{Answer, NamedClient, Front, KeptCall};
 use live_core::past::{PastRun, events_of};
 use path_count::counters::Counters;
 use path_count::past::counters_behind;
@@ -130,7 +130,7 @@ fn is_before(key: u64, many: usize, last: u64) -> bool
 }
 
 // Whether a line has the session of a client, and the last key that this has used less so many.
-fn has_key(client: &Client, behind: usize, call: &KeptCall) -> bool
+fn has_key(client: &NamedClient, behind: usize, call: &KeptCall) -> bool
     ensures { IsTrue result ↔ (call.now.session ≡ client.now.session)
         × (call.now.key + behind ≡ client.now.keys) }
 {
@@ -141,14 +141,14 @@ fn has_key(client: &Client, behind: usize, call: &KeptCall) -> bool
 }
 
 // Whether a line is of this call of a client, behind which so many calls of it are kept.
-fn is_line_for(client: &Client, behind: usize, call: &KeptCall, kept: &Kept) -> bool
+fn is_line_for(client: &NamedClient, behind: usize, call: &KeptCall, kept: &Kept) -> bool
     ensures { IsTrue result ↔ IsLineFor client.now behind call.now kept.now }
 {
     has_key(client, behind, call) && is_same_call(call, kept)
 }
 
 // Whether these lines, the oldest call first, are of the calls of a client that are kept, the newest first.
-fn are_lines_for(client: &Client, calls: &[KeptCall], kept: &[Kept]) -> bool
+fn are_lines_for(client: &NamedClient, calls: &[KeptCall], kept: &[Kept]) -> bool
     ensures { IsTrue result ↔ AreLinesFor client.now calls.now kept.now }
 {
     match calls {
@@ -170,7 +170,7 @@ fn is_none(kept: &[Kept]) -> bool
 }
 
 // Whether a client was known before, with its session and key; then so many of its calls are kept.
-fn known_calls<'a>(guests: &'a Guests, client: &Client) -> Option<&'a [Kept]>
+fn known_calls<'a>(guests: &'a Guests, client: &NamedClient) -> Option<&'a [Kept]>
     ensures { IfSome result (λ kept. IsKnown guests.now client.now kept.now) }
 {
     let Ok(session) = u16::try_from(client.session) else {
@@ -187,7 +187,7 @@ fn known_calls<'a>(guests: &'a Guests, client: &Client) -> Option<&'a [Kept]>
 }
 
 // Whether clients were known before, with their sessions, keys and kept calls, these in the order of the clients.
-fn are_known(guests: &Guests, clients: &[Client], kept: &[KeptCall]) -> bool
+fn are_known(guests: &Guests, clients: &[NamedClient], kept: &[KeptCall]) -> bool
     ensures { IsTrue result → AreKnown guests.now clients.now kept.now }
 {
     let mut clients_left = clients;

@@ -11,7 +11,7 @@ ghost use Rattle.recover_core.specs.Odd.{IsHeldUp, CannotCome};
 use apply_core::reply::Reply;
 use guest_core::guests::{AdmitFault, Guests};
 use guest_core::keys::{AskFault, MOST_KEPT};
-use live_core::front::{Answer, Client, KeptCall};
+use live_core::front::{Answer, NamedClient, KeptCall};
 use path_tree::name::Name;
 use path_tree::node::OpId;
 use std::alloc::{AllocError, Global};
@@ -19,7 +19,7 @@ use value_core::datum::Datum;
 
 // A line of a front that tells of clients and has no place behind those before it.
 #[derive(Clone, Copy, Debug, PartialEq, Eq)]
-pub(crate) enum Odd {
+pub(crate) enum OddLine {
     // the line of a call that waits: with it so many are left
     Carried(usize),
     // the line of a client: with it so many are left
@@ -191,26 +191,26 @@ fn open_one(
     alloc: Global,
     guests: &mut Guests,
     now: u64,
-    client: &Client,
+    client: &NamedClient,
     kept: &[KeptCall],
-) -> Result<Option<Odd>, AllocError>
+) -> Result<Option<OddLine>, AllocError>
     ensures { IfOk result (λ odd. IfNone odd (Opens now guests.old client.now kept.now guests.new)) }
 {
     let Ok(session) = u16::try_from(client.session) else {
-        return Ok(Some(Odd::Client(1)));
+        return Ok(Some(OddLine::Client(1)));
     };
     if guests.knows(&client.name) || kept.len() > MOST_KEPT {
-        return Ok(Some(Odd::Client(1)));
+        return Ok(Some(OddLine::Client(1)));
     }
     let Some(first) = first_key(client.keys, kept.len()) else {
-        return Ok(Some(Odd::Client(1)));
+        return Ok(Some(OddLine::Client(1)));
     };
     if !admit(guests, &client.name, session, first, now)? {
-        return Ok(Some(Odd::Client(1)));
+        return Ok(Some(OddLine::Client(1)));
     }
     match recall(alloc, guests, session, kept)? {
         None => Ok(None),
-        Some(left) => Ok(Some(Odd::Kept(left))),
+        Some(left) => Ok(Some(OddLine::Kept(left))),
     }
 }
 
@@ -229,11 +229,11 @@ fn run_of(kept: &[KeptCall], session: u32) -> usize
 }
 
 // How many lines are left, where so many clients more come, and so many kept calls more.
-fn left_with(odd: Odd, clients: usize, kept: usize) -> Odd {
+fn left_with(odd: OddLine, clients: usize, kept: usize) -> OddLine {
     match odd {
-        Odd::Carried(left) => Odd::Carried(left),
-        Odd::Client(left) => Odd::Client(left.saturating_add(clients)),
-        Odd::Kept(left) => Odd::Kept(left.saturating_add(kept)),
+        OddLine::Carried(left) => OddLine::Carried(left),
+        OddLine::Client(left) => OddLine::Client(left.saturating_add(clients)),
+        OddLine::Kept(left) => OddLine::Kept(left.saturating_add(kept)),
     }
 }
 
@@ -243,9 +243,9 @@ pub(crate) fn open_all(
     alloc: Global,
     guests: &mut Guests,
     now: u64,
-    clients: &[Client],
+    clients: &[NamedClient],
     kept: &[KeptCall],
-) -> Result<Option<Odd>, AllocError>
+) -> Result<Option<OddLine>, AllocError>
     ensures none { IfOk result (λ odd. IfNone odd (OpenAll now guests.old clients.now kept.now guests.new)) }
     ensures some { IfOk result (λ odd. IfSome odd (λ _. (clients.now ≢ []) ⊎ (kept.now ≢ []))) }
 {
@@ -262,5 +262,5 @@ pub(crate) fn open_all(
     if kept_left.is_empty() {
         return Ok(None);
     }
-    Ok(Some(Odd::Kept(kept_left.len())))
+    Ok(Some(OddLine::Kept(kept_left.len())))
 }

@@ -5,20 +5,20 @@ ghost use Rattle.audit_core.specs.Carried.{carried_calls};
 ghost use Rattle.recover_core.specs.Carried.{calls_of, AreCounted, told_by};
 
 use apply_core::slim::Slims;
-use audit_core::carried::Carried;
+use audit_core::carried::WaitedCall;
 use live_core::front::CarriedCall;
 use std::alloc::{AllocError, Global};
 
 // The numbers of calls as their clients were told them.
 #[derive(Drop)]
-pub(crate) struct Numbers {
+pub(crate) struct EpochNumbers {
     // what is added to the number of a call of the epoch
     pub(crate) base: u64,
     // the calls that waited when it began: they had been told their numbers before
     pub(crate) carried: Vec<CarriedCall>,
 }
 
-impl Numbers {
+impl EpochNumbers {
     // The number that the client of a call was told. `None`: it has more than 64 bits.
     pub(crate) fn told(&self, number: u32) -> Option<u64>
         ensures some { IfSome result (λ told. told ≡ told_by self.now.base self.now.carried.items number) }
@@ -32,13 +32,13 @@ impl Numbers {
 }
 
 // A waiting call, for a replay.
-fn carried_from(alloc: Global, call: &CarriedCall) -> Result<Carried, AllocError>
+fn carried_from(alloc: Global, call: &CarriedCall) -> Result<WaitedCall, AllocError>
     ensures { IfOk result (λ c. (c.number ≡ call.now.number) × (c.session ≡ call.now.session)
         × (c.operation ≡ call.now.operation) × (c.arguments ≡ call.now.arguments)) }
 {
     let arguments = call.arguments.list(alloc)?;
     let arguments = Slims::new(alloc, &arguments)?;
-    Ok(Carried {
+    Ok(WaitedCall {
         number: call.number,
         session: call.session,
         operation: call.operation,
@@ -47,7 +47,7 @@ fn carried_from(alloc: Global, call: &CarriedCall) -> Result<Carried, AllocError
 }
 
 // Waiting calls, for a replay.
-pub(crate) fn carried_of(alloc: Global, calls: &[CarriedCall]) -> Result<Vec<Carried>, AllocError>
+pub(crate) fn carried_of(alloc: Global, calls: &[CarriedCall]) -> Result<Vec<WaitedCall>, AllocError>
     ensures { IfOk result (λ v. carried_calls v.items ≡ calls_of calls.now) }
 {
     let mut all = Vec::new(alloc);

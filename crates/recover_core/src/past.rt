@@ -18,8 +18,8 @@ ghost use Rattle.recover_core.specs.HeldPlay.{HaveNumbers, HeldOn, PlaysLines, t
 use crate::text::{HeldFront, from, split_line};
 use apply_core::reply::Reply;
 use apply_core::slim::Slims;
-use audit_core::carried::Carried;
-use audit_core::epoch_replay::{Known, Note, Replay};
+use audit_core::carried::WaitedCall;
+use audit_core::epoch_replay::{Known, ReplayNote, Replay};
 use audit_core::told::ToldReply;
 use decl_core::hold::Hold;
 use decl_core::object::Object;
@@ -30,13 +30,13 @@ use std::alloc::{AllocError, Global};
 use value_core::datum::Datum;
 
 // A waiting call, for a replay.
-fn carried_from(alloc: Global, call: &CarriedCall) -> Result<Carried, AllocError>
+fn carried_from(alloc: Global, call: &CarriedCall) -> Result<WaitedCall, AllocError>
     ensures { IfOk result (λ c. (c.number ≡ call.now.number) × (c.session ≡ call.now.session)
         × (c.operation ≡ call.now.operation) × (c.arguments ≡ call.now.arguments)) }
 {
     let arguments = call.arguments.list(alloc)?;
     let arguments = Slims::new(alloc, &arguments)?;
-    Ok(Carried {
+    Ok(WaitedCall {
         number: call.number,
         session: call.session,
         operation: call.operation,
@@ -45,7 +45,7 @@ fn carried_from(alloc: Global, call: &CarriedCall) -> Result<Carried, AllocError
 }
 
 // Waiting calls, for a replay.
-fn carried_of(alloc: Global, calls: &[CarriedCall]) -> Result<Vec<Carried>, AllocError>
+fn carried_of(alloc: Global, calls: &[CarriedCall]) -> Result<Vec<WaitedCall>, AllocError>
     ensures { IfOk result (λ v. carried_calls v.items ≡ calls_of calls.now) }
 {
     let mut all = Vec::new(alloc);
@@ -138,7 +138,7 @@ fn take_note(
     all: &mut Holds,
     base: u64,
     carried: &[CarriedCall],
-    note: &Note,
+    note: &ReplayNote,
 ) -> Result<bool, AllocError>
     ensures held { IfOk result (λ fits. fits ≡ true → (heard after : Heard) → IsNote heard note.now after →
         HeldOn (holds_of holds.now) base carried.now heard.steps after.steps all.old all.new) }
@@ -146,13 +146,13 @@ fn take_note(
         HaveNumbers base carried.now heard.steps → HaveNumbers base carried.now after.steps) }
 {
     match note {
-        Note::Began => Ok(true),
-        Note::Ran(known, reply) => {
+        ReplayNote::Began => Ok(true),
+        ReplayNote::Ran(known, reply) => {
             let fits = end_known(alloc, holds, all, base, carried, known, reply)?;
             Ok(fits)
         }
-        Note::Cancelled(_) => Ok(true),
-        Note::Named(_, _) => Ok(true),
+        ReplayNote::Cancelled(_) => Ok(true),
+        ReplayNote::Named(_, _) => Ok(true),
     }
 }
 

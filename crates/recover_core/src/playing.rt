@@ -12,11 +12,11 @@ ghost use Rattle.recover_core.specs.Playing.{TakesNote, Counts, IsRest, PlaysAll
 
 use crate::clients::{admit, remember_cancelled, remember_ended};
 use crate::lines::split_line;
-use crate::numbers::Numbers;
+use crate::numbers::EpochNumbers;
 use apply_core::reply::Reply;
-use audit_core::epoch_replay::{Known, Note, Replay};
+use audit_core::epoch_replay::{Known, ReplayNote, Replay};
 use audit_core::told::ToldReply;
-use audit_core::verdict::Fault;
+use audit_core::verdict::AuditFault;
 use decl_core::object::Object;
 use guest_core::guests::Guests;
 use path_tree::name::Name;
@@ -25,9 +25,9 @@ use value_core::datum::Datum;
 
 // Why a line is not taken.
 #[derive(Clone, Copy, Debug, PartialEq, Eq)]
-pub(crate) enum Refused {
+pub(crate) enum RefusedLine {
     // it has this fault
-    Faulty(Fault),
+    Faulty(AuditFault),
     // what it tells of clients contradicts what was told of them before
     Odd,
 }
@@ -37,7 +37,7 @@ pub(crate) enum Refused {
 pub(crate) struct Playing {
     pub(crate) replay: Replay,
     pub(crate) guests: Guests,
-    pub(crate) numbers: Numbers,
+    pub(crate) numbers: EpochNumbers,
     // the second since which clients are away
     pub(crate) now: u64,
     // how many calls ended
@@ -59,7 +59,7 @@ fn reply_of(told: &ToldReply) -> Reply
 // has a call that has not ended, or no key is left.
 fn take_ran(
     guests: &mut Guests,
-    numbers: &Numbers,
+    numbers: &EpochNumbers,
     known: &Known,
     told: &ToldReply,
 ) -> Result<bool, AllocError>
@@ -87,7 +87,7 @@ fn take_ran(
 }
 
 // A call that was cancelled is remembered, where its client has a name. False: as of one that ended.
-fn take_cancelled(guests: &mut Guests, numbers: &Numbers, known: &Known) -> Result<bool, AllocError>
+fn take_cancelled(guests: &mut Guests, numbers: &EpochNumbers, known: &Known) -> Result<bool, AllocError>
     ensures yes { IfOk result (λ yes. IsTrue yes → (now : ℕ) →
         Makes numbers.now.base numbers.now.carried.items now guests.old (cancelled (known_call known.now))
         guests.new) }
@@ -122,37 +122,37 @@ fn take_name(guests: &mut Guests, now: u64, session: u32, name: &Name) -> Result
 }
 
 // What a line told is told to the clients. False: it contradicts what was told of them before.
-fn take(guests: &mut Guests, numbers: &Numbers, now: u64, note: &Note) -> Result<bool, AllocError>
+fn take(guests: &mut Guests, numbers: &EpochNumbers, now: u64, note: &ReplayNote) -> Result<bool, AllocError>
     ensures yes { IfOk result (λ yes. IsTrue yes →
         TakesNote numbers.now.base numbers.now.carried.items now guests.old note.now guests.new) }
     ensures no { IfOk result (λ yes. yes ≡ false →
         IsOddNote numbers.now.base numbers.now.carried.items guests.old note.now) }
 {
     match note {
-        Note::Began => Ok(true),
-        Note::Ran(known, told) => take_ran(guests, numbers, known, told),
-        Note::Cancelled(known) => take_cancelled(guests, numbers, known),
-        Note::Named(session, name) => take_name(guests, now, *session, name),
+        ReplayNote::Began => Ok(true),
+        ReplayNote::Ran(known, told) => take_ran(guests, numbers, known, told),
+        ReplayNote::Cancelled(known) => take_cancelled(guests, numbers, known),
+        ReplayNote::Named(session, name) => take_name(guests, now, *session, name),
     }
 }
 
 // How many calls ended by what a line told.
-fn ended_by(note: &Note) -> u64
+fn ended_by(note: &ReplayNote) -> u64
     ensures counts { Counts note.now result }
     ensures few { result ≤ 1 }
 {
     match note {
-        Note::Ran(_, _) => 1,
+        ReplayNote::Ran(_, _) => 1,
         _ => 0,
     }
 }
 
 // Whether no call runs behind a line that told this.
-fn is_rest(note: &Note) -> bool
+fn is_rest(note: &ReplayNote) -> bool
     ensures { IsRest note.now result }
 {
     match note {
-        Note::Began => false,
+        ReplayNote::Began => false,
         _ => true,
     }
 }
@@ -166,17 +166,17 @@ impl Playing {
         &mut self,
         object: &Object,
         line: &[u8],
-    ) -> Result<Result<bool, Refused>, AllocError>
+    ) -> Result<Result<bool, RefusedLine>, AllocError>
         requires room { self.old.ended + 1 < 2 ^ 64 }
         ensures heard { IfOk result (λ found. Plays (object_of object.now) line.now self.old found self.new) }
         ensures ended { self.new.ended ≤ self.old.ended + 1 }
     {
         let note = match self.replay.hear(object, line)? {
-            Err(fault) => return Ok(Err(Refused::Faulty(fault))),
+            Err(fault) => return Ok(Err(RefusedLine::Faulty(fault))),
             Ok(note) => note,
         };
         if !take(&mut self.guests, &self.numbers, self.now, &note)? {
-            return Ok(Err(Refused::Odd));
+            return Ok(Err(RefusedLine::Odd));
         }
         self.ended += ended_by(&note);
         Ok(Ok(is_rest(&note)))
@@ -200,7 +200,7 @@ pub(crate) fn play(
     playing: &mut Playing,
     object: &Object,
     behind: &[u8],
-) -> Result<Result<usize, (u64, Refused)>, AllocError>
+) -> Result<Result<usize, (u64, RefusedLine)>, AllocError>
     requires { playing.old.ended ≡ 0 }
     ensures played { IfOk result (λ found. PlaysAll (object_of object.now) behind.now playing.old found playing.new) }
     ensures mark { IfOk result (λ found. IfOk found (λ mark. mark ≤ length behind.now)) }

@@ -11,11 +11,11 @@ ghost use Rattle.recover_core.specs.Clients.{OpenAll};
 ghost use Rattle.recover_core.specs.Playing.{PlayStands};
 ghost use Rattle.recover_core.specs.Recovered.{ComesTo, IsBehind, IsOddFront, RefusesBehind, PlaysBehind, told_of};
 
-use crate::clients::{Odd, open_all};
-use crate::numbers::{Numbers, carried_of, uncounted};
-use crate::playing::{Playing, Refused, play};
-use audit_core::epoch_replay::{Played, Replay};
-use audit_core::verdict::Fault;
+use crate::clients::{OddLine, open_all};
+use crate::numbers::{EpochNumbers, carried_of, uncounted};
+use crate::playing::{Playing, RefusedLine, play};
+use audit_core::epoch_replay::{ReplayedEpoch, Replay};
+use audit_core::verdict::AuditFault;
 use decl_core::object::Object;
 use guest_core::guests::Guests;
 use live_core::front::Front;
@@ -44,7 +44,7 @@ pub struct Recovered {
     /// What is added to the number of a call of the epoch where its client is told it.
     pub base: u64,
     /// The contents, what the paths have counted, the long past and the greatest number.
-    pub played: Played,
+    pub played: ReplayedEpoch,
     /// The clients that have a name, with their keys and their last calls. None of them is here, and no call of them
     /// waits.
     pub guests: Guests,
@@ -71,15 +71,15 @@ pub enum RecoverFault {
     /// The paths do not let the past happen, or a call runs at its end.
     Past,
     /// This line behind the front has this fault.
-    Line(u64, Fault),
+    Line(u64, AuditFault),
 }
 
 // The number of a line of a front of so many lines.
-fn line_of(lines: u64, clients: usize, kept: usize, odd: Odd) -> u64 {
+fn line_of(lines: u64, clients: usize, kept: usize, odd: OddLine) -> u64 {
     let left = match odd {
-        Odd::Carried(left) => left.saturating_add(clients).saturating_add(kept),
-        Odd::Client(left) => left.saturating_add(kept),
-        Odd::Kept(left) => left,
+        OddLine::Carried(left) => left.saturating_add(clients).saturating_add(kept),
+        OddLine::Client(left) => left.saturating_add(kept),
+        OddLine::Kept(left) => left,
     };
     lines.saturating_sub(left as u64).saturating_add(1)
 }
@@ -90,14 +90,14 @@ fn open(
     guests: &mut Guests,
     now: u64,
     front: &Front,
-) -> Result<Option<Odd>, AllocError>
+) -> Result<Option<OddLine>, AllocError>
     ensures none { IfOk result (λ odd. IfNone odd (AreCounted 0 front.now.carried.items
         × OpenAll now guests.old front.now.clients.items front.now.kept.items guests.new)) }
     ensures some { IfOk result (λ odd. IfSome odd (λ _. IsOddFront (opening_of front.now))) }
 {
     let left = uncounted(&front.carried);
     if left > 0 {
-        return Ok(Some(Odd::Carried(left)));
+        return Ok(Some(OddLine::Carried(left)));
     }
     open_all(alloc, guests, now, &front.clients, &front.kept)
 }
@@ -128,19 +128,19 @@ fn begin(
     Ok(Some(Playing {
         replay,
         guests,
-        numbers: Numbers { base, carried },
+        numbers: EpochNumbers { base, carried },
         now,
         ended: 0,
     }))
 }
 
 // What is told of a line that is not taken.
-fn fault_of(line: u64, refused: Refused) -> RecoverFault
+fn fault_of(line: u64, refused: RefusedLine) -> RecoverFault
     ensures { result ≡ told_of line refused }
 {
     match refused {
-        Refused::Faulty(fault) => RecoverFault::Line(line, fault),
-        Refused::Odd => RecoverFault::Contradicts(line),
+        RefusedLine::Faulty(fault) => RecoverFault::Line(line, fault),
+        RefusedLine::Odd => RecoverFault::Contradicts(line),
     }
 }
 

@@ -8,7 +8,7 @@ ghost use Rattle.recover_core.specs.Stray.{past_zero, solid_bytes};
 use crate::chain::ChainFault;
 use crate::epochs::EpochFault;
 use crate::recover::RecoverFault;
-use audit_core::verdict::Fault;
+use audit_core::verdict::AuditFault;
 use std::alloc::AllocError;
 use text_core::reply::{push_count, push_number};
 
@@ -32,14 +32,14 @@ fn push_breach(out: &mut Vec<u8>, line: u64, path: usize) -> Result<(), AllocErr
 }
 
 // Adds what is told of a faulty line.
-fn push_line_fault(out: &mut Vec<u8>, line: u64, fault: Fault) -> Result<(), AllocError>
+fn push_line_fault(out: &mut Vec<u8>, line: u64, fault: AuditFault) -> Result<(), AllocError>
     ensures { OnOk result (out.new.items ≡ out.old.items ++ line_words line fault) }
 {
     match fault {
-        Fault::Bad => push_at_line(out, line, b" bad\n"),
-        Fault::Breaks(path) => push_breach(out, line, path),
-        Fault::Wrong => push_at_line(out, line, b" wrong reply\n"),
-        Fault::Stranger => push_at_line(out, line, b" not running\n"),
+        AuditFault::Bad => push_at_line(out, line, b" bad\n"),
+        AuditFault::Breaks(path) => push_breach(out, line, path),
+        AuditFault::Wrong => push_at_line(out, line, b" wrong reply\n"),
+        AuditFault::Stranger => push_at_line(out, line, b" not running\n"),
     }
 }
 

@@ -7,7 +7,7 @@ ghost use Rattle.schedule_trial.specs.Told.{event_of, seen_of};
 use crate::plan::Schedule;
 use crate::rows::{EventKind, EventRow, kind_of, note};
 use crate::steps::{LoopCall, StepResult};
-use keep_loop::{Fault, Outside, Read};
+use keep_loop::{Fault, Outside, ReadEnd};
 use std::alloc::{AllocError, Global};
 
 /// A schedule, and what was seen, the oldest first.
@@ -65,7 +65,7 @@ impl Outside for Fake {
         true
     }
 
-    fn read(&mut self, who: u64, piece: &mut Vec<u8>) -> Result<Read, AllocError> {
+    fn read(&mut self, who: u64, piece: &mut Vec<u8>) -> Result<ReadEnd, AllocError> {
         let read = self.plan.read(who, piece)?;
         self.note(kind_of(read), who, piece);
         Ok(read)

@@ -23,7 +23,7 @@ use std::fs::File;
 use std::io::{self, Read};
 use std::process::ExitCode;
 use text_core::write_whole;
-use trial::{Fault, play_all};
+use trial::{ScheduleFault, play_all};
 
 // The file that is named, alone, on the command line.
 fn file_of(rt: &HostRuntime) -> Result<Vec<u8>, u8> {
@@ -59,8 +59,8 @@ fn run(rt: &HostRuntime) -> Result<(), u8> {
     let mut out = Vec::new(alloc);
     match play_all(alloc, &source, &text, &mut out) {
         Ok(()) => {}
-        Err(Fault::Bad) => return Err(1),
-        Err(Fault::Memory) => return Err(4),
+        Err(ScheduleFault::Bad) => return Err(1),
+        Err(ScheduleFault::Memory) => return Err(4),
     }
     match write_whole(&mut io::writer(rt), &out) {
         Ok(()) => Ok(()),

@@ -3,7 +3,7 @@
 ghost use Rattle.std.specs.Prelude.{◌≤◌, ◌<◌, length, IfSome};
 
 use crate::steps::{LoopCall, ScheduleStep, StepResult};
-use keep_loop::Read;
+use keep_loop::ReadEnd;
 use std::alloc::AllocError;
 
 /// A schedule, and how far it is.
@@ -123,25 +123,25 @@ impl Schedule {
     }
 
     /// Reads once, in place of what is in `piece`.
-    pub fn read(&mut self, who: u64, piece: &mut Vec<u8>) -> Result<Read, AllocError> {
+    pub fn read(&mut self, who: u64, piece: &mut Vec<u8>) -> Result<ReadEnd, AllocError> {
         piece.clear();
         let Some(place) = self.place_of(who) else {
-            return Ok(Read::Broken);
+            return Ok(ReadEnd::Broken);
         };
         let Some(answer) = self.answer(LoopCall::Read, place) else {
-            return Ok(Read::NoMore);
+            return Ok(ReadEnd::NoMore);
         };
         match answer.how {
-            StepResult::Ends => return Ok(Read::Ended),
-            StepResult::Fails => return Ok(Read::Broken),
+            StepResult::Ends => return Ok(ReadEnd::Ended),
+            StepResult::Fails => return Ok(ReadEnd::Broken),
             StepResult::Goes => {}
         }
         if let Some(step) = self.steps.get(answer.at) {
             piece.extend_from_slice(&step.bytes)?;
         }
         match self.find(LoopCall::Read, place) {
-            Some(_) => Ok(Read::More),
-            None => Ok(Read::NoMore),
+            Some(_) => Ok(ReadEnd::More),
+            None => Ok(ReadEnd::NoMore),
         }
     }
 

@@ -4,7 +4,7 @@ ghost use Rattle.std.specs.Prelude.{◌≡◌, ◌∷◌, [], ℕ, List, OnOk};
 ghost use Rattle.keep_loop.specs.Seen.{Grows, read_of};
 ghost use Rattle.schedule_trial.specs.Told.{event_of, behind, seen_of};
 
-use keep_loop::Read;
+use keep_loop::ReadEnd;
 use std::alloc::{AllocError, Global};
 use text_core::reply::push_number;
 
@@ -71,13 +71,13 @@ pub fn note(
 }
 
 /// What a read saw.
-pub fn kind_of(read: Read) -> EventKind
+pub fn kind_of(read: ReadEnd) -> EventKind
     ensures { (who : ℕ) (bytes : List ℕ) → event_of result who bytes ≡ read_of who bytes read }
 {
     match read {
-        Read::More | Read::NoMore => EventKind::Came,
-        Read::Ended => EventKind::Ended,
-        Read::Broken => EventKind::Broke,
+        ReadEnd::More | ReadEnd::NoMore => EventKind::Came,
+        ReadEnd::Ended => EventKind::Ended,
+        ReadEnd::Broken => EventKind::Broke,
     }
 }
 

@@ -11,11 +11,11 @@ use crate::fake::Fake;
 use crate::plan::Schedule;
 use crate::rows::{push_block, push_rows};
 use crate::steps::{LoopCall, ScheduleStep, StepWords, cut_bytes, is_run, push_step, words_of};
-use check_core::judge::{Judged, judge};
+use check_core::judge::{JudgedSource, judge};
 use decl_core::object::Object;
 use guest_core::guests::Guests;
-use hosted_core::hosted::{Begun, Hosted};
-use keep_loop::{Fault as LoopFault, Limits, run};
+use hosted_core::hosted::{HostedStart, Hosted};
+use keep_loop::{Fault as LoopFault, LoopLimits, run};
 use live_core::call::Limits as LiveLimits;
 use live_core::live::Live;
 use live_core::source::source_of;
@@ -90,7 +90,7 @@ fn hosted_of(alloc: Global, object: Object, past: Vec<PastEvent>) -> Result<Host
     let Some(live) = found else {
         return Err(ScheduleFault::Bad);
     };
-    let begun = Begun {
+    let begun = HostedStart {
         live,
         guests: Guests::new(alloc, LIMITS.sessions, NAMES)?,
         past,
@@ -109,7 +109,7 @@ fn objects_of(
     source: &[u8],
     steps: &[ScheduleStep],
 ) -> Result<Vec<Hosted>, ScheduleFault> {
-    let Judged::Ready(accepted) = judge(alloc, source)? else {
+    let JudgedSource::Ready(accepted) = judge(alloc, source)? else {
         return Err(ScheduleFault::Bad);
     };
     let mut objects = Vec::new(alloc);
@@ -142,7 +142,7 @@ fn push_end(ended: Result<Table, LoopFault>, out: &mut Vec<u8>) -> Result<(), Al
 }
 
 // Serves a table over a schedule, until the server is to end. What is told of that is honest at each moment.
-fn serve(alloc: Global, table: Table, limits: Limits, fake: &mut Fake) -> Result<Table, LoopFault>
+fn serve(alloc: Global, table: Table, limits: LoopLimits, fake: &mut Fake) -> Result<Table, LoopFault>
     requires { seen_of fake.old.rows ≡ Some [] }
     ensures { IfSome (seen_of fake.new.rows) (λ seen. Always (IsHonest (rules_of Gives Fronts) table limits) seen) }
 {
@@ -159,7 +159,7 @@ fn play(
 ) -> Result<(), ScheduleFault> {
     let objects = objects_of(alloc, source, &steps)?;
     push_fronts(alloc, &objects, out)?;
-    let limits = Limits {
+    let limits = LoopLimits {
         places: words.place,
         journals: objects.len(),
         waits: words.number == 1,

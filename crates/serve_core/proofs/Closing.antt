@@ -4,7 +4,7 @@ use Rattle.std.specs.Prelude.{IsTrue}
 use Rattle.std.proofs.lemmas.List.{append-nil, append_assoc, map-append}
 use Rattle.std.proofs.lemmas.Bool.{true≢false}
 use Rattle.text_core.specs.declared.machine.LinesFault.{LinesFault}
-use Rattle.keep_core.specs.declared.opening.Opening.{Opening}
+use Rattle.keep_core.specs.declared.opening.ObjectOpening.{ObjectOpening}
 use Rattle.keep_core.specs.Opening.{values_of}
 use Rattle.device_core.specs.Device.{Assignment}
 use Rattle.device_core.specs.Papers.{Papers}
@@ -113,10 +113,10 @@ endings_more {before = before} {after = after} ends e so one files =
 -- objects that are to be closed: their names, what they opened with, and the receipts of their sessions
 pub record Due : Type 0 where
   pub names : List (List ℕ)
-  pub openings : List Opening
+  pub openings : List ObjectOpening
   pub slips : List (List Told)
 
-abbrev pub due_of : List (List ℕ) → List Opening → List (List Told) → Due
+abbrev pub due_of : List (List ℕ) → List ObjectOpening → List (List Told) → Due
 due_of names openings slips = record { names = names; openings = openings; slips = slips }
 
 -- Of all these objects those before the rest are closed.
@@ -148,7 +148,7 @@ one_more {X = X} of ends e later all rest x so is same =
     ap (λ (xs : List X). xs ++ later) (map-append of ends (e ∷ [])) ∙ append_assoc (map of ends) (of e ∷ []) later
     ∙ ap (λ (y : X). map of ends ++ (y ∷ later)) same ∙ ap (λ (xs : List X). map of ends ++ xs) (sym is) ∙ so
 
-pub closed_more : {H : Type 0} {backs : H → Assignment → Type 0} {before mid after : Moment} {all rest : Due} {left : ℕ} {seats : List Seat} (name : List ℕ) (opening : Opening) (told : List Told) (later : Due) (fewer : ℕ) (n : List ℕ) (o : Opening) (t : List Told) → ClosedSoFar backs before mid all rest left →
+pub closed_more : {H : Type 0} {backs : H → Assignment → Type 0} {before mid after : Moment} {all rest : Due} {left : ℕ} {seats : List Seat} (name : List ℕ) (opening : ObjectOpening) (told : List Told) (later : Due) (fewer : ℕ) (n : List ℕ) (o : ObjectOpening) (t : List Told) → ClosedSoFar backs before mid all rest left →
     rest.names ≡ name ∷ later.names → fewer + 1 ≡ left → rest.openings ≡ opening ∷ later.openings → rest.slips ≡ told ∷ later.slips → n ≡ name → o ≡ opening → t ≡ told → AreBacked backs t →
     (e : Ended) × IsOf n o seats t e × Ends mid after e → ((a : Assignment) → after.files a → mid.files a) → ClosedSoFar backs before after all later fewer
 closed_more {backs = backs} name opening told later fewer n o t so is fewer_is values_are slips_are named opened slipped back (e, of, one) files = record {

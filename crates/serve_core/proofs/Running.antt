@@ -9,7 +9,7 @@ use Rattle.std.proofs.lemmas.List.{length-map}
 use Rattle.keep_core.specs.declared.close.Closing.{Closing}
 use Rattle.keep_core.specs.declared.open.NotOpened.{NotOpened}
 use Rattle.keep_core.specs.declared.open.NotOpened.TheVariants.{Damaged, Fault}
-use Rattle.keep_core.specs.declared.opening.Opening.{Opening}
+use Rattle.keep_core.specs.declared.opening.ObjectOpening.{ObjectOpening}
 use Rattle.text_core.specs.declared.machine.LinesFault.{LinesFault}
 use Rattle.text_core.specs.declared.machine.LinesFault.TheVariants.{Memory}
 use Rattle.device_core.specs.Device.{Assignment}
@@ -96,7 +96,7 @@ from_opening agrees a [] (e ∷ ends) is each pinned = absurd pinned
 from_opening agrees a (o ∷ objects) [] is each pinned = absurd pinned
 
 -- what closes objects is still as it was
-pub still_pinned : {S T K : Type 0} {old new : Closing S T K} (agrees : K → Assignment → Type 0) (objects : List Object) (openings : List Opening) → new ≡ old → ArePinnedAll (agrees old.hand) objects openings → ArePinnedAll (agrees new.hand) objects openings
+pub still_pinned : {S T K : Type 0} {old new : Closing S T K} (agrees : K → Assignment → Type 0) (objects : List Object) (openings : List ObjectOpening) → new ≡ old → ArePinnedAll (agrees old.hand) objects openings → ArePinnedAll (agrees new.hand) objects openings
 still_pinned {S = S} {T = T} {K = K} agrees objects openings same pinned = subst (λ (c : Closing S T K). ArePinnedAll (agrees c.hand) objects openings) (sym same) pinned
 
 pub still_parts : {S T K : Type 0} {old new : Closing S T K} (holds : S → Papers → Type 0) (papers : Papers) → new ≡ old → holds new.parts papers → holds old.parts papers
@@ -106,7 +106,7 @@ pub still_traces : {S T K : Type 0} {old new : Closing S T K} (holds : T → Pap
 still_traces {S = S} {T = T} {K = K} holds papers same at = subst (λ (c : Closing S T K). holds c.traces papers) same at
 
 -- objects that were served and closed
-pub run_served : {H : Type 0} {backs : H → Assignment → Type 0} {before mid after : Moment} {openings : List Opening} {were are : List H} (objects : List Object) (names : List (List ℕ)) (end : Result ServeEnd LinesFault) → (place : List ℕ) → AreSaid (listening_line place ∷ []) None before.written mid.written →
+pub run_served : {H : Type 0} {backs : H → Assignment → Type 0} {before mid after : Moment} {openings : List ObjectOpening} {were are : List H} (objects : List Object) (names : List (List ℕ)) (end : Result ServeEnd LinesFault) → (place : List ℕ) → AreSaid (listening_line place ∷ []) None before.written mid.written →
     GathersAndCloses backs mid after names openings → names ≡ object_names objects → ArePinnedAll mid.files objects openings → ((papers : Papers) → mid.parts papers → AreLoadedAll papers objects openings) → ((papers : Papers) → mid.parts papers → before.parts papers) →
     ((papers : Papers) → mid.traces papers → before.traces papers) → IsEndOf after.trouble.fault after.trouble.refused end → IsRunIn backs before after were are objects end
 run_served {H = H} {backs = backs} {before = before} {mid = mid} {after = after} {openings = openings} objects names end place listens s same pinned loaded papers traces is =

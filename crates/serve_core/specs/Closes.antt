@@ -9,7 +9,7 @@ use Rattle.board_core.specs.Lists.{Every}
 use Rattle.board_core.specs.Chain.{ShowContents, history_of}
 use Rattle.board_core.specs.Sound.{kinds_of}
 use Rattle.office_core.specs.Slips.{Told, IsTrueTold}
-use Rattle.keep_core.specs.declared.opening.Opening.{Opening}
+use Rattle.keep_core.specs.declared.opening.ObjectOpening.{ObjectOpening}
 use Rattle.keep_core.specs.Opening.{values_of}
 use Rattle.keep_core.specs.Troubles.{first_of}
 use Rattle.keep_core.specs.Lines.{AreSaid, IsOfClosing, entries_line}
@@ -23,7 +23,7 @@ abbrev pub names_of : List Ended → List (List ℕ)
 names_of ends = map (λ (e : Ended). e.name) ends
 
 -- what their parts opened with
-abbrev pub openings_of : List Ended → List Opening
+abbrev pub openings_of : List Ended → List ObjectOpening
 openings_of ends = map (λ (e : Ended). e.opening) ends
 
 -- the receipts that their sessions left
@@ -103,7 +103,7 @@ pub record AreEndings (before after : Moment) (ends : List Ended) : Type 0 where
 -- Objects of these names were closed, each with what its parts opened with and the receipts that its sessions left, and
 -- hands show that these are true.
 pub record Closes {H : Type 0} (backs : H → Assignment → Type 0) (before after : Moment) (names : List (List ℕ))
-    (openings : List Opening) (slips : List (List Told)) : Type 0 where
+    (openings : List ObjectOpening) (slips : List (List Told)) : Type 0 where
   pub ends : List Ended
   pub named : names_of ends ≡ names
   pub opened : openings_of ends ≡ openings

@@ -17,7 +17,7 @@ use Rattle.session_core.specs.declared.order.Named.{Named}
 use Rattle.check_core.specs.Judging.{IsServed, IsUnserved}
 use Rattle.keep_core.specs.declared.open.NotOpened.{NotOpened}
 use Rattle.keep_core.specs.declared.open.NotOpened.TheVariants.{Damaged, Fault}
-use Rattle.keep_core.specs.declared.opening.Opening.{Opening}
+use Rattle.keep_core.specs.declared.opening.ObjectOpening.{ObjectOpening}
 use Rattle.keep_core.specs.declared.trouble.Trouble.{Trouble}
 use Rattle.keep_core.specs.Troubles.{first_of}
 use Rattle.keep_core.specs.Lines.{AreSaid, damaged_line}
@@ -66,7 +66,7 @@ fault_of_end (Err fault) = Some fault
 
 -- What the sessions left of objects under these names was gathered, and then they were closed.
 pub record GathersAndCloses {H : Type 0} (backs : H → Assignment → Type 0) (before after : Moment)
-    (names : List (List ℕ)) (openings : List Opening) : Type 0 where
+    (names : List (List ℕ)) (openings : List ObjectOpening) : Type 0 where
   pub gathered : Trouble
   pub slips : List (List Told)
   pub gathers : IsGathered H (none_of (length names)) before.trouble gathered slips

@@ -15,15 +15,15 @@ ghost use Rattle.serve_core.specs.Runs.{AreNotServed, IsLineOf};
 use crate::gate::Gate;
 use crate::gather::{Gathered, Gathering};
 use crate::listen::{Came, serve_all};
-use crate::open::Served;
+use crate::open::ServedObjects;
 use crate::serve::{ServeEnd, tell_refused};
 use decl_core::analyse::Accepted;
 use device_core::ahead::Ends;
 use device_core::hand::Hand;
 use device_core::shelf::Shelf;
-use keep_core::close::{Closing, Ending};
+use keep_core::close::{Closing, ClosingObject};
 use keep_core::open::NotOpened;
-use keep_core::opening::Opening;
+use keep_core::opening::ObjectOpening;
 use keep_core::trouble::Trouble;
 use session_core::order::Named;
 use std::alloc::{AllocError, Global};
@@ -88,7 +88,7 @@ fn next_of<X>(items: &mut IntoIter<X>) -> X
 }
 
 // An object at the end, with what its sessions left.
-fn ending_of<H: Hand + Drop>(named: Named, opening: Opening, gathered: Gathered<H>) -> Ending
+fn ending_of<H: Hand + Drop>(named: Named, opening: ObjectOpening, gathered: Gathered<H>) -> ClosingObject
     ensures name { result.name ≡ named.name }
     ensures opening { result.opening ≡ opening }
     ensures slips { result.receipts.items ≡ gathered.backed }
@@ -96,7 +96,7 @@ fn ending_of<H: Hand + Drop>(named: Named, opening: Opening, gathered: Gathered<
 {
     let Named { name, office } = named;
     let Gathered { seats, backed } = gathered;
-    Ending {
+    ClosingObject {
         name,
         office,
         opening,
@@ -107,7 +107,7 @@ fn ending_of<H: Hand + Drop>(named: Named, opening: Opening, gathered: Gathered<
 
 // Closes each object, with what its parts opened with and what its sessions left.
 fn close_all<S: Shelf + Drop, T: Shelf + Drop, K: Hand + Drop, H: Hand + Drop, W: Write, E: Write>(
-    served: Served,
+    served: ServedObjects,
     gathered: Vec<Gathered<H>>,
     closing: &mut Closing<S, T, K>,
     writer: &mut W,
@@ -119,7 +119,7 @@ fn close_all<S: Shelf + Drop, T: Shelf + Drop, K: Hand + Drop, H: Hand + Drop, W
         (moment_of S.holds T.holds K.agrees closing.new (W.contents writer.new)) (named_in served.offices.items)
         served.openings.items (slips_in gathered.items) }
 {
-    let Served { offices, openings } = served;
+    let ServedObjects { offices, openings } = served;
     let mut values = openings.into_iter();
     let mut left = gathered.into_iter();
     for named in offices {
@@ -184,7 +184,7 @@ impl<S: Shelf + Drop, T: Shelf + Drop, K: Hand + Drop, H: Ends + Send> Host<S, T
     // is noted.
     fn close<W: Write, E: Write>(
         &mut self,
-        served: Served,
+        served: ServedObjects,
         room: Gathering<H>,
         came: Result<Vec<Came<H>>, AllocError>,
         writer: &mut W,

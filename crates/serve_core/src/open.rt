@@ -12,19 +12,19 @@ use decl_core::analyse::Accepted;
 use device_core::hand::Hand;
 use device_core::shelf::Shelf;
 use keep_core::open::{NotOpened, Opened};
-use keep_core::opening::Opening;
+use keep_core::opening::ObjectOpening;
 use session_core::order::Named;
 use text_core::LinesFault;
 
 /// What is served: the offices of the objects, and what the parts of each of them opened with.
 #[derive(Drop)]
-pub struct Served {
+pub struct ServedObjects {
     pub offices: Vec<Named>,
-    pub openings: Vec<Opening>,
+    pub openings: Vec<ObjectOpening>,
 }
 
 // Adds an object that is open.
-fn add(served: &mut Served, opened: Opened) -> Result<(), NotOpened>
+fn add(served: &mut ServedObjects, opened: Opened) -> Result<(), NotOpened>
     ensures named { OnOk result (named_in served.new.offices.items
         ≡ named_in served.old.offices.items ++ opened.name ∷ []) }
     ensures opening { OnOk result (served.new.openings.items ≡ served.old.openings.items ++ opened.opening ∷ []) }
@@ -51,7 +51,7 @@ impl<S: Shelf + Drop, T: Shelf + Drop, K: Hand + Drop, H: Hand + Drop> Host<S, T
     /// are sealed by the hand.
     ///
     /// The first fault ends it: files that were sealed before it are left.
-    pub(crate) fn open(&mut self, ready: Vec<Accepted>) -> Result<Served, NotOpened>
+    pub(crate) fn open(&mut self, ready: Vec<Accepted>) -> Result<ServedObjects, NotOpened>
         ensures named { IfOk result (λ s. named_in s.offices.items ≡ object_names ready.items) }
         // As many openings as offices, each with what its object's parts began with.
         ensures many { IfOk result (λ s. length s.openings.items ≡ length s.offices.items) }
@@ -66,7 +66,7 @@ impl<S: Shelf + Drop, T: Shelf + Drop, K: Hand + Drop, H: Hand + Drop> Host<S, T
         ensures hands { self.new.hands.items ≡ self.old.hands.items }
         ensures not { IfErr result (IsNotOpenedOf (S.holds self.new.closing.parts) ready.items) }
     {
-        let mut served = Served {
+        let mut served = ServedObjects {
             offices: Vec::new(self.alloc),
             openings: Vec::new(self.alloc),
         };

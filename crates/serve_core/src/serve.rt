@@ -12,7 +12,7 @@ ghost use Rattle.serve_core.specs.Tidies.{TidiesValues};
 
 use crate::gate::Gate;
 use crate::host::Host;
-use check_core::judge::{Judged, judge};
+use check_core::judge::{JudgedSource, judge};
 use decl_core::analyse::Accepted;
 use device_core::ahead::Ends;
 use device_core::dir::DirHand;
@@ -35,7 +35,7 @@ use text_core::{LinesFault, write_whole};
 
 /// Where a server keeps its files, and the hands of its sessions: it takes a connection for each.
 #[derive(Drop)]
-pub struct Place<H: Drop> {
+pub struct ServerFolder<H: Drop> {
     /// The folder.
     pub folder: String,
     /// The numbers of the value files that an earlier run left there, and the first number above them.
@@ -139,7 +139,7 @@ fn serve_ready<
 >(
     rt: &R,
     ready: Vec<Accepted>,
-    place: Place<H>,
+    place: ServerFolder<H>,
     gate: &Gate,
     writer: &mut W,
     error: &mut E,
@@ -149,7 +149,7 @@ where
     ensures { IsRunOf H.agrees ready.items result (W.contents writer.old) (W.contents writer.new) }
 {
     let alloc = rt.alloc();
-    let Place {
+    let ServerFolder {
         folder,
         found,
         numbers,
@@ -238,7 +238,7 @@ pub fn serve_on<
 >(
     rt: &R,
     source: &[u8],
-    place: Place<H>,
+    place: ServerFolder<H>,
     gate: &Gate,
     writer: &mut W,
     error: &mut E,
@@ -251,8 +251,8 @@ where
     ensures run { IsRun H.agrees source.now result (W.contents writer.old) (W.contents writer.new) }
 {
     match judge(rt.alloc(), source) {
-        Ok(Judged::Told(text)) => tell_refused(&text, writer),
-        Ok(Judged::Ready(ready)) => serve_ready(rt, ready, place, gate, writer, error),
+        Ok(JudgedSource::Told(text)) => tell_refused(&text, writer),
+        Ok(JudgedSource::Ready(ready)) => serve_ready(rt, ready, place, gate, writer, error),
         Err(_) => Err(LinesFault::Memory),
     }
 }

@@ -1,21 +1,21 @@
 -- Dialogues that are joined and parted.
 use Rattle.std.proofs.Common.{List, [], ◌∷◌, ◌++◌, refl, sym, subst, append_assoc}
 use Rattle.session_text.specs.Answers.{Said}
-use Rattle.session_core.specs.declared.stage.Stage.{Stage}
+use Rattle.session_core.specs.declared.stage.SessionStage.{SessionStage}
 use Rattle.session_core.specs.Dialogue.{Moves, IsDialogue, IsDialogueSoFar}
 
 -- one after the other
-pub joined : (first here to : Stage) (before behind : List Said) → IsDialogue first before here → IsDialogue here behind to → IsDialogue first (before ++ behind) to
+pub joined : (first here to : SessionStage) (before behind : List Said) → IsDialogue first before here → IsDialogue here behind to → IsDialogue first (before ++ behind) to
 joined first here to [] behind leads on = subst (λ s. IsDialogue s behind to) (sym leads) on
 joined first here to (line ∷ before) behind (next, goes, leads) on = (next, goes, joined next here to before behind leads on)
 
 -- in two
-pub parted : (first to : Stage) (before behind : List Said) → IsDialogue first (before ++ behind) to → (here : Stage) × IsDialogue first before here × IsDialogue here behind to
+pub parted : (first to : SessionStage) (before behind : List Said) → IsDialogue first (before ++ behind) to → (here : SessionStage) × IsDialogue first before here × IsDialogue here behind to
 parted first to [] behind leads = (first, refl, leads)
 parted first to (line ∷ before) behind (next, goes, leads) = let r = parted next to before behind leads in (r.0, (next, goes, r.1), r.2)
 
 -- one line more
-pub one_more : (first here to : Stage) (before : List Said) (line : Said) → IsDialogue first before here → Moves here line to → IsDialogue first (before ++ line ∷ []) to
+pub one_more : (first here to : SessionStage) (before : List Said) (line : Said) → IsDialogue first before here → Moves here line to → IsDialogue first (before ++ line ∷ []) to
 one_more first here to before line leads goes = joined first here to before (line ∷ []) leads (to, goes, refl)
 
 -- the lines up to any of them

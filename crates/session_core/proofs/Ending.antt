@@ -4,10 +4,10 @@ use Rattle.std.specs.Prelude.{IsTrue}
 use Rattle.std.proofs.Math.Dec.{eqb}
 use Rattle.std.proofs.lemmas.Bool.Decides.{eqb_tells}
 use Rattle.office_core.specs.Slips.{Told}
-use Rattle.session_core.specs.declared.note.Note.{Note}
+use Rattle.session_core.specs.declared.note.ReplyNote.{ReplyNote}
 use Rattle.session_core.specs.declared.output.Health.{Health}
 use Rattle.session_core.specs.declared.output.Health.TheVariants.{Fine}
-use Rattle.session_core.specs.declared.stage.Stage.TheVariants.{Free}
+use Rattle.session_core.specs.declared.stage.SessionStage.TheVariants.{Free}
 use Rattle.session_core.specs.declared.fault.SessionFault.{SessionFault}
 use Rattle.session_core.specs.declared.fault.SessionFault.TheVariants as faults
 use Rattle.session_text.specs.declared.fault.HearFault.{HearFault}
@@ -17,21 +17,21 @@ use Rattle.session_core.proofs.Saying.{fresh, last_fine}
 use Rattle.session_core.specs.Causes.{IsCausedBy, IsCaused}
 
 -- where there are as many of the ones as of the others, the first ones are all
-pub all_of : (receipts : List Told) (notes : List Note) → length receipts ≡ length notes → AreFirst receipts notes → AreAll receipts notes
+pub all_of : (receipts : List Told) (notes : List ReplyNote) → length receipts ≡ length notes → AreFirst receipts notes → AreAll receipts notes
 all_of [] [] same first = tt
 all_of (r ∷ receipts) [] same first = absurd (omega (arith, same))
 all_of [] (note ∷ notes) same first = absurd first
 all_of (r ∷ receipts) (note ∷ notes) same first = (first.0, all_of receipts notes (omega (arith, same)) first.1)
 
 -- where they are all, they are the first ones
-pub first_of : (receipts : List Told) (notes : List Note) → AreAll receipts notes → AreFirst receipts notes
+pub first_of : (receipts : List Told) (notes : List ReplyNote) → AreAll receipts notes → AreFirst receipts notes
 first_of [] [] all = tt
 first_of (r ∷ receipts) [] all = absurd all
 first_of [] (note ∷ notes) all = absurd all
 first_of (r ∷ receipts) (note ∷ notes) all = (all.0, first_of receipts notes all.1)
 
 -- and there are as many of them
-pub as_many : (receipts : List Told) (notes : List Note) → AreAll receipts notes → length receipts ≡ length notes
+pub as_many : (receipts : List Told) (notes : List ReplyNote) → AreAll receipts notes → length receipts ≡ length notes
 as_many [] [] all = refl
 as_many (r ∷ receipts) [] all = absurd all
 as_many [] (note ∷ notes) all = absurd all
@@ -42,7 +42,7 @@ pub not_same : (a b : ℕ) → (a ≡ b → ⊥) → IsTrue (eqb a b) → ⊥
 not_same a b other told = elim (eqb_tells a b) [ inl same ↦ other same.1 | inr h ↦ absurd (let e : true ≡ false = sym told ∙ h.0 in cc) ]
 
 -- the cause of a session's fault: the notes are those of what was said, and the receipts and the writer go on unchanged
-pub caused_of : (start now then : Option (List ℕ)) (receipts gone : List Told) (notes marks : List Note) (health : Health) (heard : Option HearFault) (fault : Option SessionFault)
+pub caused_of : (start now then : Option (List ℕ)) (receipts gone : List Told) (notes marks : List ReplyNote) (health : Health) (heard : Option HearFault) (fault : Option SessionFault)
     → IsSaid start now health notes → then ≡ now → gone ≡ receipts → marks ≡ notes → IsCausedBy receipts marks health heard fault → IsCaused start then gone heard fault
 caused_of start now then receipts gone notes marks health heard fault said same items are by = (
   health,

@@ -12,7 +12,7 @@ use Rattle.board_core.specs.Sound.{IsSound}
 use Rattle.board_core.specs.Answers.{Asked, HasName}
 use Rattle.board_core.specs.Keyed.{Finds}
 use Rattle.office_core.specs.Slips.{Told, told_by}
-use Rattle.session_core.specs.declared.entered.Entered.{Entered}
+use Rattle.session_core.specs.declared.entered.EnteredObject.{EnteredObject}
 use Rattle.session_core.specs.Making.{IsNew, AddsOne, MakesOnce, MakesCall, asked_by}
 
 -- what the desk has as the key of the next call is new
@@ -35,7 +35,7 @@ one_made name args t o after place session old between new named of run tells sa
     })
 
 -- a call of a seat that is there, where it is to be made
-pub call_made : (seat : Option Entered) (e : Entered) (key : Option ℕ) (name given : List ℕ) (args : List Datum) (old new : List Told) → seat ≡ Some e → given ≡ name → IsNew (asked_by e.seat.session given args) key
+pub call_made : (seat : Option EnteredObject) (e : EnteredObject) (key : Option ℕ) (name given : List ℕ) (args : List Datum) (old new : List Told) → seat ≡ Some e → given ≡ name → IsNew (asked_by e.seat.session given args) key
     → MakesOnce e.seat.session given args old new → MakesCall seat key name args old new
 call_made seat e key name given args old new there same fresh (inl none) = inl none
 call_made seat e key name given args old new there same fresh (inr one) =

@@ -15,16 +15,16 @@ use Rattle.word_core.specs.Ending.{finish_words}
 use Rattle.word_core.specs.Text.{reply_ending}
 use Rattle.word_core.specs.Answers.{finished_line}
 use Rattle.session_text.specs.Lines.{refusal_name, fault_name, keyed_name, unended_name, cancel_name}
-use Rattle.session_text.specs.declared.line.Line.TheVariants as lines
-use Rattle.session_text.specs.declared.line.Refusal.{Refusal}
-use Rattle.session_text.specs.declared.line.Refusal.TheVariants as refusals
+use Rattle.session_text.specs.declared.line.ReplyLine.TheVariants as lines
+use Rattle.session_text.specs.declared.line.LineRefusal.{LineRefusal}
+use Rattle.session_text.specs.declared.line.LineRefusal.TheVariants as refusals
 use Rattle.session_text.specs.Requests.{Request, opens, calls, cancels, quits}
 use Rattle.session_text.specs.Answers.{Said, opened, ended, repeated, told, said_text, MayAnswer}
-use Rattle.session_core.specs.declared.note.Note.{Note}
+use Rattle.session_core.specs.declared.note.ReplyNote.{ReplyNote}
 use Rattle.session_core.specs.declared.output.Health.{Health}
 use Rattle.session_core.specs.declared.output.Health.TheVariants.{Fine, NoMemory, Mixed, Broken}
-use Rattle.session_core.specs.declared.stage.Stage.{Stage}
-use Rattle.session_core.specs.declared.stage.Stage.TheVariants.{Free}
+use Rattle.session_core.specs.declared.stage.SessionStage.{SessionStage}
+use Rattle.session_core.specs.declared.stage.SessionStage.TheVariants.{Free}
 use Rattle.session_text.specs.declared.fault.HearFault.{HearFault}
 use Rattle.session_text.specs.declared.fault.HearFault.TheVariants as hears
 use Rattle.session_core.specs.Notes.{note_at}
@@ -38,7 +38,7 @@ nothing_sent : (start : Option (List ℕ)) → Appends start start []
 nothing_sent None = tt
 nothing_sent (Some xs) = sym (append-nil xs)
 
-pub fresh : (start now : Option (List ℕ)) (held : List ℕ) (notes : List Note) → now ≡ start → held ≡ [] → notes ≡ [] → IsWhole start now held notes Free
+pub fresh : (start now : Option (List ℕ)) (held : List ℕ) (notes : List ReplyNote) → now ≡ start → held ≡ [] → notes ≡ [] → IsWhole start now held notes Free
 fresh start now held notes at none unnoted = ([], [], sym unnoted, refl, subst (λ k. Appends start k []) (sym at) (nothing_sent start), none)
 
 more_bytes : (start old new : Option (List ℕ)) (front back : List ℕ) → Appends start old front → Appends old new back → Appends start new (front ++ back)
@@ -51,7 +51,7 @@ at_end : {A : Type 0} (f : Said → List A) (said : List Said) (line : Said) →
 at_end f said line = flat_map-append f said (line ∷ []) ∙ ap (λ w. flat_map f said ++ w) (append-nil (f line))
 
 -- a line is held back that may stand there
-pub held_more : (held text : List ℕ) (notes more : List Note) (first at to : Stage) (line : Said) (added : Bool) → IsHeld held notes first at → Moves at line to → added ≡ true → Adds held text notes more line added → IsHeld text more first to
+pub held_more : (held text : List ℕ) (notes more : List ReplyNote) (first at to : SessionStage) (line : Said) (added : Bool) → IsHeld held notes first at → Moves at line to → added ≡ true → Adds held text notes more line added → IsHeld text more first to
 held_more held text notes more first at to line false is goes so adds = cc
 held_more held text notes more first at to line true (kept, noted, leads, are) goes so (grown, marked) = (
   kept ++ line ∷ [],
@@ -61,27 +61,27 @@ held_more held text notes more first at to line true (kept, noted, leads, are) g
 )
 
 -- or not
-pub held_still : (held text : List ℕ) (notes more : List Note) (first at : Stage) (line : Said) (added : Bool) → IsHeld held notes first at → added ≡ false → Adds held text notes more line added → IsHeld text more first at
+pub held_still : (held text : List ℕ) (notes more : List ReplyNote) (first at : SessionStage) (line : Said) (added : Bool) → IsHeld held notes first at → added ≡ false → Adds held text notes more line added → IsHeld text more first at
 held_still held text notes more first at line true is so adds = cc
 held_still held text notes more first at line false (kept, noted, leads, are) so (same, unmarked) = (kept, noted ∙ sym unmarked, leads, same ∙ are)
 
 -- what adding a line did, of what is seen of what is held back
-pub adds_seen : (was is : List ℕ × List Note × Stage × Stage × Bool × Bool) (new : List ℕ) (more : List Note) (line : Said) (added known : Bool) → was ≡ is → added ≡ known → Adds was.0 new was.1 more line added
+pub adds_seen : (was is : List ℕ × List ReplyNote × SessionStage × SessionStage × Bool × Bool) (new : List ℕ) (more : List ReplyNote) (line : Said) (added known : Bool) → was ≡ is → added ≡ known → Adds was.0 new was.1 more line added
     → Adds is.0 new is.1 more line known
 adds_seen was is new more line added known same so adds = subst (λ v. Adds v.0 new v.1 more line known) same (subst (λ b. Adds was.0 new was.1 more line b) so adds)
 
 -- what is left behind where lines were handed over
-pub all_gone : (held left to : List ℕ) (notes fewer noted more : List Note) (at : Stage) (went : Bool) → went ≡ true → HandsOver held left notes fewer to noted more went → IsHeld left fewer at at
+pub all_gone : (held left to : List ℕ) (notes fewer noted more : List ReplyNote) (at : SessionStage) (went : Bool) → went ≡ true → HandsOver held left notes fewer to noted more went → IsHeld left fewer at at
 all_gone held left to notes fewer noted more at false so hands = cc
 all_gone held left to notes fewer noted more at true so (moved, gone, grown, spent) = ([], sym spent, refl, gone)
 
 -- or were not
-pub none_gone : (held left to : List ℕ) (notes fewer noted more : List Note) (first at : Stage) (went : Bool) → IsHeld held notes first at → went ≡ false → HandsOver held left notes fewer to noted more went → IsHeld left fewer first at
+pub none_gone : (held left to : List ℕ) (notes fewer noted more : List ReplyNote) (first at : SessionStage) (went : Bool) → IsHeld held notes first at → went ≡ false → HandsOver held left notes fewer to noted more went → IsHeld left fewer first at
 none_gone held left to notes fewer noted more first at true is so hands = cc
 none_gone held left to notes fewer noted more first at false (kept, marked, leads, are) so (none, stays, same, still) = (kept, marked ∙ sym still, leads, stays ∙ are)
 
 -- lines that were held back elsewhere are to be sent
-pub more_held : (start now : Option (List ℕ)) (none held : List ℕ) (notes marks more : List Note) (first at to : Stage) → none ≡ [] → IsWhole start now none notes at → IsHeld held marks first to → first ≡ at → more ≡ notes ++ marks
+pub more_held : (start now : Option (List ℕ)) (none held : List ℕ) (notes marks more : List ReplyNote) (first at to : SessionStage) → none ≡ [] → IsWhole start now none notes at → IsHeld held marks first to → first ≡ at → more ≡ notes ++ marks
     → IsWhole start now held more to
 more_held start now none held notes marks more first at to empty (sent, before, noted, leads, bytes, are) (kept, marked, on, stand) here grown = (
   sent,
@@ -93,7 +93,7 @@ more_held start now none held notes marks more first at to empty (sent, before, 
 )
 
 -- all lines that were held back are sent
-pub all_sent : (start old new : Option (List ℕ)) (held left : List ℕ) (notes : List Note) (at : Stage) → IsWhole start old held notes at → Sends old new held left true → IsWhole start new left notes at
+pub all_sent : (start old new : Option (List ℕ)) (held left : List ℕ) (notes : List ReplyNote) (at : SessionStage) → IsWhole start old held notes at → Sends old new held left true → IsWhole start new left notes at
 all_sent start old new held left notes at (sent, kept, noted, leads, bytes, are) (gone, none) = (
   sent ++ kept,
   [],
@@ -161,7 +161,7 @@ some_front held [] count some are = absurd (some are)
 some_front held (line ∷ said) count some are = front_of line said count
 
 -- a front of the lines that were held back is sent
-cut_within : (start old new : Option (List ℕ)) (notes : List Note) (at : Stage) (sent kept : List Said) (count : ℕ) → notes_of sent ++ notes_of kept ≡ notes → IsDialogue Free (sent ++ kept) at → Appends start old (lines_text sent)
+cut_within : (start old new : Option (List ℕ)) (notes : List ReplyNote) (at : SessionStage) (sent kept : List Said) (count : ℕ) → notes_of sent ++ notes_of kept ≡ notes → IsDialogue Free (sent ++ kept) at → Appends start old (lines_text sent)
     → Appends old new (take count (lines_text kept)) → IsCutAt kept count → IsCut start new notes
 cut_within start old new notes at sent kept count noted leads bytes gone front = (
   sent ++ front.sent,
@@ -177,7 +177,7 @@ cut_within start old new notes at sent kept count noted leads bytes gone front =
       (more_bytes start old new (lines_text sent) (take count (lines_text kept)) bytes gone),
 )
 
-pub some_sent : (start old new : Option (List ℕ)) (held left : List ℕ) (notes : List Note) (at : Stage) → (held ≡ [] → ⊥) → IsWhole start old held notes at → Sends old new held left false → IsCut start new notes
+pub some_sent : (start old new : Option (List ℕ)) (held left : List ℕ) (notes : List ReplyNote) (at : SessionStage) → (held ≡ [] → ⊥) → IsWhole start old held notes at → Sends old new held left false → IsCut start new notes
 some_sent start old new held left notes at some (sent, kept, noted, leads, bytes, are) (count, gone) =
     cut_within start old new notes at sent kept count noted leads bytes (subst (λ w. Appends old new (take count w)) are gone) (some_front held kept count some are)
 
@@ -185,7 +185,7 @@ nothing_more : (start now : Option (List ℕ)) (bytes : List ℕ) → Appends st
 nothing_more start now bytes is = nothing_sent now
 
 -- lines that were held back are lost
-none_sent : (start now : Option (List ℕ)) (held : List ℕ) (notes : List Note) (at : Stage) → (held ≡ [] → ⊥) → IsWhole start now held notes at → IsCut start now notes
+none_sent : (start now : Option (List ℕ)) (held : List ℕ) (notes : List ReplyNote) (at : SessionStage) → (held ≡ [] → ⊥) → IsWhole start now held notes at → IsCut start now notes
 none_sent start now held notes at some (sent, kept, noted, leads, bytes, are) =
     cut_within start now now notes at sent kept 0 noted leads bytes (nothing_sent now) (some_front held kept 0 some are)
 
@@ -224,7 +224,7 @@ no_lines [] h = refl
 no_lines (line ∷ kept) h = absurd (no_text line (front_nil (said_text line) (lines_text kept) h))
 
 -- where nothing is held back, and no call is open, all was said
-all_said : (start now : Option (List ℕ)) (held : List ℕ) (notes : List Note) (at : Stage) → held ≡ [] → IsShut at → IsWhole start now held notes at → IsSaid start now Fine notes
+all_said : (start now : Option (List ℕ)) (held : List ℕ) (notes : List ReplyNote) (at : SessionStage) → held ≡ [] → IsShut at → IsWhole start now held notes at → IsSaid start now Fine notes
 all_said start now held notes at empty shut (sent, kept, noted, leads, bytes, are) =
     let none = no_lines kept (sym are ∙ empty) in (
       sent,
@@ -238,11 +238,11 @@ take_all : {A : Type 0} (xs : List A) → take (length xs) xs ≡ xs
 take_all [] = refl
 take_all (x ∷ xs) = ap (λ w. x ∷ w) (take_all xs)
 
-pub whole_front : (start now : Option (List ℕ)) (held : List ℕ) (notes : List Note) (at : Stage) → IsWhole start now held notes at → IsFront start now
+pub whole_front : (start now : Option (List ℕ)) (held : List ℕ) (notes : List ReplyNote) (at : SessionStage) → IsWhole start now held notes at → IsFront start now
 whole_front start now held notes at (sent, kept, noted, leads, bytes, are) =
     (sent, length (lines_text sent), so_far sent kept (at, leads), subst (Appends start now) (sym (take_all (lines_text sent))) bytes)
 
-cut_front : (start now : Option (List ℕ)) (notes : List Note) → IsCut start now notes → IsFront start now
+cut_front : (start now : Option (List ℕ)) (notes : List ReplyNote) → IsCut start now notes → IsFront start now
 cut_front start now notes (sent, last, lost, count, noted, leads, bytes) = (
   sent ++ last ∷ [],
   length (lines_text sent) + count,
@@ -252,18 +252,18 @@ cut_front start now notes (sent, last, lost, count, noted, leads, bytes) = (
       bytes,
 )
 
-pub said_front : (start now : Option (List ℕ)) (health : Health) (notes : List Note) → IsSaid start now health notes → IsFront start now
+pub said_front : (start now : Option (List ℕ)) (health : Health) (notes : List ReplyNote) → IsSaid start now health notes → IsFront start now
 said_front start now Fine notes (sent, noted, (at, leads, shut), bytes) = (sent, length (lines_text sent), (at, leads), subst (Appends start now) (sym (take_all (lines_text sent))) bytes)
 said_front start now NoMemory notes (held, at, is) = whole_front start now held notes at is
 said_front start now Mixed notes is = is
 said_front start now Broken notes is = cut_front start now notes is
 
 -- where all was said, nothing is missing
-pub said_whole : (start now : Option (List ℕ)) (notes : List Note) → IsSaid start now Fine notes → IsSaid start now NoMemory notes
+pub said_whole : (start now : Option (List ℕ)) (notes : List ReplyNote) → IsSaid start now Fine notes → IsSaid start now NoMemory notes
 said_whole start now notes (sent, noted, (at, leads, shut), bytes) =
     ([], at, (sent, [], append-nil (notes_of sent) ∙ noted, subst (λ w. IsDialogue Free w at) (sym (append-nil sent)) leads, bytes, refl))
 
-refused_line : (refusal : Refusal) → (q : Option Request) × MayAnswer q (told (lines.Refused refusal))
+refused_line : (refusal : LineRefusal) → (q : Option Request) × MayAnswer q (told (lines.Refused refusal))
 refused_line refusals.BadLine = (None, tt)
 refused_line refusals.LineTooLong = (None, tt)
 refused_line refusals.NotOpen = (Some (cancels 0), tt)
@@ -274,31 +274,31 @@ refused_line refusals.Full = (Some (opens [] None), tt)
 refused_line refusals.Gone = (Some (calls None [] []), tt)
 
 -- a note is of one of these receipts
-abbrev IsNoted : List Told → Note → Type 0
+abbrev IsNoted : List Told → ReplyNote → Type 0
 IsNoted [] note = ⊥
 IsNoted (r ∷ receipts) note = IsNoteOf r note ⊎ IsNoted receipts note
 
-abbrev AreNoted : List Told → List Note → Type 0
+abbrev AreNoted : List Told → List ReplyNote → Type 0
 AreNoted receipts notes = Every (IsNoted receipts) notes
 
-wider : (r : Told) (receipts : List Told) (notes : List Note) → AreNoted receipts notes → AreNoted (r ∷ receipts) notes
+wider : (r : Told) (receipts : List Told) (notes : List ReplyNote) → AreNoted receipts notes → AreNoted (r ∷ receipts) notes
 wider r receipts [] h = tt
 wider r receipts (note ∷ notes) h = (inr h.0, wider r receipts notes h.1)
 
-first_noted : (receipts : List Told) (notes : List Note) → AreFirst receipts notes → AreNoted receipts notes
+first_noted : (receipts : List Told) (notes : List ReplyNote) → AreFirst receipts notes → AreNoted receipts notes
 first_noted [] [] h = tt
 first_noted (r ∷ receipts) [] h = tt
 first_noted [] (note ∷ notes) h = absurd h
 first_noted (r ∷ receipts) (note ∷ notes) h = (inl h.0, wider r receipts notes (first_noted receipts notes h.1))
 
-all_first : (receipts : List Told) (notes : List Note) → AreAll receipts notes → AreFirst receipts notes
+all_first : (receipts : List Told) (notes : List ReplyNote) → AreAll receipts notes → AreFirst receipts notes
 all_first [] [] h = tt
 all_first (r ∷ receipts) [] h = absurd h
 all_first [] (note ∷ notes) h = absurd h
 all_first (r ∷ receipts) (note ∷ notes) h = (h.0, all_first receipts notes h.1)
 
 -- the first ones of the first ones
-fewer_first : (receipts : List Told) (notes more : List Note) → AreFirst receipts (notes ++ more) → AreFirst receipts notes
+fewer_first : (receipts : List Told) (notes more : List ReplyNote) → AreFirst receipts (notes ++ more) → AreFirst receipts notes
 fewer_first [] [] more h = tt
 fewer_first (r ∷ receipts) [] more h = tt
 fewer_first [] (note ∷ notes) more h = absurd h
@@ -324,7 +324,7 @@ line_of_session receipts (told (lines.Withdrawn n)) h = inl (Some (calls None []
 line_of_session receipts (told (lines.Cancel n answer)) h = inl (Some (cancels n), refl)
 line_of_session receipts (told lines.Bye) h = inl (Some quits, tt)
 
-noted_parts : (receipts : List Told) (xs ys : List Note) → AreNoted receipts (xs ++ ys) → AreNoted receipts xs × AreNoted receipts ys
+noted_parts : (receipts : List Told) (xs ys : List ReplyNote) → AreNoted receipts (xs ++ ys) → AreNoted receipts xs × AreNoted receipts ys
 noted_parts receipts [] ys h = (tt, h)
 noted_parts receipts (x ∷ xs) ys h = let r = noted_parts receipts xs ys h.1 in ((h.0, r.0), r.1)
 
@@ -337,17 +337,17 @@ lines_of_session receipts (line ∷ said) h =
 first_of_session : (receipts : List Told) (said : List Said) → AreFirst receipts (notes_of said) → AreOfSession receipts said
 first_of_session receipts said h = lines_of_session receipts said (first_noted receipts (notes_of said) h)
 
-wrote_all : (start now : Option (List ℕ)) (notes : List Note) (receipts : List Told) → IsSaid start now Fine notes → AreAll receipts notes → WroteAll start now receipts
+wrote_all : (start now : Option (List ℕ)) (notes : List ReplyNote) (receipts : List Told) → IsSaid start now Fine notes → AreAll receipts notes → WroteAll start now receipts
 wrote_all start now notes receipts (sent, noted, whole, bytes) h =
     let all = subst (AreAll receipts) (sym noted) h in
     (sent, whole, all, first_of_session receipts sent (all_first receipts (notes_of sent) all), bytes)
 
-wrote_lines : (start now : Option (List ℕ)) (held : List ℕ) (notes : List Note) (at : Stage) (receipts : List Told) → IsWhole start now held notes at → AreFirst receipts notes → WroteLines start now receipts
+wrote_lines : (start now : Option (List ℕ)) (held : List ℕ) (notes : List ReplyNote) (at : SessionStage) (receipts : List Told) → IsWhole start now held notes at → AreFirst receipts notes → WroteLines start now receipts
 wrote_lines start now held notes at receipts (sent, kept, noted, leads, bytes, are) h =
     let first = fewer_first receipts (notes_of sent) (notes_of kept) (subst (AreFirst receipts) (sym noted) h) in
     (sent, so_far sent kept (at, leads), first, first_of_session receipts sent first, bytes)
 
-wrote_front : (start now : Option (List ℕ)) (notes : List Note) (receipts : List Told) → IsCut start now notes → AreFirst receipts notes → WroteFront start now receipts
+wrote_front : (start now : Option (List ℕ)) (notes : List ReplyNote) (receipts : List Told) → IsCut start now notes → AreFirst receipts notes → WroteFront start now receipts
 wrote_front start now notes receipts (sent, last, lost, count, noted, leads, bytes) h =
     let all = subst (AreFirst receipts) (sym noted ∙ sym (append_assoc (notes_of sent) (note_of last) (notes_of lost))) h in
     let first = fewer_first receipts (notes_of sent ++ note_of last) (notes_of lost) all in
@@ -374,7 +374,7 @@ whole_fault (Some hears.ReadFault) start now receipts is = is
 whole_fault (Some hears.Memory) start now receipts is = wrote_more start now receipts is
 
 -- what was written, by the fault that is told
-pub wrote : (accounted : Bool) (health : Health) (heard : Option HearFault) (start now : Option (List ℕ)) (notes : List Note) (receipts : List Told)
+pub wrote : (accounted : Bool) (health : Health) (heard : Option HearFault) (start now : Option (List ℕ)) (notes : List ReplyNote) (receipts : List Told)
     → (IsTrue accounted → IsAccounted health receipts notes) → IsSaid start now health notes → HasWritten start now receipts (told_fault accounted health heard)
 wrote false health heard start now notes receipts h is = said_front start now health notes is
 wrote true Mixed heard start now notes receipts h is = is
@@ -383,15 +383,15 @@ wrote true NoMemory heard start now notes receipts h is = wrote_lines start now 
 wrote true Fine heard start now notes receipts h is = whole_fault heard start now receipts (wrote_all start now notes receipts is (h refl))
 
 -- where all is fine, all is whole
-whole_at : (start now : Option (List ℕ)) (held : List ℕ) (health : Health) (notes : List Note) (at : Stage) → health ≡ Fine → IsWritten start now held health notes at → IsWhole start now held notes at
+whole_at : (start now : Option (List ℕ)) (held : List ℕ) (health : Health) (notes : List ReplyNote) (at : SessionStage) → health ≡ Fine → IsWritten start now held health notes at → IsWhole start now held notes at
 whole_at start now held health notes at fine is = subst (λ h. IsWritten start now held h notes at) fine is
 
 -- and where all is whole, all may be fine
-still_fine : (start now : Option (List ℕ)) (held : List ℕ) (health : Health) (notes : List Note) (at : Stage) → health ≡ Fine → IsWhole start now held notes at → IsWritten start now held health notes at
+still_fine : (start now : Option (List ℕ)) (held : List ℕ) (health : Health) (notes : List ReplyNote) (at : SessionStage) → health ≡ Fine → IsWhole start now held notes at → IsWritten start now held health notes at
 still_fine start now held health notes at fine is = subst (λ h. IsWritten start now held h notes at) (sym fine) is
 
 -- lines were taken from those held back elsewhere
-pub was_taken : (start now : Option (List ℕ)) (none held left to : List ℕ) (notes marks fewer more : List Note) (first at here : Stage) (health : Health) (went : Bool) → none ≡ [] → health ≡ Fine → first ≡ at → went ≡ true
+pub was_taken : (start now : Option (List ℕ)) (none held left to : List ℕ) (notes marks fewer more : List ReplyNote) (first at here : SessionStage) (health : Health) (went : Bool) → none ≡ [] → health ≡ Fine → first ≡ at → went ≡ true
     → IsWritten start now none health notes at → IsHeld held marks first here → HandsOver held left marks fewer to notes more went → IsWritten start now to health more here
 was_taken start now none held left to notes marks fewer more first at here health false empty fine same so is are hands = cc
 was_taken start now none held left to notes marks fewer more first at here health true empty fine same so is are (moved, gone, grown, spent) =
@@ -399,25 +399,25 @@ was_taken start now none held left to notes marks fewer more first at here healt
     (subst (λ w. IsWhole start now w more here) (sym moved) (more_held start now none held notes marks more first at here empty (whole_at start now none health notes at fine is) are same grown))
 
 -- or could not be
-pub was_left : (start now : Option (List ℕ)) (none held left to : List ℕ) (notes marks fewer more : List Note) (at : Stage) (health : Health) (went : Bool) → none ≡ [] → health ≡ Fine → went ≡ false
+pub was_left : (start now : Option (List ℕ)) (none held left to : List ℕ) (notes marks fewer more : List ReplyNote) (at : SessionStage) (health : Health) (went : Bool) → none ≡ [] → health ≡ Fine → went ≡ false
     → IsWritten start now none health notes at → HandsOver held left marks fewer to notes more went → IsWhole start now to more at
 was_left start now none held left to notes marks fewer more at health true empty fine so is hands = cc
 was_left start now none held left to notes marks fewer more at health false empty fine so is (moved, stays, same, kept) =
     subst (λ w. IsWhole start now w more at) (empty ∙ sym moved) (subst (λ w. IsWhole start now none w at) (sym same) (whole_at start now none health notes at fine is))
 
 -- or do not go on there
-pub was_mixed : (start now : Option (List ℕ)) (held : List ℕ) (health : Health) (notes : List Note) (at : Stage) → health ≡ Fine → IsWritten start now held health notes at → IsFront start now
+pub was_mixed : (start now : Option (List ℕ)) (held : List ℕ) (health : Health) (notes : List ReplyNote) (at : SessionStage) → health ≡ Fine → IsWritten start now held health notes at → IsFront start now
 was_mixed start now held health notes at fine is = whole_front start now held notes at (whole_at start now held health notes at fine is)
 
 -- where nothing has stopped, all is whole
-unstopped : (start now : Option (List ℕ)) (held : List ℕ) (health : Health) (notes : List Note) (at : Stage) → (IsStopped health → ⊥) → IsWritten start now held health notes at → IsWhole start now held notes at
+unstopped : (start now : Option (List ℕ)) (held : List ℕ) (health : Health) (notes : List ReplyNote) (at : SessionStage) → (IsStopped health → ⊥) → IsWritten start now held health notes at → IsWhole start now held notes at
 unstopped start now held Fine notes at never is = is
 unstopped start now held NoMemory notes at never is = is
 unstopped start now held Mixed notes at never is = absurd (never tt)
 unstopped start now held Broken notes at never is = absurd (never tt)
 
 -- and where all is whole, nothing has stopped
-still_unstopped : (start now : Option (List ℕ)) (held : List ℕ) (health : Health) (notes : List Note) (at : Stage) → (IsStopped health → ⊥) → IsWhole start now held notes at → IsWritten start now held health notes at
+still_unstopped : (start now : Option (List ℕ)) (held : List ℕ) (health : Health) (notes : List ReplyNote) (at : SessionStage) → (IsStopped health → ⊥) → IsWhole start now held notes at → IsWritten start now held health notes at
 still_unstopped start now held Fine notes at never is = is
 still_unstopped start now held NoMemory notes at never is = is
 still_unstopped start now held Mixed notes at never is = absurd (never tt)
@@ -427,30 +427,30 @@ pub not_so : {A : Type 0} (b : Bool) → b ≡ false → (A → b ≡ true) → 
 not_so b no_it_is so a = let h = so a in cc
 
 -- what is held back is sent, where nothing has stopped
-pub was_sent : (start old new : Option (List ℕ)) (held left : List ℕ) (notes : List Note) (at : Stage) (health : Health) (stopped gone : Bool) → (IsStopped health → stopped ≡ true) → stopped ≡ false → gone ≡ true
+pub was_sent : (start old new : Option (List ℕ)) (held left : List ℕ) (notes : List ReplyNote) (at : SessionStage) (health : Health) (stopped gone : Bool) → (IsStopped health → stopped ≡ true) → stopped ≡ false → gone ≡ true
     → IsWritten start old held health notes at → Sends old new held left gone → IsWritten start new left health notes at
 was_sent start old new held left notes at health stopped gone tells goes is_gone is sends =
     let never = not_so stopped goes tells in
     still_unstopped start new left health notes at never (all_sent start old new held left notes at (unstopped start old held health notes at never is) (subst (Sends old new held left) is_gone sends))
 
 -- and where that fails, a front of it is
-pub was_cut : (start old new : Option (List ℕ)) (held left : List ℕ) (notes : List Note) (at : Stage) (health : Health) (stopped gone : Bool) → (held ≡ [] → ⊥) → (IsStopped health → stopped ≡ true) → stopped ≡ false
+pub was_cut : (start old new : Option (List ℕ)) (held left : List ℕ) (notes : List ReplyNote) (at : SessionStage) (health : Health) (stopped gone : Bool) → (held ≡ [] → ⊥) → (IsStopped health → stopped ≡ true) → stopped ≡ false
     → gone ≡ false → IsWritten start old held health notes at → Sends old new held left gone → IsCut start new notes
 was_cut start old new held left notes at health stopped gone some tells goes not_gone is sends =
     some_sent start old new held left notes at some (unstopped start old held health notes at (not_so stopped goes tells) is) (subst (Sends old new held left) not_gone sends)
 
 -- how all went when no more is said: lines were not sent
-pub last_lost : (start now : Option (List ℕ)) (held : List ℕ) (health : Health) (notes : List Note) (at : Stage) → health ≡ Fine → (held ≡ [] → ⊥) → IsWritten start now held health notes at → IsSaid start now Broken notes
+pub last_lost : (start now : Option (List ℕ)) (held : List ℕ) (health : Health) (notes : List ReplyNote) (at : SessionStage) → health ≡ Fine → (held ≡ [] → ⊥) → IsWritten start now held health notes at → IsSaid start now Broken notes
 last_lost start now held health notes at fine some is = none_sent start now held notes at some (whole_at start now held health notes at fine is)
 
 -- or all were
-pub last_fine : (start now : Option (List ℕ)) (held : List ℕ) (health : Health) (notes : List Note) (at : Stage) → health ≡ Fine → held ≡ [] → IsShut at → IsWritten start now held health notes at → IsSaid start now Fine notes
+pub last_fine : (start now : Option (List ℕ)) (held : List ℕ) (health : Health) (notes : List ReplyNote) (at : SessionStage) → health ≡ Fine → held ≡ [] → IsShut at → IsWritten start now held health notes at → IsSaid start now Fine notes
 last_fine start now held health notes at fine none shut is = all_said start now held notes at none shut (whole_at start now held health notes at fine is)
 
 -- or there was no memory for some
-pub last_short : (start now : Option (List ℕ)) (held : List ℕ) (health : Health) (notes : List Note) (at : Stage) → health ≡ NoMemory → IsWritten start now held health notes at → IsSaid start now NoMemory notes
+pub last_short : (start now : Option (List ℕ)) (held : List ℕ) (health : Health) (notes : List ReplyNote) (at : SessionStage) → health ≡ NoMemory → IsWritten start now held health notes at → IsSaid start now NoMemory notes
 last_short start now held health notes at short is = (held, at, subst (λ h. IsWritten start now held h notes at) short is)
 
 -- all is as it was, but that a line was lost for which there was no memory
-pub was_lost : (start now : Option (List ℕ)) (held : List ℕ) (health : Health) (notes : List Note) (at : Stage) → health ≡ Fine → IsWritten start now held health notes at → IsWritten start now held NoMemory notes at
+pub was_lost : (start now : Option (List ℕ)) (held : List ℕ) (health : Health) (notes : List ReplyNote) (at : SessionStage) → health ≡ Fine → IsWritten start now held health notes at → IsWritten start now held NoMemory notes at
 was_lost start now held health notes at fine is = subst (λ h. IsWritten start now held h notes at) fine is

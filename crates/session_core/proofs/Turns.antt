@@ -2,17 +2,17 @@
 use Rattle.std.proofs.Common.{◌≡◌, ℕ, List, [], ◌∷◌, ◌++◌, refl, sym, ap, subst, inl, inr, ◌∙◌}
 use Rattle.std.specs.Prelude.{◌⊎◌}
 use Rattle.board_core.specs.Lists.{Every}
-use Rattle.session_text.specs.declared.line.Line.TheVariants as lines
-use Rattle.session_text.specs.declared.line.Refusal.TheVariants as refusals
+use Rattle.session_text.specs.declared.line.ReplyLine.TheVariants as lines
+use Rattle.session_text.specs.declared.line.LineRefusal.TheVariants as refusals
 use Rattle.session_text.specs.Answers.{Said, opened, ended, repeated, told}
-use Rattle.session_core.specs.declared.stage.Stage.{Stage}
-use Rattle.session_core.specs.declared.stage.Stage.TheVariants.{Free, Open, Over}
+use Rattle.session_core.specs.declared.stage.SessionStage.{SessionStage}
+use Rattle.session_core.specs.declared.stage.SessionStage.TheVariants.{Free, Open, Over}
 use Rattle.session_core.specs.Dialogue.{Moves, IsDialogue, IsShut}
 use Rattle.session_core.specs.Laws.{IsLastOf, IsAside, AcceptedEnds, LastWasAccepted, ByeIsLast}
 use Rattle.session_core.proofs.Dialogues.{parted}
 
 -- what a line that stands while a call is open is: its last line, or one beside it
-while_open : (n : ℕ) (line : Said) (next : Stage) → Moves (Open n) line next → (IsLastOf n line × (next ≡ Free)) ⊎ (IsAside line × (next ≡ Open n))
+while_open : (n : ℕ) (line : Said) (next : SessionStage) → Moves (Open n) line next → (IsLastOf n line × (next ≡ Free)) ⊎ (IsAside line × (next ≡ Open n))
 while_open n (opened name key) next goes = absurd goes
 while_open n (ended m reply) next goes = inl (sym goes.0, goes.1)
 while_open n (repeated m reply) next goes = absurd goes
@@ -33,7 +33,7 @@ while_open n (told (lines.Cancel m answer)) next goes = inr (tt, goes)
 while_open n (told lines.Bye) next goes = absurd goes
 
 -- the last line of a call, and what is beside it before
-record Closes (n : ℕ) (said : List Said) (to : Stage) : Type 0 where
+record Closes (n : ℕ) (said : List Said) (to : SessionStage) : Type 0 where
   pub beside : List Said
   pub last : Said
   pub later : List Said
@@ -42,7 +42,7 @@ record Closes (n : ℕ) (said : List Said) (to : Stage) : Type 0 where
   pub is : IsLastOf n last
   pub on : IsDialogue Free later to
 
-one_beside : (n : ℕ) (line : Said) (said : List Said) (to : Stage) → IsAside line → Closes n said to → Closes n (line ∷ said) to
+one_beside : (n : ℕ) (line : Said) (said : List Said) (to : SessionStage) → IsAside line → Closes n said to → Closes n (line ∷ said) to
 one_beside n line said to aside c = record {
   beside = line ∷ c.beside;
   last = c.last;
@@ -53,7 +53,7 @@ one_beside n line said to aside c = record {
   on = c.on;
 }
 
-closes : (n : ℕ) (said : List Said) (to : Stage) → IsDialogue (Open n) said to → IsShut to → Closes n said to
+closes : (n : ℕ) (said : List Said) (to : SessionStage) → IsDialogue (Open n) said to → IsShut to → Closes n said to
 closes n [] to leads shut = absurd (subst IsShut (sym leads) shut)
 closes n (line ∷ said) to (next, goes, leads) shut = elim (while_open n line next goes) [
   | inl is ↦ record {
@@ -68,7 +68,7 @@ closes n (line ∷ said) to (next, goes, leads) shut = elim (while_open n line n
   | inr is ↦ one_beside n line said to is.0 (closes n said to (subst (λ s. IsDialogue s said to) is.1 leads) shut)
 ]
 
-opens_it : (here : Stage) (n : ℕ) (next : Stage) → Moves here (told (lines.Accepted n)) next → next ≡ Open n
+opens_it : (here : SessionStage) (n : ℕ) (next : SessionStage) → Moves here (told (lines.Accepted n)) next → next ≡ Open n
 opens_it Free n next goes = goes
 opens_it (Open m) n next goes = absurd goes
 opens_it Over n next goes = absurd goes
@@ -80,7 +80,7 @@ accepted_ends = λ before behind n is.
     (c.beside, c.last, c.later, c.parts, c.asides, c.is, (is.0, c.on, is.2))
 
 -- where a last line stands, its call is open
-last_of_open : (here : Stage) (n : ℕ) (last : Said) (next : Stage) → IsLastOf n last → Moves here last next → here ≡ Open n
+last_of_open : (here : SessionStage) (n : ℕ) (last : Said) (next : SessionStage) → IsLastOf n last → Moves here last next → here ≡ Open n
 last_of_open Free n (opened name key) next is goes = absurd is
 last_of_open Free n (ended m reply) next is goes = absurd goes
 last_of_open Free n (repeated m reply) next is goes = absurd is
@@ -106,7 +106,7 @@ last_of_open (Open k) n (told (lines.Cancel m answer)) next is goes = absurd is
 last_of_open (Open k) n (told lines.Bye) next is goes = absurd is
 
 -- which line leads to where a call is open: it is accepted, or was open
-led_open : (here : Stage) (n : ℕ) (line : Said) → Moves here line (Open n) → (line ≡ told (lines.Accepted n)) ⊎ ((here ≡ Open n) × IsAside line)
+led_open : (here : SessionStage) (n : ℕ) (line : Said) → Moves here line (Open n) → (line ≡ told (lines.Accepted n)) ⊎ ((here ≡ Open n) × IsAside line)
 led_open (Open k) n line goes = elim (while_open k line (Open n) goes) [
   | inl is ↦ let h = is.1 in cc
   | inr is ↦ inr (sym is.1, is.0)
@@ -133,7 +133,7 @@ record Begins (n : ℕ) (said : List Said) : Type 0 where
 one_before : (n : ℕ) (line : Said) (said : List Said) → Begins n said → Begins n (line ∷ said)
 one_before n line said b = record { before = line ∷ b.before; beside = b.beside; parts = ap (λ w. line ∷ w) b.parts; asides = b.asides }
 
-begins : (first : Stage) (n : ℕ) (said : List Said) → IsDialogue first said (Open n) → Begins n said ⊎ ((first ≡ Open n) × Every IsAside said)
+begins : (first : SessionStage) (n : ℕ) (said : List Said) → IsDialogue first said (Open n) → Begins n said ⊎ ((first ≡ Open n) × Every IsAside said)
 begins first n [] leads = inr (leads, tt)
 begins first n (line ∷ said) (next, goes, leads) = elim (begins next n said leads) [
   | inl b ↦ inl (one_before n line said b)
@@ -154,12 +154,12 @@ last_was_accepted = λ front behind n last is of.
     (b.before, b.beside, b.parts, b.asides)
 
 -- behind `bye` nothing may stand
-bye_ends : (here next : Stage) → Moves here (told lines.Bye) next → next ≡ Over
+bye_ends : (here next : SessionStage) → Moves here (told lines.Bye) next → next ≡ Over
 bye_ends Free next goes = goes
 bye_ends (Open n) next goes = absurd goes
 bye_ends Over next goes = absurd goes
 
-nothing_behind : (to : Stage) (said : List Said) → IsDialogue Over said to → said ≡ []
+nothing_behind : (to : SessionStage) (said : List Said) → IsDialogue Over said to → said ≡ []
 nothing_behind to [] leads = refl
 nothing_behind to (line ∷ said) (next, goes, leads) = absurd goes
 

@@ -3,11 +3,11 @@ use Rattle.std.specs.Prelude.{◌≡◌, ◌≢◌, ◌⊎◌, ◌↔◌, ℕ, �
 use Rattle.std.specs.Prelude.{slice_get}
 use Rattle.board_core.specs.Lists.{Every}
 use Rattle.office_core.specs.declared.client_seat.Seat.{Seat}
-use Rattle.session_text.specs.declared.line.Refusal.TheVariants as refusals
+use Rattle.session_text.specs.declared.line.LineRefusal.TheVariants as refusals
 use Rattle.office_core.specs.declared.named.NameFault.{NameFault}
 use Rattle.office_core.specs.declared.named.NameFault.TheVariants as faults
 use Rattle.session_core.specs.declared.order.Named.{Named}
-use Rattle.session_core.specs.declared.entered.Entered.{Entered}
+use Rattle.session_core.specs.declared.entered.EnteredObject.{EnteredObject}
 use Rattle.session_core.specs.declared.entered.NotEntered.{NotEntered}
 use Rattle.session_core.specs.declared.entered.NotEntered.TheVariants.{Refused, Memory}
 
@@ -27,7 +27,7 @@ why_not faults.Memory = Memory
 
 -- The object of this name is opened, for a client of a name or none: a seat there, and the key of its next call, which
 -- is told to a client of a name alone.
-pub record IsEntered (offices : List Named) (name : List ℕ) (client : Option (List ℕ)) (e : Entered) (next : Option ℕ)
+pub record IsEntered (offices : List Named) (name : List ℕ) (client : Option (List ℕ)) (e : EnteredObject) (next : Option ℕ)
     : Type 0 where
   pub at : IsAt offices e.at name
   pub named : IsTrue e.is_named ↔ IsSome client
@@ -35,13 +35,13 @@ pub record IsEntered (offices : List Named) (name : List ℕ) (client : Option (
   pub within : (0 < e.seat.session) × (e.seat.session ≤ 1024)
 
 -- so it is; or it is not, and where it is refused as unknown no object has this name
-abbrev pub IsFound : List Named → List ℕ → Option (List ℕ) → Result (Entered × Option ℕ) NotEntered → Type 0
+abbrev pub IsFound : List Named → List ℕ → Option (List ℕ) → Result (EnteredObject × Option ℕ) NotEntered → Type 0
 IsFound offices name client (Ok found) = IsEntered offices name client found.0 found.1
 IsFound offices name client (Err why) = why ≡ Refused refusals.NoObject → HasNone offices name
 
 -- What is left of an object that was opened: its place, and its seat there, but that of a client of a name may be
 -- parked.
-abbrev pub LeavesSeat : Option Entered → Option ℕ → Option Seat → Type 0
+abbrev pub LeavesSeat : Option EnteredObject → Option ℕ → Option Seat → Type 0
 LeavesSeat None object seat = (object ≡ None) × (seat ≡ None)
 LeavesSeat (Some e) object seat =
     (object ≡ Some e.at) × ((seat ≡ Some e.seat) ⊎ ((seat ≡ None) × IsTrue e.is_named))

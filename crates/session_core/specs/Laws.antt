@@ -1,7 +1,7 @@
 -- Laws of dialogues.
 use Rattle.std.specs.Prelude.{⊤, ◌≡◌, ℕ, List, [], ◌∷◌, ◌++◌}
-use Rattle.session_text.specs.declared.line.Line.TheVariants as lines
-use Rattle.session_text.specs.declared.line.Refusal.TheVariants as refusals
+use Rattle.session_text.specs.declared.line.ReplyLine.TheVariants as lines
+use Rattle.session_text.specs.declared.line.LineRefusal.TheVariants as refusals
 use Rattle.session_text.specs.Answers.{Said, ended, told}
 use Rattle.board_core.specs.Lists.{Every}
 use Rattle.session_core.specs.Dialogue.{IsDialogueSoFar, IsWholeDialogue}

@@ -9,7 +9,7 @@ use Rattle.board_core.specs.Keyed.{Finds}
 use Rattle.office_core.specs.Slips.{Told}
 use Rattle.session_text.specs.declared.session.Action.{Action}
 use Rattle.session_text.specs.declared.session.Action.TheVariants as actions
-use Rattle.session_core.specs.declared.entered.Entered.{Entered}
+use Rattle.session_core.specs.declared.entered.EnteredObject.{EnteredObject}
 
 -- what a session asks for with a call
 abbrev pub asked_by : ℕ → List ℕ → List Datum → Asked
@@ -37,14 +37,14 @@ abbrev pub MakesOnce : ℕ → List ℕ → List Datum → List Told → List To
 MakesOnce session name args old new = (new ≡ old) ⊎ AddsOne session name args old new
 
 -- the same of a call under this key, or none, by the seat that is there; and only one that is to be made is
-abbrev pub MakesCall : Option Entered → Option ℕ → List ℕ → List Datum → List Told → List Told → Type 0
+abbrev pub MakesCall : Option EnteredObject → Option ℕ → List ℕ → List Datum → List Told → List Told → Type 0
 MakesCall seat key name args old new =
     (new ≡ old)
-    ⊎ ((e : Entered) × (seat ≡ Some e) × IsNew (asked_by e.seat.session name args) key
+    ⊎ ((e : EnteredObject) × (seat ≡ Some e) × IsNew (asked_by e.seat.session name args) key
     × AddsOne e.seat.session name args old new)
 
 -- what a line asks for was done: the call that it asks for, and no other
-abbrev pub MakesFor : Action → Option Entered → List Told → List Told → Type 0
+abbrev pub MakesFor : Action → Option EnteredObject → List Told → List Told → Type 0
 MakesFor (actions.Call key name args) seat old new = MakesCall seat key name args.items old new
 MakesFor (actions.Open name client) seat old new = new ≡ old
 MakesFor (actions.Cancel number) seat old new = new ≡ old

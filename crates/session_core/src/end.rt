@@ -6,7 +6,7 @@ ghost use Rattle.session_core.specs.Written.{heard_fault as heard_in, told_fault
 ghost use Rattle.session_core.specs.Causes.{IsCausedBy};
 
 use crate::fault::SessionFault;
-use crate::note::Note;
+use crate::note::ReplyNote;
 use crate::output::Health;
 use office_core::seat::Seat;
 use office_core::slip::Slip;
@@ -31,14 +31,14 @@ pub struct SessionEnd<W: Drop, H: Drop> {
 }
 
 // Whether a receipt has the number and the reply of a note.
-fn is_note_of(receipt: &Slip, note: &Note) -> bool
+fn is_note_of(receipt: &Slip, note: &ReplyNote) -> bool
     ensures { IsTrue result ↔ IsNoteOf receipt.now note.now }
 {
     u64::from(receipt.number()) == note.number && receipt.is_reply(&note.reply)
 }
 
 // Whether the notes are those of the first receipts, one by one.
-fn are_first(receipts: &[Slip], notes: &[Note]) -> bool
+fn are_first(receipts: &[Slip], notes: &[ReplyNote]) -> bool
     ensures { IsTrue result ↔ AreFirst receipts.now notes.now }
 {
     let mut receipts = receipts;
@@ -57,14 +57,14 @@ fn are_first(receipts: &[Slip], notes: &[Note]) -> bool
 }
 
 // Whether the notes are those of the receipts, one by one.
-fn are_all(receipts: &[Slip], notes: &[Note]) -> bool
+fn are_all(receipts: &[Slip], notes: &[ReplyNote]) -> bool
     ensures { IsTrue result ↔ AreAll receipts.now notes.now }
 {
     receipts.len() == notes.len() && are_first(receipts, notes)
 }
 
 // Whether the notes are those of the receipts: of all, where all was written, and else of the first.
-fn is_accounted(health: Health, receipts: &[Slip], notes: &[Note]) -> bool
+fn is_accounted(health: Health, receipts: &[Slip], notes: &[ReplyNote]) -> bool
     ensures { IsTrue result ↔ IsAccounted health receipts.now notes.now }
 {
     match health {
@@ -108,7 +108,7 @@ fn fault_of(accounted: bool, health: Health, heard: Option<HearFault>) -> Option
 /// fault where none was.
 pub fn conclude(
     receipts: &[Slip],
-    notes: &[Note],
+    notes: &[ReplyNote],
     health: Health,
     heard: Option<HearFault>,
 ) -> Option<SessionFault>

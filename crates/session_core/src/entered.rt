@@ -11,12 +11,12 @@ use office_core::named::NameFault;
 use office_core::office::Office;
 use office_core::seat::Seat;
 use path_tree::name::Name;
-use session_text::line::Refusal;
+use session_text::line::LineRefusal;
 use std::sync::Wait;
 
 /// The object that is opened.
 #[derive(Drop)]
-pub(crate) struct Entered {
+pub(crate) struct EnteredObject {
     /// Its place among the offices.
     pub(crate) at: usize,
     pub(crate) seat: Seat,
@@ -28,7 +28,7 @@ pub(crate) struct Entered {
 #[derive(Clone, Copy, Debug, PartialEq, Eq)]
 pub(crate) enum NotEntered {
     /// It is answered so.
-    Refused(Refusal),
+    Refused(LineRefusal),
     /// There is no memory for the name of the client.
     Memory,
 }
@@ -38,8 +38,8 @@ fn not_entered(why: NameFault) -> NotEntered
     ensures { result ≡ why_not why }
 {
     match why {
-        NameFault::InUse => NotEntered::Refused(Refusal::InUse),
-        NameFault::SeatsFull => NotEntered::Refused(Refusal::Full),
+        NameFault::InUse => NotEntered::Refused(LineRefusal::InUse),
+        NameFault::SeatsFull => NotEntered::Refused(LineRefusal::Full),
         NameFault::Memory => NotEntered::Memory,
     }
 }
@@ -47,12 +47,12 @@ fn not_entered(why: NameFault) -> NotEntered
 // The seat of a client at an office: its own, where it has a name.
 fn seat_of<R: Wait>(rt: &R, office: &Office, client: &Option<Name>) -> Result<Seat, NotEntered>
     ensures within { IfOk result (λ seat. (0 < seat.session) × (seat.session ≤ 1024)) }
-    ensures not { IfErr result (λ why. why ≢ NotEntered.Refused Refusal.NoObject) }
+    ensures not { IfErr result (λ why. why ≢ NotEntered.Refused LineRefusal.NoObject) }
 {
     let Some(client) = client else {
         return match office.seat(rt) {
             Ok(seat) => Ok(seat),
-            Err(_) => Err(NotEntered::Refused(Refusal::Full)),
+            Err(_) => Err(NotEntered::Refused(LineRefusal::Full)),
         };
     };
     match office.seat_named(rt, client) {
@@ -79,20 +79,20 @@ pub(crate) fn seat_at<R: Wait, O: Offices>(
     offices: &O,
     name: &Name,
     client: &Option<Name>,
-) -> Result<(Entered, Option<u32>), NotEntered>
+) -> Result<(EnteredObject, Option<u32>), NotEntered>
     ensures { IsFound (O.named offices.now) name.now client.now result }
 {
     let Some(at) = offices.place_of(name) else {
-        return Err(NotEntered::Refused(Refusal::NoObject));
+        return Err(NotEntered::Refused(LineRefusal::NoObject));
     };
     let Some(office) = offices.office(at) else {
-        return Err(NotEntered::Refused(Refusal::NoObject));
+        return Err(NotEntered::Refused(LineRefusal::NoObject));
     };
     match seat_of(rt, office, client) {
         Ok(seat) => {
             let is_named = client.is_some();
             let next = next_key(rt, office, &seat, is_named);
-            Ok((Entered { at, seat, is_named }, next))
+            Ok((EnteredObject { at, seat, is_named }, next))
         }
         Err(why) => Err(why),
     }
@@ -103,14 +103,14 @@ pub(crate) fn seat_at<R: Wait, O: Offices>(
 pub(crate) fn parked<R: Wait, O: Offices>(
     rt: &R,
     offices: &O,
-    seat: Option<Entered>,
+    seat: Option<EnteredObject>,
 ) -> (Option<usize>, Option<Seat>)
     ensures { LeavesSeat seat result.0 result.1 }
 {
     let Some(entered) = seat else {
         return (None, None);
     };
-    let Entered { at, seat, is_named } = entered;
+    let EnteredObject { at, seat, is_named } = entered;
     if !is_named {
         return (Some(at), Some(seat));
     }

@@ -2,14 +2,14 @@
 
 ghost use Rattle.std.specs.Prelude.{◌≡◌, ◌++◌, [], false, OnOk, OnErr};
 ghost use Rattle.std.specs.Bool.{OnFalse};
-ghost use Rattle.session_core.specs.declared.note.Note.{Note};
+ghost use Rattle.session_core.specs.declared.note.ReplyNote.{ReplyNote};
 ghost use Rattle.session_text.specs.Answers.{said_of};
 ghost use Rattle.session_core.specs.Says.{MaySay};
 ghost use Rattle.session_core.specs.Written.{note_of, IsHeld, IsSilent, Adds, HandsOver};
 
-use crate::note::{Note, add_note};
+use crate::note::{ReplyNote, add_note};
 use crate::room::make_room_for;
-use crate::stage::{Stage, behind};
+use crate::stage::{SessionStage, behind};
 use session_text::line::{AnyLine, push_line};
 use std::alloc::{AllocError, Global};
 use std::marker::Model;
@@ -21,29 +21,29 @@ const LINE_ROOM: usize = 4096;
 
 /// Lines that are held back, whole and each in its turn, and the notes of the last lines of calls among them.
 #[derive(Drop)]
-pub struct Held {
+pub struct HeldReplies {
     text: Vec<u8>,
-    notes: Vec<Note>,
+    notes: Vec<ReplyNote>,
     line: Vec<u8>,
     // memory for the reply of a note
     spare: Vec<u8>,
     alloc: Global,
     // where the lines before them had come to, and where these have
-    first: Stage,
-    at: Stage,
+    first: SessionStage,
+    at: SessionStage,
     // Whether a line was lost, for which there was no memory. No more are begun then.
     lost: bool,
     // Whether a line was not taken, since it may not stand where it was said. No more are begun then.
     mixed: bool,
 }
 
-impl Model for Held {
+impl Model for HeldReplies {
     ghost use Rattle.std.specs.Prelude.{ℕ, List, Bool};
-    ghost use Rattle.session_core.specs.declared.note.Note.{Note};
-    ghost use Rattle.session_core.specs.declared.stage.Stage.{Stage};
+    ghost use Rattle.session_core.specs.declared.note.ReplyNote.{ReplyNote};
+    ghost use Rattle.session_core.specs.declared.stage.SessionStage.{SessionStage};
     ghost use Rattle.session_core.specs.Written.{IsHeld};
 
-    ghost Value = { List ℕ × List Note × Stage × Stage × Bool × Bool };
+    ghost Value = { List ℕ × List ReplyNote × SessionStage × SessionStage × Bool × Bool };
 
     ghost view = { λ h. (h.text.items, h.notes.items, h.first, h.at, h.lost, h.mixed) };
 
@@ -53,7 +53,7 @@ impl Model for Held {
 // Notes a line, where it is the last one of a call that has a receipt.
 fn add_note_of(
     alloc: Global,
-    notes: &mut Vec<Note>,
+    notes: &mut Vec<ReplyNote>,
     spare: &mut Vec<u8>,
     line: AnyLine<'_>,
 ) -> Result<(), AllocError>
@@ -74,7 +74,7 @@ fn add_line(
     alloc: Global,
     held: &mut Vec<u8>,
     text: &mut Vec<u8>,
-    notes: &mut Vec<Note>,
+    notes: &mut Vec<ReplyNote>,
     spare: &mut Vec<u8>,
     line: AnyLine<'_>,
 ) -> bool
@@ -103,9 +103,9 @@ fn make_spare(spare: &mut Vec<u8>) -> bool {
 // Hands lines and their notes over.
 fn hand_over(
     text: &mut Vec<u8>,
-    notes: &mut Vec<Note>,
+    notes: &mut Vec<ReplyNote>,
     to: &mut Vec<u8>,
-    noted: &mut Vec<Note>,
+    noted: &mut Vec<ReplyNote>,
 ) -> bool
     requires { to.old.items ≡ [] }
     ensures { HandsOver text.old.items text.new.items notes.old.items notes.new.items to.new.items noted.old.items
@@ -118,19 +118,19 @@ fn hand_over(
     true
 }
 
-impl Held {
+impl HeldReplies {
     /// Nothing is held back yet.
-    pub fn new(alloc: Global) -> Held
-        ensures { result ≡ ([], [], Stage.Free, Stage.Free, false, false) }
+    pub fn new(alloc: Global) -> HeldReplies
+        ensures { result ≡ ([], [], SessionStage.Free, SessionStage.Free, false, false) }
     {
-        Held {
+        HeldReplies {
             text: Vec::new(alloc),
             notes: Vec::new(alloc),
             line: Vec::new(alloc),
             spare: Vec::new(alloc),
             alloc,
-            first: Stage::Free,
-            at: Stage::Free,
+            first: SessionStage::Free,
+            at: SessionStage::Free,
             lost: false,
             mixed: false,
         }
@@ -179,14 +179,14 @@ impl Held {
     }
 
     /// Where the lines before those that are held back had come to.
-    pub fn first(&self) -> Stage
+    pub fn first(&self) -> SessionStage
         ensures { result ≡ self.now.2 }
     {
         self.first
     }
 
     /// Where the lines that are held back have come to.
-    pub fn at(&self) -> Stage
+    pub fn at(&self) -> SessionStage
         ensures { result ≡ self.now.3 }
     {
         self.at
@@ -224,7 +224,7 @@ impl Held {
 
     /// Hands all lines over to `to`, in which there is none, and adds their notes to `noted`. Without memory for the
     /// notes it answers false, and hands nothing over.
-    pub fn hand_over(&mut self, to: &mut Vec<u8>, noted: &mut Vec<Note>) -> bool
+    pub fn hand_over(&mut self, to: &mut Vec<u8>, noted: &mut Vec<ReplyNote>) -> bool
         requires { to.old.items ≡ [] }
         ensures over { HandsOver self.old.0 self.new.0 self.old.1 self.new.1 to.new.items noted.old.items
             noted.new.items result }

@@ -7,7 +7,7 @@ use crate::order::Offices;
 use crate::output::Start;
 use crossbeam_channel::Receiver;
 use session_text::ear::{Ear, Heard};
-use session_text::line::{AnyLine, Line, Refusal};
+use session_text::line::{AnyLine, ReplyLine, LineRefusal};
 use session_text::relay::Relay;
 use session_text::session::Action;
 use std::alloc::Global;
@@ -15,7 +15,7 @@ use std::io::{Read, Write};
 use std::sync::Wait;
 
 // Writes a line at once.
-fn tell<R: Wait, W: Write + Drop, J: Start>(rt: &R, mouth: &Mouth<W, J>, line: Line) -> bool {
+fn tell<R: Wait, W: Write + Drop, J: Start>(rt: &R, mouth: &Mouth<W, J>, line: ReplyLine) -> bool {
     mouth.say(rt, AnyLine::Told(line)) && mouth.flush(rt)
 }
 
@@ -34,7 +34,7 @@ fn cancel<R: Wait, W: Write + Drop, J: Start, O: Offices>(
         return true;
     };
     let answer = office.cancel(rt, number);
-    tell(rt, mouth, Line::Cancel(u64::from(number), answer))
+    tell(rt, mouth, ReplyLine::Cancel(u64::from(number), answer))
 }
 
 /// A session leaves its object.
@@ -68,7 +68,7 @@ fn heed<R: Wait, I: Read + Drop, W: Write + Drop, J: Start, O: Offices>(
             relay.pass(rt, action, ear);
         }
         Heard::LineTooLong => {
-            let _told = tell(rt, mouth, Line::Refused(Refusal::LineTooLong));
+            let _told = tell(rt, mouth, ReplyLine::Refused(LineRefusal::LineTooLong));
         }
         Heard::End(_) => return false,
     }

@@ -4,12 +4,12 @@
 //! client that does not read; only who sends does.
 
 ghost use Rattle.std.specs.Prelude.{◌≡◌, ℕ, List, Option};
-ghost use Rattle.session_core.specs.declared.note.Note.{Note};
+ghost use Rattle.session_core.specs.declared.note.ReplyNote.{ReplyNote};
 ghost use Rattle.session_core.specs.Says.{MaySay};
 ghost use Rattle.session_core.specs.Written.{IsSaid};
 
-use crate::held::Held;
-use crate::note::Note;
+use crate::held::HeldReplies;
+use crate::note::ReplyNote;
 use crate::output::{Health, Output, Start};
 use session_text::line::AnyLine;
 use std::alloc::Global;
@@ -31,15 +31,15 @@ pub enum Wish {
 /// The lines that are held back, the writer, and what is wished of the third thread.
 #[derive(Drop)]
 pub struct Mouth<W: Write + Drop, J: Start> {
-    held: Mutex<Held>,
+    held: Mutex<HeldReplies>,
     output: Mutex<Output<W, J>>,
     wish: Mutex<Wish>,
     came: Condvar,
 }
 
 // How all went, by the writer and by the lines that were held back.
-fn with_held(health: Health, held: &Held) -> Health
-    ensures { (start now : Option (List ℕ)) (notes : List Note) → IsSaid start now health notes →
+fn with_held(health: Health, held: &HeldReplies) -> Health
+    ensures { (start now : Option (List ℕ)) (notes : List ReplyNote) → IsSaid start now health notes →
         IsSaid start now result notes }
 {
     if held.is_mixed() {
@@ -63,7 +63,7 @@ impl<W: Write + Drop, J: Start> Mouth<W, J> {
         requires { W.contents writer ≡ J.start }
     {
         Mouth {
-            held: Mutex::new(Held::new(alloc)),
+            held: Mutex::new(HeldReplies::new(alloc)),
             output: Mutex::new(Output::new(alloc, writer)),
             wish: Mutex::new(Wish::Nothing),
             came: Condvar::new(),
@@ -128,7 +128,7 @@ impl<W: Write + Drop, J: Start> Mouth<W, J> {
 
     /// The writer, the notes, and how all went. Lines that are held back are lost, and `Broken` is told for them;
     /// `Mixed` is told where a line was said where it may not stand, or the last line of a call is missing.
-    pub fn into_parts(self) -> (W, Vec<Note>, Health)
+    pub fn into_parts(self) -> (W, Vec<ReplyNote>, Health)
         ensures { IsSaid J.start (W.contents result.0) result.2 result.1.items }
     {
         let Mouth {

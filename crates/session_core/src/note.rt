@@ -10,7 +10,7 @@ use text_core::limits::MOST_TEXT_BYTES;
 
 /// The number and the reply of a last line.
 #[derive(Drop)]
-pub struct Note {
+pub struct ReplyNote {
     /// The number of the call.
     pub number: u64,
     /// Its reply.
@@ -21,7 +21,7 @@ pub struct Note {
 /// memory was refused, or none was spare; nothing is noted then.
 pub fn add_note(
     alloc: Global,
-    notes: &mut Vec<Note>,
+    notes: &mut Vec<ReplyNote>,
     spare: &mut Vec<u8>,
     number: u64,
     reply: &Reply,
@@ -33,7 +33,7 @@ pub fn add_note(
         return Err(AllocError);
     }
     let reply = Short::within(alloc, spare, reply);
-    let Ok(()) = notes.push(Note { number, reply }) else {
+    let Ok(()) = notes.push(ReplyNote { number, reply }) else {
         return Err(AllocError);
     };
     Ok(())

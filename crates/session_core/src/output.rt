@@ -1,15 +1,15 @@
 //! The writer of a session.
 //!
-//! Lines come to it whole, from those that are held back ([`Held`]), and are sent together by [`Output::flush`].
+//! Lines come to it whole, from those that are held back ([`HeldReplies`]), and are sent together by [`Output::flush`].
 
 ghost use Rattle.std.specs.Prelude.{◌≡◌, ◌↔◌, [], IsTrue, ℕ, List, Option};
-ghost use Rattle.session_core.specs.declared.note.Note.{Note};
+ghost use Rattle.session_core.specs.declared.note.ReplyNote.{ReplyNote};
 ghost use Rattle.session_core.specs.Written.{IsWritten, IsSaid, IsStopped, Sends};
 
-use crate::held::Held;
-use crate::note::Note;
+use crate::held::HeldReplies;
+use crate::note::ReplyNote;
 use crate::room::make_room_for;
-use crate::stage::{Stage, is_same, is_shut};
+use crate::stage::{SessionStage, is_same, is_shut};
 use std::alloc::Global;
 use std::io::Write;
 use std::marker::{Brand, Model, PhantomData};
@@ -46,20 +46,20 @@ pub enum Health {
 pub struct Output<W: Write + Drop, J: Start> {
     writer: W,
     held: Vec<u8>,
-    notes: Vec<Note>,
+    notes: Vec<ReplyNote>,
     // where the lines have come to that were sent and are to be
-    at: Stage,
+    at: SessionStage,
     health: Health,
     of: PhantomData<J>,
 }
 
 impl<W: Write + Drop, J: Start> Model for Output<W, J> {
     ghost use Rattle.std.specs.Prelude.{List};
-    ghost use Rattle.session_core.specs.declared.note.Note.{Note};
+    ghost use Rattle.session_core.specs.declared.note.ReplyNote.{ReplyNote};
     ghost use Rattle.session_core.specs.declared.output.Health.{Health};
     ghost use Rattle.session_core.specs.Written.{IsWritten};
 
-    ghost Value = { List Note × Health };
+    ghost Value = { List ReplyNote × Health };
 
     ghost view = { λ o. (o.notes.items, o.health) };
 
@@ -107,8 +107,8 @@ fn is_stopped(health: Health) -> bool
 }
 
 // How all went, when no more is said: lines that were not sent are lost.
-fn last_health(health: Health, held: &[u8], at: Stage) -> Health
-    ensures { (start now : Option (List ℕ)) (notes : List Note) → IsWritten start now held.now health notes at →
+fn last_health(health: Health, held: &[u8], at: SessionStage) -> Health
+    ensures { (start now : Option (List ℕ)) (notes : List ReplyNote) → IsWritten start now held.now health notes at →
         IsSaid start now result notes }
 {
     match health {
@@ -134,7 +134,7 @@ impl<W: Write + Drop, J: Start> Output<W, J> {
             writer,
             held: Vec::new(alloc),
             notes: Vec::new(alloc),
-            at: Stage::Free,
+            at: SessionStage::Free,
             health: Health::Fine,
             of: PhantomData,
         }
@@ -147,7 +147,7 @@ impl<W: Write + Drop, J: Start> Output<W, J> {
 
     /// Takes the lines that are held back, unless some were taken that could not be sent. Where there is no memory for
     /// their notes, or they do not go on where those taken before had come to, none are taken, now and later.
-    pub fn take(&mut self, more: &mut Held) {
+    pub fn take(&mut self, more: &mut HeldReplies) {
         if !is_fine(self.health) {
             return;
         }
@@ -192,7 +192,7 @@ impl<W: Write + Drop, J: Start> Output<W, J> {
 
     /// The writer, the notes, and how all went. Lines that were taken and not sent are lost, and `Broken` is told for
     /// them; `Mixed` is told where the last line of a call is missing.
-    pub fn into_parts(self) -> (W, Vec<Note>, Health)
+    pub fn into_parts(self) -> (W, Vec<ReplyNote>, Health)
         ensures { IsSaid J.start (W.contents result.0) result.2 result.1.items }
     {
         let Output {

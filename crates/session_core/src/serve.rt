@@ -13,7 +13,7 @@ use crate::entered::parked;
 use crate::fault::SessionFault;
 use crate::listen::listen;
 use crate::mouth::Mouth;
-use crate::note::Note;
+use crate::note::ReplyNote;
 use crate::order::Offices;
 use crate::output::{Health, Start};
 use crate::sender::send;
@@ -21,7 +21,7 @@ use crate::work::{Worked, work};
 use device_core::hand::Hand;
 use session_text::bell::{Bell, UntilBell};
 use session_text::ear::Ear;
-use session_text::reading::Reading;
+use session_text::reading::ReadingSide;
 use session_text::relay::Relay;
 use std::alloc::Global;
 use std::io::{Read, Write};
@@ -46,7 +46,7 @@ fn ended<R: Wait, W: Drop, H: Drop, O: Offices>(
     rt: &R,
     offices: &O,
     writer: W,
-    notes: &[Note],
+    notes: &[ReplyNote],
     health: Health,
     worked: Worked<H>,
 ) -> SessionEnd<W, H>
@@ -91,7 +91,7 @@ fn work_beside<
     alloc: Global,
     offices: &O,
     mouth: &Mouth<W, J>,
-    reading: Reading<'_, I>,
+    reading: ReadingSide<'_, I>,
     hand: H,
 ) -> Worked<H>
     ensures kept { Keeps H.agrees hand result.hand }
@@ -151,7 +151,7 @@ fn serve_from<
     let ear = Ear::new(alloc, reader);
     let shared = &mouth;
     let lent = &relay;
-    let reading = Reading::new(ear, to, lent, bell);
+    let reading = ReadingSide::new(ear, to, lent, bell);
     let (_, worked) = thread::join(
         rt,
         move || listen(rt, alloc, from, offices, shared, lent),

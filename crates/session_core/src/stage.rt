@@ -5,11 +5,11 @@ ghost use Rattle.apply_core.specs.declared.reply.Reply.{Reply};
 ghost use Rattle.session_text.specs.Answers.{opened, ended, repeated, said_of, told};
 ghost use Rattle.session_core.specs.Dialogue.{Leads, IsShut};
 
-use session_text::line::{AnyLine, Line, Refusal};
+use session_text::line::{AnyLine, ReplyLine, LineRefusal};
 
 /// Where the lines of a session have come to.
 #[derive(Clone, Copy, Debug, PartialEq, Eq)]
-pub enum Stage {
+pub enum SessionStage {
     /// No call is open.
     Free,
     /// The call of this number was accepted, and its last line is not said yet.
@@ -19,112 +19,112 @@ pub enum Stage {
 }
 
 /// Whether two stages are the same.
-pub(crate) fn is_same(one: Stage, other: Stage) -> bool
+pub(crate) fn is_same(one: SessionStage, other: SessionStage) -> bool
     ensures { IsTrue result ↔ (one ≡ other) }
 {
     one == other
 }
 
 /// Whether no call is open.
-pub(crate) fn is_shut(stage: Stage) -> bool
+pub(crate) fn is_shut(stage: SessionStage) -> bool
     ensures { IsTrue result ↔ IsShut stage }
 {
     match stage {
-        Stage::Free => true,
-        Stage::Open(_) => false,
-        Stage::Over => true,
+        SessionStage::Free => true,
+        SessionStage::Open(_) => false,
+        SessionStage::Over => true,
     }
 }
 
 // Where `opened NAME`, or what became of a call that was made before, leads: it stands only where no call is open.
-fn behind_free(stage: Stage) -> Option<Stage>
+fn behind_free(stage: SessionStage) -> Option<SessionStage>
     ensures opened { (name : List ℕ) (next : Option ℕ) → Leads stage (opened name next) result }
     ensures repeated { (n : ℕ) (r : Reply) → Leads stage (repeated n r) result }
 {
     match stage {
-        Stage::Free => Some(Stage::Free),
-        Stage::Open(_) => None,
-        Stage::Over => None,
+        SessionStage::Free => Some(SessionStage::Free),
+        SessionStage::Open(_) => None,
+        SessionStage::Over => None,
     }
 }
 
 // Where the last line of the call of this number leads: it stands only where that call is open.
-fn behind_last(stage: Stage, number: u64) -> Option<Stage>
+fn behind_last(stage: SessionStage, number: u64) -> Option<SessionStage>
     ensures ended { (r : Reply) → Leads stage (ended number r) result }
-    ensures withdrawn { Leads stage (told (Line.Withdrawn number)) result }
+    ensures withdrawn { Leads stage (told (ReplyLine.Withdrawn number)) result }
 {
     match stage {
-        Stage::Free => None,
-        Stage::Open(open) => if open == number {
-            Some(Stage::Free)
+        SessionStage::Free => None,
+        SessionStage::Open(open) => if open == number {
+            Some(SessionStage::Free)
         } else {
             None
         },
-        Stage::Over => None,
+        SessionStage::Over => None,
     }
 }
 
 // Where a line leads where no call is open.
-fn from_free(line: Line) -> Option<Stage>
-    ensures { Leads Stage.Free (told line) result }
+fn from_free(line: ReplyLine) -> Option<SessionStage>
+    ensures { Leads SessionStage.Free (told line) result }
 {
     match line {
-        Line::Refused(_) => Some(Stage::Free),
-        Line::Unsubmitted(_) => Some(Stage::Free),
-        Line::Unkeyed(_) => Some(Stage::Free),
-        Line::Accepted(number) => Some(Stage::Open(number)),
-        Line::Kept(_, _) => Some(Stage::Free),
-        Line::Withdrawn(_) => None,
-        Line::Cancel(_, _) => Some(Stage::Free),
-        Line::Bye => Some(Stage::Over),
+        ReplyLine::Refused(_) => Some(SessionStage::Free),
+        ReplyLine::Unsubmitted(_) => Some(SessionStage::Free),
+        ReplyLine::Unkeyed(_) => Some(SessionStage::Free),
+        ReplyLine::Accepted(number) => Some(SessionStage::Open(number)),
+        ReplyLine::Kept(_, _) => Some(SessionStage::Free),
+        ReplyLine::Withdrawn(_) => None,
+        ReplyLine::Cancel(_, _) => Some(SessionStage::Free),
+        ReplyLine::Bye => Some(SessionStage::Over),
     }
 }
 
 // Where a line that says that one was refused leads while this call is open.
-fn from_open_refused(number: u64, refusal: Refusal) -> Option<Stage>
-    ensures { Leads (Stage.Open number) (told (Line.Refused refusal)) result }
+fn from_open_refused(number: u64, refusal: LineRefusal) -> Option<SessionStage>
+    ensures { Leads (SessionStage.Open number) (told (ReplyLine.Refused refusal)) result }
 {
     match refusal {
-        Refusal::LineTooLong => Some(Stage::Open(number)),
-        Refusal::BadLine => None,
-        Refusal::NotOpen => None,
-        Refusal::Opened => None,
-        Refusal::NoObject => None,
-        Refusal::InUse => None,
-        Refusal::Full => None,
-        Refusal::Gone => None,
+        LineRefusal::LineTooLong => Some(SessionStage::Open(number)),
+        LineRefusal::BadLine => None,
+        LineRefusal::NotOpen => None,
+        LineRefusal::Opened => None,
+        LineRefusal::NoObject => None,
+        LineRefusal::InUse => None,
+        LineRefusal::Full => None,
+        LineRefusal::Gone => None,
     }
 }
 
 // Where a line leads while this call is open.
-fn from_open(number: u64, line: Line) -> Option<Stage>
-    ensures { Leads (Stage.Open number) (told line) result }
+fn from_open(number: u64, line: ReplyLine) -> Option<SessionStage>
+    ensures { Leads (SessionStage.Open number) (told line) result }
 {
     match line {
-        Line::Refused(refusal) => from_open_refused(number, refusal),
-        Line::Unsubmitted(_) => None,
-        Line::Unkeyed(_) => None,
-        Line::Accepted(_) => None,
-        Line::Kept(_, _) => None,
-        Line::Withdrawn(another) => behind_last(Stage::Open(number), another),
-        Line::Cancel(_, _) => Some(Stage::Open(number)),
-        Line::Bye => None,
+        ReplyLine::Refused(refusal) => from_open_refused(number, refusal),
+        ReplyLine::Unsubmitted(_) => None,
+        ReplyLine::Unkeyed(_) => None,
+        ReplyLine::Accepted(_) => None,
+        ReplyLine::Kept(_, _) => None,
+        ReplyLine::Withdrawn(another) => behind_last(SessionStage::Open(number), another),
+        ReplyLine::Cancel(_, _) => Some(SessionStage::Open(number)),
+        ReplyLine::Bye => None,
     }
 }
 
 // Where a line leads that lends nothing, if it may stand here.
-fn behind_told(stage: Stage, line: Line) -> Option<Stage>
+fn behind_told(stage: SessionStage, line: ReplyLine) -> Option<SessionStage>
     ensures { Leads stage (told line) result }
 {
     match stage {
-        Stage::Free => from_free(line),
-        Stage::Open(open) => from_open(open, line),
-        Stage::Over => None,
+        SessionStage::Free => from_free(line),
+        SessionStage::Open(open) => from_open(open, line),
+        SessionStage::Over => None,
     }
 }
 
 /// Where a line leads, if it may stand here.
-pub(crate) fn behind(stage: Stage, line: AnyLine<'_>) -> Option<Stage>
+pub(crate) fn behind(stage: SessionStage, line: AnyLine<'_>) -> Option<SessionStage>
     ensures { Leads stage (said_of line.entry) result }
 {
     match line {

@@ -19,7 +19,7 @@ ghost use Rattle.session_core.specs.Making.{IsNew, MakesCall, MakesFor, MakesOnc
 ghost use Rattle.session_core.specs.Opening.{Takes, Enters};
 ghost use Rattle.session_core.specs.Working.{Works, WorksOn};
 
-use crate::entered::{Entered, NotEntered, seat_at};
+use crate::entered::{EnteredObject, NotEntered, seat_at};
 use crate::listen::leave;
 use crate::mouth::Mouth;
 use crate::order::Offices;
@@ -40,8 +40,8 @@ use call_core::outcome::Outcome;
 use call_core::ticket::Ticket;
 use session_text::ear::Heard;
 use session_text::fault::HearFault;
-use session_text::line::{AnyLine, Line, Refusal, Unended};
-use session_text::reading::Reading;
+use session_text::line::{AnyLine, ReplyLine, LineRefusal, Unended};
+use session_text::reading::ReadingSide;
 use session_text::session::Action;
 use std::alloc::Global;
 use std::io::{Read, Write};
@@ -69,7 +69,7 @@ struct Service<'a, R, P, W: Write + Drop, J: Start> {
 #[derive(Drop)]
 pub(crate) struct Worked<H: Drop> {
     pub(crate) hand: H,
-    pub(crate) seat: Option<Entered>,
+    pub(crate) seat: Option<EnteredObject>,
     pub(crate) receipts: Vec<Slip>,
     // memory for the next of them
     pub(crate) room: SlipRoom,
@@ -119,7 +119,7 @@ fn awaited_beside<R: Wait, I: Read + Drop>(
     rt: &R,
     office: &Office,
     seat: &Seat,
-    reading: &mut Reading<'_, I>,
+    reading: &mut ReadingSide<'_, I>,
     submitted: Submitted,
 ) -> Option<Ticket>
     ensures { IfSome result (λ t. IsTicketOf submitted t) }
@@ -145,7 +145,7 @@ fn awaited_beside<R: Wait, I: Read + Drop>(
 // Has what is held back sent by the third thread, since this one has a call that may start at any time.
 fn ask<R: Wait, I: Read + Drop, W: Write + Drop, J: Start>(
     service: Service<'_, R, Office, W, J>,
-    reading: &Reading<'_, I>,
+    reading: &ReadingSide<'_, I>,
 ) {
     if let Some((at, session)) = reading.opened() {
         service.mouth.ask(service.rt, at, session);
@@ -158,7 +158,7 @@ fn started<R: Wait + Clock, I: Read + Drop, W: Write + Drop, J: Start>(
     service: Service<'_, R, Office, W, J>,
     late: &mut Late,
     seat: &Seat,
-    reading: &mut Reading<'_, I>,
+    reading: &mut ReadingSide<'_, I>,
     tried: Tried,
 ) -> Option<Ticket>
     ensures { IfSome result (λ t. (s : Ask) → Tells s tried → IsTicketOf s t) }
@@ -239,7 +239,7 @@ fn put_off<H: Hand>(hand: &mut H, free: Vec<Stamp>, left: &mut Vec<Stamp>)
 }
 
 // Holds a line back.
-fn say<R: Wait, P, W: Write + Drop, J: Start>(service: Service<'_, R, P, W, J>, line: Line) {
+fn say<R: Wait, P, W: Write + Drop, J: Start>(service: Service<'_, R, P, W, J>, line: ReplyLine) {
     let _said = service.mouth.say(service.rt, AnyLine::Told(line));
 }
 
@@ -248,7 +248,7 @@ fn say<R: Wait, P, W: Write + Drop, J: Start>(service: Service<'_, R, P, W, J>, 
 fn begun<R: Wait + Clock, I: Read + Drop, W: Write + Drop, J: Start>(
     service: Service<'_, R, Office, W, J>,
     late: &mut Late,
-    reading: &mut Reading<'_, I>,
+    reading: &mut ReadingSide<'_, I>,
     seat: &mut Seat,
     op: &str,
     args: &[Datum],
@@ -259,18 +259,18 @@ fn begun<R: Wait + Clock, I: Read + Drop, W: Write + Drop, J: Start>(
     let (number, tried) = match submitted(service, late, seat, op, args) {
         Ok(answer) => answer,
         Err(fault) => {
-            say(service, Line::Unsubmitted(fault));
+            say(service, ReplyLine::Unsubmitted(fault));
             return None;
         }
     };
-    say(service, Line::Accepted(u64::from(number)));
+    say(service, ReplyLine::Accepted(u64::from(number)));
     let tried = match tried {
         Tried::Ticket(ticket) => return Some(ticket),
         other => other,
     };
     let ticket = started(service, late, seat, reading, tried);
     if ticket.is_none() {
-        say(service, Line::Withdrawn(u64::from(number)));
+        say(service, ReplyLine::Withdrawn(u64::from(number)));
     }
     ticket
 }
@@ -304,7 +304,7 @@ fn keep(receipts: &mut Vec<Slip>, room: &mut SlipRoom, place: usize, session: u3
 // the close. What earlier calls left is retired before it is submitted, while no other call waits for this one.
 fn serve_at<R: Wait + Clock, I: Read + Drop, W: Write + Drop, H: Hand + Drop, J: Start>(
     service: Service<'_, R, Office, W, J>,
-    reading: &mut Reading<'_, I>,
+    reading: &mut ReadingSide<'_, I>,
     seat: &mut Seat,
     worked: &mut Worked<H>,
     op: &str,
@@ -319,7 +319,7 @@ fn serve_at<R: Wait + Clock, I: Read + Drop, W: Write + Drop, H: Hand + Drop, J:
     let own = seat.session();
     retire_left(service.alloc, &mut worked.hand, &mut worked.free);
     if !make_room(service, &mut worked.receipts, &mut worked.room, args) {
-        say(service, Line::Unsubmitted(SubmitFault::Memory));
+        say(service, ReplyLine::Unsubmitted(SubmitFault::Memory));
         return;
     }
     let begun = begun(service, &mut worked.late, reading, seat, op, args);
@@ -346,15 +346,15 @@ fn say_kept<R: Wait, W: Write + Drop, J: Start>(service: Service<'_, R, Office, 
     match &kept.state {
         CallState::Waiting => say(
             service,
-            Line::Kept(u64::from(kept.number), Unended::Waiting),
+            ReplyLine::Kept(u64::from(kept.number), Unended::Waiting),
         ),
         CallState::Running => say(
             service,
-            Line::Kept(u64::from(kept.number), Unended::Running),
+            ReplyLine::Kept(u64::from(kept.number), Unended::Running),
         ),
         CallState::Cancelled => say(
             service,
-            Line::Kept(u64::from(kept.number), Unended::Cancelled),
+            ReplyLine::Kept(u64::from(kept.number), Unended::Cancelled),
         ),
         CallState::Ended(reply) => {
             let last = AnyLine::Repeated(u64::from(kept.number), reply);
@@ -380,7 +380,7 @@ fn is_next<R: Wait, W: Write + Drop, J: Start>(
             false
         }
         Err(fault) => {
-            say(service, Line::Unkeyed(fault));
+            say(service, ReplyLine::Unkeyed(fault));
             false
         }
     }
@@ -414,7 +414,7 @@ fn serve_call<
     O: Offices,
 >(
     service: Service<'_, R, O, W, J>,
-    reading: &mut Reading<'_, I>,
+    reading: &mut ReadingSide<'_, I>,
     worked: &mut Worked<H>,
     key: Option<u32>,
     op: &Name,
@@ -450,10 +450,10 @@ fn serve_call<
 // Tells whether an object was opened, and takes the seat there. The session goes on or, where memory was refused, leaves.
 fn take_found<R: Wait, I: Read + Drop, W: Write + Drop, J: Start, O: Offices>(
     service: Service<'_, R, O, W, J>,
-    reading: &mut Reading<'_, I>,
-    seat: &mut Option<Entered>,
+    reading: &mut ReadingSide<'_, I>,
+    seat: &mut Option<EnteredObject>,
     name: &Name,
-    found: Result<(Entered, Option<u32>), NotEntered>,
+    found: Result<(EnteredObject, Option<u32>), NotEntered>,
 ) -> Goes
     ensures { Takes found seat.old reading.old.opened seat.new reading.new.opened result }
 {
@@ -469,7 +469,7 @@ fn take_found<R: Wait, I: Read + Drop, W: Write + Drop, J: Start, O: Offices>(
             Goes::On
         }
         Err(NotEntered::Refused(refusal)) => {
-            say(service, Line::Refused(refusal));
+            say(service, ReplyLine::Refused(refusal));
             Goes::On
         }
         Err(NotEntered::Memory) => Goes::Leaves(Some(HearFault::Memory)),
@@ -479,8 +479,8 @@ fn take_found<R: Wait, I: Read + Drop, W: Write + Drop, J: Start, O: Offices>(
 // Opens an object for this session, which goes on or, where memory is refused, leaves.
 fn enter<R: Wait, I: Read + Drop, W: Write + Drop, J: Start, O: Offices>(
     service: Service<'_, R, O, W, J>,
-    reading: &mut Reading<'_, I>,
-    seat: &mut Option<Entered>,
+    reading: &mut ReadingSide<'_, I>,
+    seat: &mut Option<EnteredObject>,
     name: &Name,
     client: &Option<Name>,
 ) -> Goes
@@ -494,13 +494,13 @@ fn enter<R: Wait, I: Read + Drop, W: Write + Drop, J: Start, O: Offices>(
 // Cancels a call of the object that is opened.
 fn cancel<R: Wait, W: Write + Drop, J: Start, O: Offices>(
     service: Service<'_, R, O, W, J>,
-    seat: &Option<Entered>,
+    seat: &Option<EnteredObject>,
     number: u32,
 ) {
     if let Some(entered) = seat {
         if let Some(office) = service.by.office(entered.at) {
             let answer = office.cancel(service.rt, number);
-            say(service, Line::Cancel(u64::from(number), answer));
+            say(service, ReplyLine::Cancel(u64::from(number), answer));
         }
     }
 }
@@ -509,7 +509,7 @@ fn cancel<R: Wait, W: Write + Drop, J: Start, O: Offices>(
 fn leave_if_stopped<R: Wait, I: Read + Drop, O: Offices>(
     rt: &R,
     offices: &O,
-    reading: &Reading<'_, I>,
+    reading: &ReadingSide<'_, I>,
 ) {
     if reading.is_stopped() {
         leave(rt, offices, reading.opened());
@@ -519,7 +519,7 @@ fn leave_if_stopped<R: Wait, I: Read + Drop, O: Offices>(
 // Does what a line asks for.
 fn act<R: Wait + Clock, I: Read + Drop, W: Write + Drop, H: Hand + Drop, J: Start, O: Offices>(
     service: Service<'_, R, O, W, J>,
-    reading: &mut Reading<'_, I>,
+    reading: &mut ReadingSide<'_, I>,
     worked: &mut Worked<H>,
     action: Action,
 ) -> Goes
@@ -539,10 +539,10 @@ fn act<R: Wait + Clock, I: Read + Drop, W: Write + Drop, H: Hand + Drop, J: Star
         }
         Action::Cancel(number) => cancel(service, &worked.seat, number),
         Action::Quit => {
-            say(service, Line::Bye);
+            say(service, ReplyLine::Bye);
             return Goes::Quits;
         }
-        Action::Answer(refusal) => say(service, Line::Refused(refusal)),
+        Action::Answer(refusal) => say(service, ReplyLine::Refused(refusal)),
     }
     Goes::On
 }
@@ -550,7 +550,7 @@ fn act<R: Wait + Clock, I: Read + Drop, W: Write + Drop, H: Hand + Drop, J: Star
 // Does what lines ask for, in order.
 fn act_all<R: Wait + Clock, I: Read + Drop, W: Write + Drop, H: Hand + Drop, J: Start, O: Offices>(
     service: Service<'_, R, O, W, J>,
-    reading: &mut Reading<'_, I>,
+    reading: &mut ReadingSide<'_, I>,
     worked: &mut Worked<H>,
     actions: Vec<Action>,
 ) -> Goes
@@ -586,7 +586,7 @@ fn rest<R: Wait, W: Write + Drop, H: Hand + Drop, J: Start, O: Offices>(
 // Does what was heard. Before more is read, the lines that are held back are sent.
 fn heed<R: Wait + Clock, I: Read + Drop, W: Write + Drop, H: Hand + Drop, J: Start, O: Offices>(
     service: Service<'_, R, O, W, J>,
-    reading: &mut Reading<'_, I>,
+    reading: &mut ReadingSide<'_, I>,
     worked: &mut Worked<H>,
     heard: Heard,
 ) -> Goes
@@ -598,7 +598,7 @@ fn heed<R: Wait + Clock, I: Read + Drop, W: Write + Drop, H: Hand + Drop, J: Sta
     match heard {
         Heard::Action(action) => act(service, reading, worked, action),
         Heard::LineTooLong => {
-            say(service, Line::Refused(Refusal::LineTooLong));
+            say(service, ReplyLine::Refused(LineRefusal::LineTooLong));
             Goes::On
         }
         Heard::End(fault) => Goes::Leaves(fault),
@@ -616,7 +616,7 @@ fn heed<R: Wait + Clock, I: Read + Drop, W: Write + Drop, H: Hand + Drop, J: Sta
 // waited for, or the reading side.
 fn follow<R: Wait + Clock, I: Read + Drop, W: Write + Drop, H: Hand + Drop, J: Start, O: Offices>(
     service: Service<'_, R, O, W, J>,
-    reading: &mut Reading<'_, I>,
+    reading: &mut ReadingSide<'_, I>,
     worked: &mut Worked<H>,
 ) -> Goes
     ensures kept { Keeps H.agrees worked.old.hand worked.new.hand }
@@ -638,7 +638,7 @@ fn follow<R: Wait + Clock, I: Read + Drop, W: Write + Drop, H: Hand + Drop, J: S
 // One step: what is heard next is done.
 fn step<R: Wait + Clock, I: Read + Drop, W: Write + Drop, H: Hand + Drop, J: Start, O: Offices>(
     service: Service<'_, R, O, W, J>,
-    reading: &mut Reading<'_, I>,
+    reading: &mut ReadingSide<'_, I>,
     worked: &mut Worked<H>,
 ) -> Goes
     ensures kept { Keeps H.agrees worked.old.hand worked.new.hand }
@@ -663,7 +663,7 @@ fn take_steps<
     O: Offices,
 >(
     service: Service<'_, R, O, W, J>,
-    reading: &mut Reading<'_, I>,
+    reading: &mut ReadingSide<'_, I>,
     worked: &mut Worked<H>,
 ) -> Option<HearFault>
     ensures kept { Keeps H.agrees worked.old.hand worked.new.hand }
@@ -698,7 +698,7 @@ pub(crate) fn work<
     alloc: Global,
     offices: &O,
     mouth: &Mouth<W, J>,
-    reading: Reading<'_, I>,
+    reading: ReadingSide<'_, I>,
     hand: H,
 ) -> Worked<H>
     ensures kept { Keeps H.agrees hand result.hand }

@@ -15,7 +15,7 @@ use Rattle.tokio_util.specs.declared.codec.lines_codec.LinesCodecError.TheVarian
 use Rattle.tokio_util.specs.Codec.Next.{Next, decoded, partial, at_end, Resumes, Decodes, DecodesAtEnd}
 use Rattle.tokio_util.specs.Codec.Lines.{newline, newline_from, without_carriage_return, Scan, line, too_long, unfinished, read_line, skip_line, scan, at_line_start, discarding, gives_lines, Answers, AnswersLast, AnswersAtEnd, IsUnfinished, IsSettled}
 use Rattle.tokio_util.specs.Codec.LinesLaws.{read_line_found, read_line_long, read_line_short, skip_line_found, skip_line_missing, newline_from-append_missing}
-use Rattle.session_text.specs.declared.reader.Next.{Next as Heard}
+use Rattle.session_text.specs.declared.reader.NextLine.{NextLine as Heard}
 use Rattle.session_text.specs.HearLines.{IsUnbroken, IsLine, IsRest, IsTooLong, Finds, IsLast}
 use Rattle.session_text.specs.Told.{IsToldAs, told_last}
 

@@ -6,17 +6,17 @@ use Rattle.word_core.specs.Words.{Word, AreWords}
 use Rattle.word_core.specs.Data.{at_end}
 use Rattle.word_core.specs.Reads.{Reads}
 use Rattle.word_core.proofs.Reading.{blank_words}
-use Rattle.session_text.specs.declared.request.Request.{Request}
-use Rattle.session_text.specs.declared.request.Request.TheVariants as request
+use Rattle.session_text.specs.declared.request.SessionRequest.{SessionRequest}
+use Rattle.session_text.specs.declared.request.SessionRequest.TheVariants as request
 use Rattle.session_text.specs.Requests as lines
 use Rattle.session_text.specs.View.{request_view, IsReadOf}
 
 -- what was read of the words of a line is what it asks for
-read_found : (line : List ℕ) (found : Option Request) → Reads lines.request_of request_view line found → IsReadOf line found
+read_found : (line : List ℕ) (found : Option SessionRequest) → Reads lines.request_of request_view line found → IsReadOf line found
 read_found line None reads = λ q asks. let e : Some q ≡ None = sym asks.2 ∙ sym (reads.0 asks.0 asks.1) in cc
 read_found line (Some request) reads = let has = reads.1 in (has.0, has.1, sym (reads.0 has.0 has.1))
 
-pub read_of : {E : Type 0} (line : List ℕ) (found : Result (Option Request) E) → IfOk found (Reads lines.request_of request_view line) → IfOk found (IsReadOf line)
+pub read_of : {E : Type 0} (line : List ℕ) (found : Result (Option SessionRequest) E) → IfOk found (Reads lines.request_of request_view line) → IfOk found (IsReadOf line)
 read_of line (Ok found) reads = read_found line found reads
 read_of line (Err e) reads = tt
 

@@ -3,9 +3,9 @@ use Rattle.std.specs.Prelude.{⊤, ◌≡◌, ℕ, List, Option, Some, None}
 use Rattle.apply_core.specs.declared.reply.Reply.{Reply}
 use Rattle.session_text.specs.declared.line.AnyLine.{AnyLine}
 use Rattle.session_text.specs.declared.line.AnyLine.TheVariants as any_lines
-use Rattle.session_text.specs.declared.line.Line.{Line}
-use Rattle.session_text.specs.declared.line.Line.TheVariants as lines
-use Rattle.session_text.specs.declared.line.Refusal.TheVariants as refusals
+use Rattle.session_text.specs.declared.line.ReplyLine.{ReplyLine}
+use Rattle.session_text.specs.declared.line.ReplyLine.TheVariants as lines
+use Rattle.session_text.specs.declared.line.LineRefusal.TheVariants as refusals
 use Rattle.session_text.specs.Requests.{Request, opens, calls, cancels, quits}
 use Rattle.session_text.specs.Lines.{line_text, opened_text, ended_text, repeated_text}
 
@@ -15,7 +15,7 @@ pub data Said : Type 0 where
   opened : List ℕ → Option ℕ → Said
   ended : ℕ → Reply → Said
   repeated : ℕ → Reply → Said
-  told : Line → Said
+  told : ReplyLine → Said
 
 abbrev pub said_text : Said → List ℕ
 said_text (opened name next) = opened_text name next

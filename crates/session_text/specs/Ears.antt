@@ -1,20 +1,20 @@
 -- What a session hears.
 use Rattle.std.specs.Prelude.{◌≡◌, ◌⊎◌, ℕ, [], Bool, true, false, Option, Some, None, IsTrue, ◌↔◌, string_bytes}
 use Rattle.session_text.specs.Table.{Takes, TakesLast}
-use Rattle.session_text.specs.declared.line.Refusal.TheVariants.{BadLine}
+use Rattle.session_text.specs.declared.line.LineRefusal.TheVariants.{BadLine}
 use Rattle.session_text.specs.declared.session.Action.{Action}
 use Rattle.session_text.specs.declared.session.Action.TheVariants as actions
 use Rattle.session_text.specs.declared.fault.HearFault.{HearFault}
 use Rattle.session_text.specs.declared.fault.HearFault.TheVariants as faults
-use Rattle.session_text.specs.declared.reader.Next.{Next}
-use Rattle.session_text.specs.declared.reader.Next.TheVariants as nexts
+use Rattle.session_text.specs.declared.reader.NextLine.{NextLine}
+use Rattle.session_text.specs.declared.reader.NextLine.TheVariants as nexts
 use Rattle.session_text.specs.declared.ear.Heard.{Heard}
 use Rattle.session_text.specs.declared.ear.Heard.TheVariants as heards
 use Rattle.session_text.specs.HearLines.{Unread, Tells, Brings}
 use Rattle.session_text.specs.Hearing.{Hearing}
 
 -- what is done for the line that came next, by whether an object is opened
-abbrev pub IsDoneFor : Bool → Option Next → Action → Type 0
+abbrev pub IsDoneFor : Bool → Option NextLine → Action → Type 0
 IsDoneFor is_open None action = ⊥
 IsDoneFor is_open (Some (nexts.Line text)) action = Takes is_open (string_bytes text) action
 IsDoneFor is_open (Some (nexts.Rest text)) action = TakesLast is_open (string_bytes text) action
@@ -25,7 +25,7 @@ IsDoneFor is_open (Some nexts.Memory) action = ⊥
 
 -- what is heard where this came next: the end is told with its cause, and only a want of memory has
 -- none that is said here
-abbrev pub IsHeardOf : Bool → Option Next → Heard → Type 0
+abbrev pub IsHeardOf : Bool → Option NextLine → Heard → Type 0
 IsHeardOf is_open next (heards.Action action) = IsDoneFor is_open next action
 IsHeardOf is_open next heards.Nothing = next ≡ None
 IsHeardOf is_open next heards.LineTooLong = next ≡ Some nexts.LineTooLong
@@ -57,7 +57,7 @@ abbrev pub Hears : Hearing → Heard → Hearing → Type 0
 Hears s heard t =
     ((fault : Option HearFault) × (s.end ≡ Some fault) × (heard ≡ heards.End fault) × (t ≡ s))
     ⊎ ((s.end ≡ None) × (s.quits ≡ true) × IsHushed s.lines.ended heard × (t ≡ record s { end = end_by heard }))
-    ⊎ ((s.end ≡ None) × (s.quits ≡ false) × ((next : Option Next) × Tells s.lines next t.lines
+    ⊎ ((s.end ≡ None) × (s.quits ≡ false) × ((next : Option NextLine) × Tells s.lines next t.lines
     × IsHeardOf s.is_open next heard)
     × (t ≡ record s { lines = t.lines; quits = t.quits; end = end_by heard }) × (IsTrue t.quits ↔ IsQuit heard))
 

@@ -5,8 +5,8 @@ use Rattle.std.specs.Io.KnownBytes.{Consumes, IsAtEnd}
 use Rattle.tokio_util.specs.Codec.Lines.{without_carriage_return}
 use Rattle.session_text.specs.declared.fault.HearFault.{HearFault}
 use Rattle.session_text.specs.declared.fault.HearFault.TheVariants as faults
-use Rattle.session_text.specs.declared.reader.Next.{Next}
-use Rattle.session_text.specs.declared.reader.Next.TheVariants as nexts
+use Rattle.session_text.specs.declared.reader.NextLine.{NextLine}
+use Rattle.session_text.specs.declared.reader.NextLine.TheVariants as nexts
 
 -- the byte that ends a line
 abbrev pub line_feed : ℕ
@@ -35,7 +35,7 @@ IsTooLong bytes = (most_line_bytes < length bytes) × IsUnbroken (take (most_lin
 -- What comes next in these bytes, and the bytes that are left behind it, by whether the input ended with them. A CR
 -- that ends a line is no part of its text.
 -- Where a line is too long or memory is refused, nothing is said of what is left.
-abbrev pub Finds : Bool → List ℕ → Option Next → List ℕ → Type 0
+abbrev pub Finds : Bool → List ℕ → Option NextLine → List ℕ → Type 0
 Finds ended bytes None left = (ended ≡ false) × IsRest bytes × (left ≡ bytes)
 Finds ended bytes (Some (nexts.Line text)) left =
     (raw : List ℕ) × IsLine bytes raw left × (string_bytes text ≡ without_carriage_return raw)
@@ -51,7 +51,7 @@ Finds ended bytes (Some nexts.LineTooLong) left = IsTooLong bytes
 Finds ended bytes (Some nexts.Memory) left = Unit {0}
 
 -- behind this nothing more comes
-abbrev pub IsLast : Option Next → Type 0
+abbrev pub IsLast : Option NextLine → Type 0
 IsLast None = ⊥
 IsLast (Some (nexts.Line text)) = ⊥
 IsLast (Some (nexts.Rest text)) = ⊥
@@ -69,7 +69,7 @@ pub record Unread : Type 0 where
   pub remaining : Option (List ℕ)
 
 -- what is told next, and what is unread behind it
-abbrev pub Tells : Unread → Option Next → Unread → Type 0
+abbrev pub Tells : Unread → Option NextLine → Unread → Type 0
 Tells s next t =
     ((s.over ≡ true) × (next ≡ Some nexts.End) × (t ≡ s))
     ⊎ ((s.over ≡ false) × Finds s.ended s.bytes next t.bytes × (t.ended ≡ s.ended) × (t.remaining ≡ s.remaining)

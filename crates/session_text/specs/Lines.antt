@@ -9,14 +9,14 @@ use Rattle.guest_core.specs.declared.answer.Cancelled.{Cancelled}
 use Rattle.guest_core.specs.declared.answer.Cancelled.TheVariants as answers
 use Rattle.word_core.specs.Words.{bare, line_of}
 use Rattle.word_core.specs.Answers.{refused_line, finished_line, cancelled_line, kept_line, repeated_line}
-use Rattle.session_text.specs.declared.line.Refusal.{Refusal}
-use Rattle.session_text.specs.declared.line.Refusal.TheVariants as refusals
+use Rattle.session_text.specs.declared.line.LineRefusal.{LineRefusal}
+use Rattle.session_text.specs.declared.line.LineRefusal.TheVariants as refusals
 use Rattle.session_text.specs.declared.line.Unended.{Unended}
 use Rattle.session_text.specs.declared.line.Unended.TheVariants as unended
-use Rattle.session_text.specs.declared.line.Line.{Line}
-use Rattle.session_text.specs.declared.line.Line.TheVariants as lines
+use Rattle.session_text.specs.declared.line.ReplyLine.{ReplyLine}
+use Rattle.session_text.specs.declared.line.ReplyLine.TheVariants as lines
 
-abbrev pub refusal_name : Refusal → List ℕ
+abbrev pub refusal_name : LineRefusal → List ℕ
 refusal_name refusals.BadLine = codes "BadLine"
 refusal_name refusals.LineTooLong = codes "LineTooLong"
 refusal_name refusals.NotOpen = codes "NotOpen"
@@ -64,7 +64,7 @@ withdrawn_text n = line_of (bare (codes "cancelled") ∷ bare (decimal n) ∷ []
 abbrev pub bye_text : List ℕ
 bye_text = line_of (bare (codes "bye") ∷ [])
 
-abbrev pub line_text : Line → List ℕ
+abbrev pub line_text : ReplyLine → List ℕ
 line_text (lines.Refused refusal) = refused_line (refusal_name refusal)
 line_text (lines.Unsubmitted fault) = refused_line (fault_name fault)
 line_text (lines.Unkeyed fault) = refused_line (keyed_name fault)

@@ -1,6 +1,6 @@
 -- The table of sessions: what is done for a line.
 use Rattle.std.specs.Prelude.{◌≡◌, ◌⊎◌, ℕ, List, Bool, true, false}
-use Rattle.session_text.specs.declared.line.Refusal.TheVariants as refusals
+use Rattle.session_text.specs.declared.line.LineRefusal.TheVariants as refusals
 use Rattle.session_text.specs.declared.session.Action.{Action}
 use Rattle.session_text.specs.declared.session.Action.TheVariants as actions
 use Rattle.session_text.specs.Requests.{Request, opens, calls, cancels, quits}

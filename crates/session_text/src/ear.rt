@@ -6,8 +6,8 @@ ghost use Rattle.session_text.specs.Hearing.{Hearing};
 ghost use Rattle.session_text.specs.Ears.{IsHeardOf, IsQuit, end_by, end_met, ended_by, Hears, ReadsOnce, opened_at};
 
 use crate::fault::HearFault;
-use crate::line::Refusal;
-use crate::reader::{LineReader, Next};
+use crate::line::LineRefusal;
+use crate::reader::{LineReader, NextLine};
 use crate::session::{Action, Session};
 use std::alloc::{AllocError, Global};
 use std::io::Read;
@@ -65,17 +65,17 @@ fn done(fed: Result<Action, AllocError>) -> Heard
 }
 
 // What is heard where this came next.
-fn heard_of(alloc: Global, session: &Session, next: Option<Next>) -> Heard
+fn heard_of(alloc: Global, session: &Session, next: Option<NextLine>) -> Heard
     ensures { IsHeardOf session.now.is_open next result }
 {
     match next {
         None => Heard::Nothing,
-        Some(Next::Line(line)) => done(session.feed(alloc, line.as_bytes())),
-        Some(Next::Rest(line)) => done(session.feed_last(alloc, line.as_bytes())),
-        Some(Next::NoText) => Heard::Action(Action::Answer(Refusal::BadLine)),
-        Some(Next::End) => Heard::End(None),
-        Some(Next::LineTooLong) => Heard::LineTooLong,
-        Some(Next::Memory) => Heard::End(Some(HearFault::Memory)),
+        Some(NextLine::Line(line)) => done(session.feed(alloc, line.as_bytes())),
+        Some(NextLine::Rest(line)) => done(session.feed_last(alloc, line.as_bytes())),
+        Some(NextLine::NoText) => Heard::Action(Action::Answer(LineRefusal::BadLine)),
+        Some(NextLine::End) => Heard::End(None),
+        Some(NextLine::LineTooLong) => Heard::LineTooLong,
+        Some(NextLine::Memory) => Heard::End(Some(HearFault::Memory)),
     }
 }
 

@@ -17,7 +17,7 @@ use word_core::word::Written;
 
 /// Why a line is refused that submits nothing.
 #[derive(Clone, Copy, Debug, PartialEq, Eq)]
-pub enum Refusal {
+pub enum LineRefusal {
     /// It asks for nothing that a session may ask for.
     BadLine,
     /// It has more than 4,096 bytes.
@@ -49,9 +49,9 @@ pub enum Unended {
 
 /// A line that a session writes, and that lends nothing. Numbers are those of calls, from 1.
 #[derive(Clone, Copy, Debug, PartialEq, Eq)]
-pub enum Line {
+pub enum ReplyLine {
     /// `no REFUSAL`: a line was refused.
-    Refused(Refusal),
+    Refused(LineRefusal),
     /// `no FAULT`: a call was not taken.
     Unsubmitted(SubmitFault),
     /// `no FAULT`: a call under a key was not taken, and is none that was made before.
@@ -78,21 +78,21 @@ pub enum AnyLine<'a> {
     /// The same behind `repeat`: the last line of a call that was made before.
     Repeated(u64, &'a Reply),
     /// Any other line.
-    Told(Line),
+    Told(ReplyLine),
 }
 
-fn refusal_name(refusal: Refusal) -> &'static str
+fn refusal_name(refusal: LineRefusal) -> &'static str
     ensures { result.now ≡ lines.refusal_name refusal }
 {
     match refusal {
-        Refusal::BadLine => "BadLine",
-        Refusal::LineTooLong => "LineTooLong",
-        Refusal::NotOpen => "NotOpen",
-        Refusal::Opened => "Opened",
-        Refusal::NoObject => "NoObject",
-        Refusal::InUse => "InUse",
-        Refusal::Full => "Full",
-        Refusal::Gone => "Gone",
+        LineRefusal::BadLine => "BadLine",
+        LineRefusal::LineTooLong => "LineTooLong",
+        LineRefusal::NotOpen => "NotOpen",
+        LineRefusal::Opened => "Opened",
+        LineRefusal::NoObject => "NoObject",
+        LineRefusal::InUse => "InUse",
+        LineRefusal::Full => "Full",
+        LineRefusal::Gone => "Gone",
     }
 }
 
@@ -189,18 +189,18 @@ fn push_bye(out: &mut Vec<u8>) -> Result<(), AllocError>
     push_words_line(out, &[Written::Bare(b"bye")])
 }
 
-fn push_told(out: &mut Vec<u8>, line: Line) -> Result<(), AllocError>
+fn push_told(out: &mut Vec<u8>, line: ReplyLine) -> Result<(), AllocError>
     ensures { OnOk result (out.new.items ≡ out.old.items ++ lines.line_text line) }
 {
     match line {
-        Line::Refused(refusal) => push_refused(out, refusal_name(refusal)),
-        Line::Unsubmitted(fault) => push_refused(out, fault_name(fault)),
-        Line::Unkeyed(fault) => push_refused(out, keyed_name(fault)),
-        Line::Accepted(number) => push_accepted(out, number),
-        Line::Kept(number, state) => push_kept(out, number, state),
-        Line::Withdrawn(number) => push_withdrawn(out, number),
-        Line::Cancel(number, answer) => push_cancel(out, number, answer),
-        Line::Bye => push_bye(out),
+        ReplyLine::Refused(refusal) => push_refused(out, refusal_name(refusal)),
+        ReplyLine::Unsubmitted(fault) => push_refused(out, fault_name(fault)),
+        ReplyLine::Unkeyed(fault) => push_refused(out, keyed_name(fault)),
+        ReplyLine::Accepted(number) => push_accepted(out, number),
+        ReplyLine::Kept(number, state) => push_kept(out, number, state),
+        ReplyLine::Withdrawn(number) => push_withdrawn(out, number),
+        ReplyLine::Cancel(number, answer) => push_cancel(out, number, answer),
+        ReplyLine::Bye => push_bye(out),
     }
 }
 

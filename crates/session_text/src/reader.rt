@@ -22,7 +22,7 @@ const PIECE: usize = 4096;
 
 /// What comes next in the bytes that were read.
 #[derive(Debug, Drop)]
-pub enum Next {
+pub enum NextLine {
     /// A line, without its end.
     Line(String),
     /// What stands behind the last line end, where the input ended.
@@ -93,46 +93,46 @@ fn is_unbroken(bytes: &[u8]) -> bool
 }
 
 // A line, or what stands behind the last line end.
-fn last(is_rest: bool, line: String) -> Next
+fn last(is_rest: bool, line: String) -> NextLine
     ensures { result ≡ told_last is_rest line }
 {
     if is_rest {
-        Next::Rest(line)
+        NextLine::Rest(line)
     } else {
-        Next::Line(line)
+        NextLine::Line(line)
     }
 }
 
 // Why there is no text.
-fn refused(error: LinesCodecError) -> Next
+fn refused(error: LinesCodecError) -> NextLine
     ensures { IsToldAs error result }
 {
     match error {
-        LinesCodecError::MaxLineLengthExceeded => Next::LineTooLong,
+        LinesCodecError::MaxLineLengthExceeded => NextLine::LineTooLong,
         LinesCodecError::Io(e) => if is_memory(e.kind()) {
-            Next::Memory
+            NextLine::Memory
         } else {
-            Next::NoText
+            NextLine::NoText
         },
     }
 }
 
 // What comes next in these bytes, where more may come.
-fn next_line(codec: &mut LinesCodec, buffer: &mut BytesMut) -> Option<Next>
+fn next_line(codec: &mut LinesCodec, buffer: &mut BytesMut) -> Option<NextLine>
     requires { Resumes gives_lines (at_line_start 4096) buffer.old.items codec.old buffer.old.items }
     ensures found { Finds false buffer.old.items result buffer.new.items }
     ensures goes_on { (IsLast result → ⊥) →
         Resumes gives_lines (at_line_start 4096) buffer.new.items codec.new buffer.new.items }
 {
     match codec.decode(buffer) {
-        Ok(Some(line)) => Some(Next::Line(line)),
+        Ok(Some(line)) => Some(NextLine::Line(line)),
         Ok(None) => None,
         Err(e) => Some(refused(e)),
     }
 }
 
 // What comes next in these bytes, where the input ended with them.
-fn last_line(codec: &mut LinesCodec, buffer: &mut BytesMut) -> Option<Next>
+fn last_line(codec: &mut LinesCodec, buffer: &mut BytesMut) -> Option<NextLine>
     requires { Resumes gives_lines (at_line_start 4096) buffer.old.items codec.old buffer.old.items }
     ensures found { Finds true buffer.old.items result buffer.new.items }
     ensures goes_on { (IsLast result → ⊥) →
@@ -141,18 +141,18 @@ fn last_line(codec: &mut LinesCodec, buffer: &mut BytesMut) -> Option<Next>
     let is_rest = is_unbroken(buffer.as_slice());
     match codec.decode_eof(buffer) {
         Ok(Some(line)) => Some(last(is_rest, line)),
-        Ok(None) => Some(Next::End),
+        Ok(None) => Some(NextLine::End),
         Err(e) => Some(refused(e)),
     }
 }
 
 // Whether nothing more comes behind this.
-fn is_last(next: &Option<Next>) -> bool
+fn is_last(next: &Option<NextLine>) -> bool
     ensures { IsTrue result ↔ IsLast next.now }
 {
     match next {
-        Some(Next::LineTooLong) => true,
-        Some(Next::Memory) => true,
+        Some(NextLine::LineTooLong) => true,
+        Some(NextLine::Memory) => true,
         _ => false,
     }
 }
@@ -204,11 +204,11 @@ impl<I: Read + Drop> LineReader<I> {
 
     /// What comes next in the bytes that were read, or `None` where more have to be read for it. Behind a line that is
     /// too long, and behind a want of memory, it is the end.
-    pub fn ready(&mut self) -> Option<Next>
+    pub fn ready(&mut self) -> Option<NextLine>
         ensures { Tells self.old result self.new }
     {
         if self.over {
-            return Some(Next::End);
+            return Some(NextLine::End);
         }
         let next = if self.ended {
             last_line(&mut self.codec, &mut self.buffer)

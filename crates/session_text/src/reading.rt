@@ -15,7 +15,7 @@ use std::sync::Wait;
 
 /// The reading side, where it is not lent.
 #[derive(Drop)]
-pub struct Reading<'a, I: Read + Drop> {
+pub struct ReadingSide<'a, I: Read + Drop> {
     ear: Option<Ear<I>>,
     // The object that is opened, by its place, and the session there.
     opened: Option<(usize, u32)>,
@@ -24,18 +24,18 @@ pub struct Reading<'a, I: Read + Drop> {
     bell: &'a Bell,
 }
 
-impl<'a, I: Read + Drop> Reading<'a, I> {
+impl<'a, I: Read + Drop> ReadingSide<'a, I> {
     /// It is in the first thread's hands.
     pub fn new(
         ear: Ear<I>,
         to: Sender<Ear<I>>,
         relay: &'a Relay<I>,
         bell: &'a Bell,
-    ) -> Reading<'a, I>
+    ) -> ReadingSide<'a, I>
         ensures ear { result.ear ≡ Some ear }
         ensures opened { result.opened ≡ None }
     {
-        Reading {
+        ReadingSide {
             ear: Some(ear),
             opened: None,
             to,

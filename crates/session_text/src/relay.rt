@@ -15,7 +15,7 @@ use std::sync::{Condvar, Mutex, Wait};
 
 // What was heard and not done yet.
 #[derive(Drop)]
-struct Pending<I: Read + Drop> {
+struct PendingActions<I: Read + Drop> {
     // In the order of the lines.
     actions: Vec<Action>,
     // The reading side, where it was given back.
@@ -28,14 +28,14 @@ struct Pending<I: Read + Drop> {
     is_there: bool,
 }
 
-impl<I: Read + Drop> Pending<I> {
+impl<I: Read + Drop> PendingActions<I> {
     // Nothing was heard.
-    fn new(alloc: Global) -> Pending<I>
+    fn new(alloc: Global) -> PendingActions<I>
         ensures actions { result.actions.items ≡ [] }
         ensures ear { result.ear ≡ None }
         ensures flags { (result.is_idle ≡ false) × (result.is_over ≡ false) × (result.is_there ≡ false) }
     {
-        Pending {
+        PendingActions {
             actions: Vec::new(alloc),
             ear: None,
             is_idle: false,
@@ -95,7 +95,7 @@ impl<I: Read + Drop> Pending<I> {
 /// What the second thread heard, and the reading side once it gives it back.
 #[derive(Drop)]
 pub struct Relay<I: Read + Drop> {
-    pending: Mutex<Pending<I>>,
+    pending: Mutex<PendingActions<I>>,
     came: Condvar,
 }
 
@@ -103,7 +103,7 @@ impl<I: Read + Drop> Relay<I> {
     /// Nothing was heard.
     pub fn new(alloc: Global) -> Relay<I> {
         Relay {
-            pending: Mutex::new(Pending::new(alloc)),
+            pending: Mutex::new(PendingActions::new(alloc)),
             came: Condvar::new(),
         }
     }

@@ -23,7 +23,7 @@ use word_core::number::integer_of;
 
 /// What a line of a session asks for.
 #[derive(Drop)]
-pub enum Request {
+pub enum SessionRequest {
     /// `open NAME` or `open NAME as CLIENT`: the name of the object, and that of the client where it gives one.
     Open(Name, Option<Name>),
     /// `call OP ARG ..` or `call #J OP ARG ..`: the key where one is given, the name of the
@@ -38,7 +38,7 @@ pub enum Request {
 /// What a line asks for, or `None` where it asks for nothing that a session may ask for.
 ///
 /// The error is that memory was refused.
-pub fn read_line(alloc: Global, line: &[u8]) -> Result<Option<Request>, AllocError>
+pub fn read_line(alloc: Global, line: &[u8]) -> Result<Option<SessionRequest>, AllocError>
     ensures { IfOk result (IsReadOf line.now) }
 {
     match next_bare(line) {
@@ -48,7 +48,7 @@ pub fn read_line(alloc: Global, line: &[u8]) -> Result<Option<Request>, AllocErr
 }
 
 // What a line asks for by this word and those behind it.
-fn request_by(alloc: Global, verb: &[u8], line: &[u8]) -> Result<Option<Request>, AllocError>
+fn request_by(alloc: Global, verb: &[u8], line: &[u8]) -> Result<Option<SessionRequest>, AllocError>
     ensures { IfOk result (Reads (request_in verb.now) request_view line.now) }
 {
     if is_same_word(verb, b"open") {
@@ -97,7 +97,7 @@ fn free_name_of(alloc: Global, bytes: &[u8]) -> Result<Option<Name>, AllocError>
     name_of(alloc, bytes)
 }
 
-fn open_request(alloc: Global, line: &[u8]) -> Result<Option<Request>, AllocError>
+fn open_request(alloc: Global, line: &[u8]) -> Result<Option<SessionRequest>, AllocError>
     ensures { IfOk result (Reads open_in request_view line.now) }
 {
     match next_bare(line) {
@@ -107,7 +107,7 @@ fn open_request(alloc: Global, line: &[u8]) -> Result<Option<Request>, AllocErro
 }
 
 // The object that this word names is opened, by the words behind it.
-fn open_named(alloc: Global, word: &[u8], line: &[u8]) -> Result<Option<Request>, AllocError>
+fn open_named(alloc: Global, word: &[u8], line: &[u8]) -> Result<Option<SessionRequest>, AllocError>
     ensures { IfOk result (Reads (open_named_in word.now) request_view line.now) }
 {
     match name_of(alloc, word)? {
@@ -117,11 +117,11 @@ fn open_named(alloc: Global, word: &[u8], line: &[u8]) -> Result<Option<Request>
 }
 
 // The object of this name is opened, by the words behind it.
-fn open_behind(alloc: Global, name: Name, line: &[u8]) -> Result<Option<Request>, AllocError>
+fn open_behind(alloc: Global, name: Name, line: &[u8]) -> Result<Option<SessionRequest>, AllocError>
     ensures { IfOk result (Reads (open_behind_in name) request_view line.now) }
 {
     if is_blank(line) {
-        return Ok(Some(Request::Open(name, None)));
+        return Ok(Some(SessionRequest::Open(name, None)));
     }
     match next_bare(line) {
         Some((word, rest)) => open_as(alloc, name, word, rest),
@@ -135,7 +135,7 @@ fn open_as(
     name: Name,
     word: &[u8],
     line: &[u8],
-) -> Result<Option<Request>, AllocError>
+) -> Result<Option<SessionRequest>, AllocError>
     ensures { IfOk result (Reads (as_behind name word.now) request_view line.now) }
 {
     if !is_same_word(word, b"as") {
@@ -145,19 +145,19 @@ fn open_as(
 }
 
 // The object of this name is opened for the client that the one word of the line names.
-fn open_for(alloc: Global, name: Name, line: &[u8]) -> Result<Option<Request>, AllocError>
+fn open_for(alloc: Global, name: Name, line: &[u8]) -> Result<Option<SessionRequest>, AllocError>
     ensures { IfOk result (Reads (client_behind name) request_view line.now) }
 {
     match only_bare(line) {
         Some(word) => match free_name_of(alloc, word)? {
-            Some(client) => Ok(Some(Request::Open(name, Some(client)))),
+            Some(client) => Ok(Some(SessionRequest::Open(name, Some(client)))),
             None => Ok(None),
         },
         None => Ok(None),
     }
 }
 
-fn call_request(alloc: Global, line: &[u8]) -> Result<Option<Request>, AllocError>
+fn call_request(alloc: Global, line: &[u8]) -> Result<Option<SessionRequest>, AllocError>
     ensures { IfOk result (Reads call_in request_view line.now) }
 {
     match next_bare(line) {
@@ -167,7 +167,7 @@ fn call_request(alloc: Global, line: &[u8]) -> Result<Option<Request>, AllocErro
 }
 
 // A call of the operation that this word names, or under the key that it tells, with the words behind it.
-fn call_by(alloc: Global, word: &[u8], line: &[u8]) -> Result<Option<Request>, AllocError>
+fn call_by(alloc: Global, word: &[u8], line: &[u8]) -> Result<Option<SessionRequest>, AllocError>
     ensures { IfOk result (Reads (call_by_in word.now) request_view line.now) }
 {
     match word {
@@ -178,7 +178,7 @@ fn call_by(alloc: Global, word: &[u8], line: &[u8]) -> Result<Option<Request>, A
 }
 
 // A call under the key that these digits tell.
-fn call_under(alloc: Global, digits: &[u8], line: &[u8]) -> Result<Option<Request>, AllocError>
+fn call_under(alloc: Global, digits: &[u8], line: &[u8]) -> Result<Option<SessionRequest>, AllocError>
     ensures { IfOk result (Reads (digits_behind digits.now) request_view line.now) }
 {
     match integer_of(digits) {
@@ -187,7 +187,7 @@ fn call_under(alloc: Global, digits: &[u8], line: &[u8]) -> Result<Option<Reques
     }
 }
 
-fn call_keyed(alloc: Global, key: u32, line: &[u8]) -> Result<Option<Request>, AllocError>
+fn call_keyed(alloc: Global, key: u32, line: &[u8]) -> Result<Option<SessionRequest>, AllocError>
     ensures { IfOk result (Reads (keyed_behind key) request_view line.now) }
 {
     match next_bare(line) {
@@ -202,31 +202,31 @@ fn call_named(
     key: Option<u32>,
     word: &[u8],
     line: &[u8],
-) -> Result<Option<Request>, AllocError>
+) -> Result<Option<SessionRequest>, AllocError>
     ensures { IfOk result (Reads (call_behind key word.now) request_view line.now) }
 {
     match name_of(alloc, word)? {
         Some(name) => match data_of(alloc, line)? {
-            Some(arguments) => Ok(Some(Request::Call(key, name, arguments))),
+            Some(arguments) => Ok(Some(SessionRequest::Call(key, name, arguments))),
             None => Ok(None),
         },
         None => Ok(None),
     }
 }
 
-fn cancel_request(line: &[u8]) -> Option<Request>
+fn cancel_request(line: &[u8]) -> Option<SessionRequest>
     ensures { Reads cancel_in request_view line.now result }
 {
     let word = only_bare(line)?;
     let number = integer_of(word)?;
-    Some(Request::Cancel(number))
+    Some(SessionRequest::Cancel(number))
 }
 
-fn quit_request(line: &[u8]) -> Option<Request>
+fn quit_request(line: &[u8]) -> Option<SessionRequest>
     ensures { Reads (λ words. at_end words quits) request_view line.now result }
 {
     if is_blank(line) {
-        return Some(Request::Quit);
+        return Some(SessionRequest::Quit);
     }
     None
 }

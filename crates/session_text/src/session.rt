@@ -4,8 +4,8 @@ ghost use Rattle.std.specs.Prelude.{◌≡◌, IfOk, false};
 ghost use Rattle.session_text.specs.Table.{Does, DoesLast, Takes, TakesLast};
 ghost use Rattle.session_text.specs.View.{request_view};
 
-use crate::line::Refusal;
-use crate::request::{Request, read_line};
+use crate::line::LineRefusal;
+use crate::request::{SessionRequest, read_line};
 use path_tree::name::Name;
 use std::alloc::{AllocError, Global};
 use value_core::datum::Datum;
@@ -22,7 +22,7 @@ pub enum Action {
     /// The session ends, behind its calls.
     Quit,
     /// The line is refused.
-    Answer(Refusal),
+    Answer(LineRefusal),
 }
 
 /// What a session knows of itself: whether an object is opened.
@@ -48,7 +48,7 @@ impl Session {
     {
         match read_line(alloc, line)? {
             Some(request) => Ok(done_for(self.is_open, request)),
-            None => Ok(Action::Answer(Refusal::BadLine)),
+            None => Ok(Action::Answer(LineRefusal::BadLine)),
         }
     }
 
@@ -61,7 +61,7 @@ impl Session {
     {
         match read_line(alloc, line)? {
             Some(request) => Ok(done_last(self.is_open, request)),
-            None => Ok(Action::Answer(Refusal::BadLine)),
+            None => Ok(Action::Answer(LineRefusal::BadLine)),
         }
     }
 
@@ -81,49 +81,49 @@ impl Session {
 }
 
 // What is done for a request.
-fn done_for(is_open: bool, request: Request) -> Action
+fn done_for(is_open: bool, request: SessionRequest) -> Action
     ensures { Does is_open (request_view request) result }
 {
     match request {
-        Request::Open(name, client) => if is_open {
-            Action::Answer(Refusal::Opened)
+        SessionRequest::Open(name, client) => if is_open {
+            Action::Answer(LineRefusal::Opened)
         } else {
             Action::Open(name, client)
         },
-        Request::Call(key, name, arguments) => if is_open {
+        SessionRequest::Call(key, name, arguments) => if is_open {
             Action::Call(key, name, arguments)
         } else {
-            Action::Answer(Refusal::NotOpen)
+            Action::Answer(LineRefusal::NotOpen)
         },
-        Request::Cancel(number) => if is_open {
+        SessionRequest::Cancel(number) => if is_open {
             Action::Cancel(number)
         } else {
-            Action::Answer(Refusal::NotOpen)
+            Action::Answer(LineRefusal::NotOpen)
         },
-        Request::Quit => Action::Quit,
+        SessionRequest::Quit => Action::Quit,
     }
 }
 
 // What is done for the last request, where no line end stands behind it.
-fn done_last(is_open: bool, request: Request) -> Action
+fn done_last(is_open: bool, request: SessionRequest) -> Action
     ensures { DoesLast is_open (request_view request) result }
 {
     match request {
-        Request::Open(name, client) => if is_open {
-            Action::Answer(Refusal::Opened)
+        SessionRequest::Open(name, client) => if is_open {
+            Action::Answer(LineRefusal::Opened)
         } else {
             Action::Open(name, client)
         },
-        Request::Call(_, _, _) => if is_open {
-            Action::Answer(Refusal::Gone)
+        SessionRequest::Call(_, _, _) => if is_open {
+            Action::Answer(LineRefusal::Gone)
         } else {
-            Action::Answer(Refusal::NotOpen)
+            Action::Answer(LineRefusal::NotOpen)
         },
-        Request::Cancel(_) => if is_open {
-            Action::Answer(Refusal::BadLine)
+        SessionRequest::Cancel(_) => if is_open {
+            Action::Answer(LineRefusal::BadLine)
         } else {
-            Action::Answer(Refusal::NotOpen)
+            Action::Answer(LineRefusal::NotOpen)
         },
-        Request::Quit => Action::Quit,
+        SessionRequest::Quit => Action::Quit,
     }
 }

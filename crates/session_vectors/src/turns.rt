@@ -4,7 +4,7 @@ use crate::streams::LimitedWriter;
 use apply_core::reply::Reply;
 use session_core::mouth::Mouth;
 use session_core::output::Health;
-use session_text::line::{AnyLine, Line};
+use session_text::line::{AnyLine, ReplyLine};
 use std::alloc::Global;
 use std::marker::Brand;
 use std::process::Abort;
@@ -15,7 +15,7 @@ use std::sync::Wait;
 fn goes<R: Abort + Wait>(
     rt: &R,
     alloc: Global,
-    lines: &[Line],
+    lines: &[ReplyLine],
     ended: Option<u64>,
     so: Health,
     told: &[u8],
@@ -43,9 +43,9 @@ fn goes<R: Abort + Wait>(
 #[test]
 fn a_line_out_of_its_turn_is_told(rt: HostRuntime) {
     let alloc = rt.alloc();
-    let one = [Line::Accepted(1)];
-    let two = [Line::Accepted(1), Line::Accepted(2)];
-    let late = [Line::Bye, Line::Accepted(1)];
+    let one = [ReplyLine::Accepted(1)];
+    let two = [ReplyLine::Accepted(1), ReplyLine::Accepted(2)];
+    let late = [ReplyLine::Bye, ReplyLine::Accepted(1)];
     let mixed = Health::Mixed;
     let whole: &[u8] = b"accepted 1\ndone 1\n";
     assert!(rt; goes(&rt, alloc, &one, Some(1), Health::Fine, whole));

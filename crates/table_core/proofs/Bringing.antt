@@ -3,7 +3,7 @@ use Rattle.std.proofs.Common.{◌≡◌, ◌∙◌, ap, sym, subst, refl, ℕ, L
 use Rattle.std.specs.Prelude.{Some, None, Result, Ok, Err, OnErr, slice_get}
 use Rattle.post_core.specs.Posts.{Tells}
 use Rattle.post_core.specs.declared.post.Post.{Post}
-use Rattle.session_text.specs.declared.line.Line.{Line}
+use Rattle.session_text.specs.declared.line.ReplyLine.{ReplyLine}
 use Rattle.session_text.specs.Lines.{line_text}
 use Rattle.client_core.specs.State.{Peer, State, told_to, one_text, who_in}
 use Rattle.client_core.specs.Deeds.{Texts, Deed, Nothing, OnlyTold, Then}
@@ -68,7 +68,7 @@ brings_behind P a b c old mid new quiet same brings =
     (record { said = brings.said; added = brings.added; tells = tells_then a b c [] brings.said [] brings.added quiet brings.tells; is = brings.is })
 
 -- it is refused
-pub refuses : (a b : Post) (old new : State) (place : ℕ) (line : Line) → IsRefusal line → Brings (OnlyTold place (line_text line)) a old b new → Brings (IsRefused place) a old b new
+pub refuses : (a b : Post) (old new : State) (place : ℕ) (line : ReplyLine) → IsRefusal line → Brings (OnlyTold place (line_text line)) a old b new → Brings (IsRefused place) a old b new
 refuses a b old new place line is brings = brings_as (OnlyTold place (line_text line)) (IsRefused place) a b old new (λ said added only. (line, is, only)) brings
 
 -- held lines are done behind others

@@ -4,11 +4,11 @@ use Rattle.std.specs.Prelude.{Bool, true, false, Some, slice_get, slice_set}
 use Rattle.post_core.specs.Posts.{Tells}
 use Rattle.post_core.specs.declared.post.Post.{Post}
 use Rattle.word_core.specs.Answers.{cancelled_line}
-use Rattle.session_text.specs.declared.line.Line.{Line}
+use Rattle.session_text.specs.declared.line.ReplyLine.{ReplyLine}
 use Rattle.session_text.specs.Lines.{cancel_name, line_text, withdrawn_text}
 use Rattle.guest_core.specs.declared.answer.Cancelled.{Cancelled}
 use Rattle.guest_core.specs.declared.answer.Cancelled.TheVariants as answers
-use Rattle.client_core.specs.declared.client.Opened.{Opened}
+use Rattle.client_core.specs.declared.client.OpenObject.{OpenObject}
 use Rattle.hosted_core.specs.Keys.{WaitsAs}
 use Rattle.hosted_core.specs.Scene.{Scene}
 use Rattle.custody_core.specs.Custody.{Custodies}
@@ -24,7 +24,7 @@ use Rattle.table_core.proofs.Bringing.{brings_as}
 use Rattle.table_core.proofs.Entering.{of, objects_are}
 use Rattle.table_core.proofs.Telling.{tells_none, tells_then}
 
-pub cancel_refused : (a b : Post) (old new : State) (place told : ℕ) (line : Line) → IsRefusal line → Brings (OnlyTold place (line_text line)) a old b new →
+pub cancel_refused : (a b : Post) (old new : State) (place told : ℕ) (line : ReplyLine) → IsRefusal line → Brings (OnlyTold place (line_text line)) a old b new →
     Brings (AnswersCancel place told) a old b new
 cancel_refused a b old new place told line is brings =
     brings_as (OnlyTold place (line_text line)) (AnswersCancel place told) a b old new (λ said added only. inr (inr (line, is, only))) brings
@@ -35,7 +35,7 @@ not_cancelled a b old new place told answer other brings =
     brings_as (OnlyTold place (cancelled_line told (cancel_name answer))) (AnswersCancel place told) a b old new
     (λ said added only. inr (inl (record { answer = answer; other = other; only = only }))) brings
 
-answers_by : (old new : State) (said added : Texts) (place told session : ℕ) (opened : Opened) → opened_at old place ≡ Some opened →
+answers_by : (old new : State) (said added : Texts) (place told session : ℕ) (opened : OpenObject) → opened_at old place ≡ Some opened →
     ((object : Scene) → slice_get old.objects opened.object ≡ Some object → WaitsAs object session told) →
     CancelsOne place opened.object session told old said added new → AnswersCancel place told old said added new
 answers_by old new said added place told session opened by waits (inl c) = inl (record {
@@ -53,14 +53,14 @@ answers_by old new said added place told session opened by waits (inl c) = inl (
 answers_by old new said added place told session opened by waits (inr (inl c)) = inr (inl c)
 answers_by old new said added place told session opened by waits (inr (inr r)) = inr (inr r)
 
-pub cancels_by : (a b : Post) (old new : State) (place told session : ℕ) (opened : Opened) → Some opened ≡ opened_at old place →
+pub cancels_by : (a b : Post) (old new : State) (place told session : ℕ) (opened : OpenObject) → Some opened ≡ opened_at old place →
     ((object : Scene) → slice_get old.objects opened.object ≡ Some object → WaitsAs object session told) →
     Brings (CancelsOne place opened.object session told) a old b new → Brings (AnswersCancel place told) a old b new
 cancels_by a b old new place told session opened by waits brings =
     brings_as (CancelsOne place opened.object session told) (AnswersCancel place told) a b old new
     (λ said added is. answers_by old new said added place told session opened (sym by) waits is) brings
 
-pub one_refused : (a b c : Post) (old mid new : State) (place at session told : ℕ) (line : Line) → IsRefusal line → Tells a b [] [] → mid ≡ old →
+pub one_refused : (a b c : Post) (old mid new : State) (place at session told : ℕ) (line : ReplyLine) → IsRefusal line → Tells a b [] [] → mid ≡ old →
     Brings (OnlyTold place (line_text line)) b mid c new → Brings (CancelsOne place at session told) a old c new
 one_refused a b c old mid new place at session told line is quiet same brings =
     subst (λ (s : State). Brings (CancelsOne place at session told) a s c new) same (record {

@@ -4,10 +4,10 @@ use Rattle.std.specs.Prelude.{true, false, Option, Some, None, Ok, slice_get, sl
 use Rattle.std.proofs.lemmas.Option.{same_Some}
 use Rattle.post_core.specs.Posts.{Tells}
 use Rattle.post_core.specs.declared.post.Post.{Post}
-use Rattle.session_text.specs.declared.line.Line.{Line}
+use Rattle.session_text.specs.declared.line.ReplyLine.{ReplyLine}
 use Rattle.session_text.specs.Lines.{bye_text, line_text, opened_text}
-use Rattle.client_core.specs.declared.client.Opened.{Opened}
-use Rattle.client_core.specs.declared.clients.Clients.{Clients}
+use Rattle.client_core.specs.declared.client.OpenObject.{OpenObject}
+use Rattle.client_core.specs.declared.clients.ClientPlaces.{ClientPlaces}
 use Rattle.client_core.specs.Held.{is_some}
 use Rattle.guest_core.specs.declared.guests.Entered.{Entered}
 use Rattle.hosted_core.specs.Lines.{entered_lines}
@@ -27,14 +27,14 @@ use Rattle.table_core.proofs.Telling.{tells_none, tells_then}
 abbrev pub of : Custodies → List Scene → List Peer → State
 of custody objects peers = record { objects = objects; peers = peers; custody = custody }
 
-pub peers_are : (custody : Custodies) (objects : List Scene) (clients : Clients) (peers : List Peer) → peers_of clients ≡ peers → state_of custody objects clients ≡ of custody objects peers
+pub peers_are : (custody : Custodies) (objects : List Scene) (clients : ClientPlaces) (peers : List Peer) → peers_of clients ≡ peers → state_of custody objects clients ≡ of custody objects peers
 peers_are custody objects clients peers is = ap (λ ps. of custody objects ps) is
 
 pub objects_are : (custody : Custodies) (old new : List Scene) (peers : List Peer) → new ≡ old → of custody new peers ≡ of custody old peers
 objects_are custody old new peers is = ap (λ os. of custody os peers) is
 
 -- the one at a place is told that an object is opened for it
-pub opened_for : (custody : Custodies) (a b : Post) (objects : List Scene) (old new : Clients) (place : ℕ) (text : List ℕ) (opened : Opened) →
+pub opened_for : (custody : Custodies) (a b : Post) (objects : List Scene) (old new : ClientPlaces) (place : ℕ) (text : List ℕ) (opened : OpenObject) →
     Tells a b (told_to (peers_of old) place text) [] → peers_of new ≡ change (peers_of old) place (opening opened) →
     Brings (TellsOpened place text opened) a (state_of custody objects old) b (state_of custody objects new)
 opened_for custody a b objects old new place text opened tells is = record {
@@ -44,7 +44,7 @@ opened_for custody a b objects old new place text opened tells is = record {
   is = record { told = refl; lines = refl; left = peers_are custody objects new (change (peers_of old) place (opening opened)) is };
 }
 
-abbrev bare : ℕ → Opened
+abbrev bare : ℕ → OpenObject
 bare at = record { object = at; session = 0; is_named = false; waits = false; calls = 0; told = 0 }
 
 pub opens_bare : (a b : Post) (old new : State) (place at : ℕ) (name : List ℕ) → IsNamed old.objects at name →
@@ -63,7 +63,7 @@ pub opens_plain : (a b : Post) (old new : State) (place : ℕ) (name : List ℕ)
 opens_plain a b old new place name brings = brings_as (OpensBare place name) (Opens place name None) a b old new (λ said added is. inl is) brings
 
 -- it stays as it was, and then it is refused
-pub refused_behind : (a b c : Post) (old mid new : State) (place : ℕ) (line : Line) → IsRefusal line → Stays a old b mid →
+pub refused_behind : (a b c : Post) (old mid new : State) (place : ℕ) (line : ReplyLine) → IsRefusal line → Stays a old b mid →
     Brings (OnlyTold place (line_text line)) b mid c new → Brings (IsRefused place) a old c new
 refused_behind a b c old mid new place line is stays brings =
     subst (λ (s : State). Brings (IsRefused place) a s c new) stays.left (behind a b c mid new place stays.tells (refuses b c mid new place line is brings))
@@ -72,7 +72,7 @@ refused_behind a b c old mid new place line is stays brings =
     behind a b c mid new place quiet brings =
         record { said = brings.said; added = brings.added; tells = tells_then a b c [] brings.said [] brings.added quiet brings.tells; is = brings.is }
 
-pub enter_refused : (a b c : Post) (old mid new : State) (place : ℕ) (name client : List ℕ) (line : Line) → IsRefusal line → Stays a old b mid →
+pub enter_refused : (a b c : Post) (old mid new : State) (place : ℕ) (name client : List ℕ) (line : ReplyLine) → IsRefusal line → Stays a old b mid →
     Brings (OnlyTold place (line_text line)) b mid c new → Brings (Opens place name (Some client)) a old c new
 enter_refused a b c old mid new place name client line is stays brings =
     opens_refused a c old new place name (Some client) (refused_behind a b c old mid new place line is stays brings)
@@ -105,7 +105,7 @@ opens_as a b c old mid new place at name client entered named come brings =
       });
     }
   where
-    seat : ℕ → Entered → Opened
+    seat : ℕ → Entered → OpenObject
     seat at entered = record { object = at; session = entered.session; is_named = true; waits = false; calls = 0; told = 0 }
 
 pub comes_none : (custody : Custodies) (a : Post) (old new : List Scene) (peers : List Peer) → new ≡ old → Stays a (of custody old peers) a (of custody new peers)
@@ -126,17 +126,17 @@ comes_in custody a b old new peers at now client line bytes entered has is tells
   };
 }
 
-none_some : (o : Opened) → None ≡ Some o → ⊥
-none_some o is = true≢false (sym (ap (λ (x : Option Opened). is_some x) is))
+none_some : (o : OpenObject) → None ≡ Some o → ⊥
+none_some o is = true≢false (sym (ap (λ (x : Option OpenObject). is_some x) is))
 
 -- no object was opened, or no session was given
 pub no_session : (s : State) (place : ℕ) → None ≡ opened_at s place → HasNoSession s place
 no_session s place none opened is ne = absurd (none_some opened (none ∙ is))
 
-pub zero_session : (s : State) (place : ℕ) (opened : Opened) → Some opened ≡ opened_at s place → opened.session ≡ 0 → HasNoSession s place
-zero_session s place opened by zero other is ne = absurd (ne (ap (λ (o : Opened). o.session) (sym (same_Some opened other (by ∙ is))) ∙ zero))
+pub zero_session : (s : State) (place : ℕ) (opened : OpenObject) → Some opened ≡ opened_at s place → opened.session ≡ 0 → HasNoSession s place
+zero_session s place opened by zero other is ne = absurd (ne (ap (λ (o : OpenObject). o.session) (sym (same_Some opened other (by ∙ is))) ∙ zero))
 
-pub leaves_of : (custody kept : Custodies) (old new : List Scene) (peers : List Peer) (place session now : ℕ) (opened : Opened) → Some opened ≡ opened_at (of custody old peers) place →
+pub leaves_of : (custody kept : Custodies) (old new : List Scene) (peers : List Peer) (place session now : ℕ) (opened : OpenObject) → Some opened ≡ opened_at (of custody old peers) place →
     kept ≡ custody → IsFreeOf (slice_get custody opened.object) opened.is_named opened.session →
     LeavesAt old opened.object opened.session now new → LeavesOf place (of custody old peers) (of kept new peers)
 leaves_of custody kept old new peers place session now opened by same free (inl has) = inl (record {
@@ -154,7 +154,7 @@ leaves_of custody kept old new peers place session now opened by same free (inl 
 })
 leaves_of custody kept old new peers place session now opened by same free (inr none) =
     inr (
-      inl (λ other is ne. subst (λ (o : Opened). slice_get old o.object ≡ None) (same_Some opened other (by ∙ is)) none.0),
+      inl (λ other is ne. subst (λ (o : OpenObject). slice_get old o.object ≡ None) (same_Some opened other (by ∙ is)) none.0),
       ap (λ (c : Custodies). of c new peers) same ∙ objects_are custody old new peers none.1,
     )
 
@@ -162,7 +162,7 @@ leaves_of custody kept old new peers place session now opened by same free (inr 
 pub leaves_none : (s : State) (place : ℕ) → HasNoSession s place → LeavesOf place s s
 leaves_none s place none = inr (inl none, refl)
 
-pub goes_from : (old mid : State) (clients : Clients) (place : ℕ) → LeavesOf place old mid →
+pub goes_from : (old mid : State) (clients : ClientPlaces) (place : ℕ) → LeavesOf place old mid →
     peers_of clients ≡ change mid.peers place (λ p. nobody) → Goes place old [] [] (state_of mid.custody mid.objects clients)
 goes_from old mid clients place leaves is = (refl, refl, (mid, leaves, peers_are mid.custody mid.objects clients (change mid.peers place (λ p. nobody)) is))
 

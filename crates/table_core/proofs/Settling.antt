@@ -13,13 +13,13 @@ use Rattle.decl_core.specs.ObjectMap.{object_of}
 use Rattle.live_core.specs.declared.call.Ran.{Ran}
 use Rattle.live_core.specs.declared.live.Taken.{Taken}
 use Rattle.live_core.specs.Lines.{all_lines}
-use Rattle.session_text.specs.declared.line.Line.{Line}
+use Rattle.session_text.specs.declared.line.ReplyLine.{ReplyLine}
 use Rattle.session_text.specs.Lines.{line_text}
 use Rattle.guest_core.specs.declared.seats.Seat.TheVariants.{Nameless}
 use Rattle.guest_core.specs.Guests.{with_seat}
 use Rattle.decl_core.specs.HoldForm.{EveryForm}
-use Rattle.client_core.specs.declared.client.Opened.{Opened}
-use Rattle.client_core.specs.declared.clients.Clients.{Clients}
+use Rattle.client_core.specs.declared.client.OpenObject.{OpenObject}
+use Rattle.client_core.specs.declared.clients.ClientPlaces.{ClientPlaces}
 use Rattle.hosted_core.specs.Scene.{Scene, with_guests}
 use Rattle.custody_core.specs.Custody.{Custody, Custodies, IsFreeOf, IsOwed, HasNone, HasSome, FollowsIn, MayMake, held_lines_in, not_held_text}
 use Rattle.custody_core.specs.Custody.IsOwed.{again}
@@ -125,13 +125,13 @@ settles_seat a old new at (inl (session, is)) = quiet a old new (seats new [] []
 settles_seat a old new at (inr same) = settles_still a old new same
 
 -- a call was made for a session that no connection has
-pub owed_made : (a b c : Post) (old mid new : State) (at session operation : ℕ) (arguments : List Datum) (seat : Opened) (taken : Taken) →
+pub owed_made : (a b c : Post) (old mid new : State) (at session operation : ℕ) (arguments : List Datum) (seat : OpenObject) (taken : Taken) →
     seat ≡ bare_seat at session → NoneHas at session old → IsKnownAt old.objects at session → IsOwedAt old at session operation arguments →
     HasMade seat operation arguments taken a old b mid →
     ((object : Scene) → slice_get mid.objects at ≡ Some object → Brings (EndsAll at object taken.ran.items) b mid c new) → SettlesOn a old c new
 owed_made a b c old mid new at session operation arguments seat taken seat_is apart known owed made ends =
     let is : HasMade (bare_seat at session) operation arguments taken a old b mid =
-    subst (λ (s : Opened). HasMade s operation arguments taken a old b mid) seat_is made in
+    subst (λ (s : OpenObject). HasMade s operation arguments taken a old b mid) seat_is made in
     let there : slice_get mid.objects at ≡ Some is.after =
     ap (λ (s : State). slice_get s.objects at) is.adds.left ∙ set_there old.objects at is.object is.after is.there in
     let brings : Brings (EndsAll at is.after taken.ran.items) b mid c new = ends is.after there in
@@ -181,7 +181,7 @@ ends_all a b old mid new at object ran brings follows =
 pub ends_same : (a b : Post) (old mid : State) (at : ℕ) (object : Scene) (ran : List Ran) → Brings (AllEnd at object ran) a old b mid → mid.objects ≡ old.objects
 ends_same a b old mid at object ran brings = (all_end_keeps at object ran old mid brings.said brings.added brings.is).0
 
-pub tells_all : (a b : Post) (old mid new : State) (place : ℕ) (seat : Opened) (taken : Taken) (object : Scene) →
+pub tells_all : (a b : Post) (old mid new : State) (place : ℕ) (seat : OpenObject) (taken : Taken) (object : Scene) →
     Brings (TellsTaken place seat taken object) a old b mid → Follows seat.object object taken.ran.items mid new →
     Brings (TellsAll place seat taken object) a old b new
 tells_all a b old mid new place seat taken object brings follows = record {
@@ -191,23 +191,23 @@ tells_all a b old mid new place seat taken object brings follows = record {
   is = record { mid = mid; tells = brings.is; follows = follows };
 }
 
-pub taken_same : (a b : Post) (old mid : State) (place : ℕ) (seat : Opened) (taken : Taken) (object : Scene) →
+pub taken_same : (a b : Post) (old mid : State) (place : ℕ) (seat : OpenObject) (taken : Taken) (object : Scene) →
     Brings (TellsTaken place seat taken object) a old b mid → mid.objects ≡ old.objects
 taken_same a b old mid place seat taken object brings =
     (all_end_keeps seat.object object taken.ran.items _ mid brings.is.ended [] brings.is.ends).0
 
 -- what is held follows
-pub follows_in : (custody new : Custodies) (objects : List Scene) (clients : Clients) (at : ℕ) (object : Scene) (ran : List Ran) →
+pub follows_in : (custody new : Custodies) (objects : List Scene) (clients : ClientPlaces) (at : ℕ) (object : Scene) (ran : List Ran) →
     FollowsIn (slice_get custody at) at object ran custody new → Follows at object ran (state_of custody objects clients) (state_of new objects clients)
 follows_in custody new objects clients at object ran follows = record { custody = new; held = follows; left = refl }
 
 -- nothing of what is held changes
-pub held_same : (custody new : Custodies) (objects : List Scene) (clients : Clients) → new ≡ custody →
+pub held_same : (custody new : Custodies) (objects : List Scene) (clients : ClientPlaces) → new ≡ custody →
     state_of new objects clients ≡ state_of custody objects clients
 held_same custody new objects clients same = ap (λ (c : Custodies). state_of c objects clients) same
 
 -- a session stays that holds something
-pub stays_held : (custody new : Custodies) (objects : List Scene) (clients : Clients) (place : ℕ) (opened : Opened) →
+pub stays_held : (custody new : Custodies) (objects : List Scene) (clients : ClientPlaces) (place : ℕ) (opened : OpenObject) →
     Some opened ≡ opened_at (state_of custody objects clients) place → new ≡ custody →
     (opened.is_named ≡ false) × ((c : Custody) × (slice_get custody opened.object ≡ Some c) × HasSome opened.session c.held) →
     LeavesOf place (state_of custody objects clients) (state_of new objects clients)
@@ -224,7 +224,7 @@ stays_held custody new objects clients place opened by same (bare, (c, has, some
 )
 
 -- the session of one that has opened an object leaves, or stays
-pub leaves_held : (custody kept : Custodies) (old new : List Scene) (clients : Clients) (place now : ℕ) (opened : Opened) →
+pub leaves_held : (custody kept : Custodies) (old new : List Scene) (clients : ClientPlaces) (place now : ℕ) (opened : OpenObject) →
     Some opened ≡ opened_at (state_of custody old clients) place → kept ≡ custody →
     IsFreeOf (slice_get custody opened.object) opened.is_named opened.session → LeavesAt old opened.object opened.session now new →
     LeavesOf place (state_of custody old clients) (state_of kept new clients)
@@ -232,12 +232,12 @@ leaves_held custody kept old new clients place now opened by same free leaves =
     leaves_of custody kept old new (peers_of clients) place opened.session now opened by same free leaves
 
 -- it may not make the call
-pub asks_not : (a b : Post) (old new : State) (place : ℕ) (opened : Opened) (operation : Option ℕ) (arguments : List Datum) →
+pub asks_not : (a b : Post) (old new : State) (place : ℕ) (opened : OpenObject) (operation : Option ℕ) (arguments : List Datum) →
     MayNotAsk old opened operation arguments → Brings (TellsUnheld place) a old b new → Brings (AsksCall place opened operation arguments) a old b new
 asks_not a b old new place opened operation arguments not brings =
     brings_as (TellsUnheld place) (AsksCall place opened operation arguments) a b old new (λ said added is. inr (not, is)) brings
 
-pub asks_it : (a b : Post) (old new : State) (place : ℕ) (opened : Opened) (operation : Option ℕ) (arguments : List Datum) →
+pub asks_it : (a b : Post) (old new : State) (place : ℕ) (opened : OpenObject) (operation : Option ℕ) (arguments : List Datum) →
     MayAsk old opened operation arguments → Brings (MakesCall place opened operation arguments) a old b new →
     Brings (AsksCall place opened operation arguments) a old b new
 asks_it a b old new place opened operation arguments may brings =
@@ -246,13 +246,13 @@ asks_it a b old new place opened operation arguments may brings =
 pub unheld_told : (a b : Post) (old new : State) (place : ℕ) → Brings (OnlyTold place not_held_text) a old b new → Brings (TellsUnheld place) a old b new
 unheld_told a b old new place brings = brings_as (OnlyTold place not_held_text) (TellsUnheld place) a b old new (λ said added is. inl is) brings
 
-pub unheld_refused : (a b : Post) (old new : State) (place : ℕ) (line : Line) → IsRefusal line → Brings (OnlyTold place (line_text line)) a old b new →
+pub unheld_refused : (a b : Post) (old new : State) (place : ℕ) (line : ReplyLine) → IsRefusal line → Brings (OnlyTold place (line_text line)) a old b new →
     Brings (TellsUnheld place) a old b new
 unheld_refused a b old new place line is brings =
     brings_as (OnlyTold place (line_text line)) (TellsUnheld place) a b old new (λ said added only. inr (line, is, only)) brings
 
 -- whether a session may make a call
-pub may_ask : (s : State) (opened : Opened) (operation : Option ℕ) (o : ℕ) (arguments : List Datum) → operation ≡ Some o →
+pub may_ask : (s : State) (opened : OpenObject) (operation : Option ℕ) (o : ℕ) (arguments : List Datum) → operation ≡ Some o →
     MayMake (slice_get s.custody opened.object) opened.session o arguments → MayAsk s opened operation arguments
 may_ask s opened operation o arguments is may asked asked_is =
     subst (λ (n : ℕ). MayMake (slice_get s.custody opened.object) opened.session n arguments) (same_Some o asked (sym is ∙ asked_is)) may
@@ -262,7 +262,7 @@ pub brings_still : (P : Deed) (a b : Post) (old mid new : State) → Brings P a 
 brings_still P a b old mid new brings same = subst (λ (s : State). Brings P a old b s) (sym same) brings
 
 -- a session that no connection has leaves
-pub free_left : (custody : Custodies) (old new : List Scene) (clients : Clients) (at session now : ℕ) → NoneHas at session (state_of custody old clients) →
+pub free_left : (custody : Custodies) (old new : List Scene) (clients : ClientPlaces) (at session now : ℕ) → NoneHas at session (state_of custody old clients) →
     ((c : Custody) × (slice_get custody at ≡ Some c) × HasNone session c.held) → NoneWaitsAt old at session → LeavesAt old at session now new →
     FreesOr at session (state_of custody old clients) (state_of custody new clients)
 free_left custody old new clients at session now apart (c, has, none) idle (inl left) = inl (record {
@@ -284,13 +284,13 @@ free_left custody old new clients at session now apart (c, has, none) idle (inl 
 free_left custody old new clients at session now apart c idle (inr none) = inr (objects_are custody old new (peers_of clients) none.1)
 
 -- the same, where what is held was noted before
-pub free_noted : (custody kept : Custodies) (old new : List Scene) (clients : Clients) (at session : ℕ) → kept ≡ custody →
+pub free_noted : (custody kept : Custodies) (old new : List Scene) (clients : ClientPlaces) (at session : ℕ) → kept ≡ custody →
     FreesOr at session (state_of kept old clients) (state_of kept new clients) → FreesOr at session (state_of custody old clients) (state_of kept new clients)
 free_noted custody kept old new clients at session same left =
     subst (λ (c : Custodies). FreesOr at session (state_of c old clients) (state_of kept new clients)) same left
 
 -- a session gets a number
-pub seat_given : (custody kept : Custodies) (old new : List Scene) (clients : Clients) (at session : ℕ) →
+pub seat_given : (custody kept : Custodies) (old new : List Scene) (clients : ClientPlaces) (at session : ℕ) →
     ((c : Custody) × (slice_get custody at ≡ Some c)) → SeatsAt old at session new → kept ≡ custody →
     SeatsOr at (state_of custody old clients) (state_of kept new clients)
 seat_given custody kept old new clients at session (c, has) seat same = inl (
@@ -322,7 +322,7 @@ owed_back s at session operation arguments object there owed other found =
     (same_Some object other (sym there ∙ found)) owed
 
 -- an object begins its next epoch by a text
-pub begins_held : (custody : Custodies) (old new : List Scene) (clients : Clients) (at : ℕ) (text front lines : List ℕ) →
+pub begins_held : (custody : Custodies) (old new : List Scene) (clients : ClientPlaces) (at : ℕ) (text front lines : List ℕ) →
     FrontsHeld (state_of custody old clients) at text → lines ≡ held_lines_in custody at (slice_get old at) → text ≡ front ++ lines →
     Begins old at front new → BeginsHeld (state_of custody old clients) at text (state_of custody new clients)
 begins_held custody old new clients at text front lines fronts is cut begins =

@@ -4,11 +4,11 @@ use Rattle.std.specs.Prelude.{Option, Some, Result, Ok, Err, IfOk, slice_get}
 use Rattle.std.specs.Global.{Vec}
 use Rattle.std.specs.declared.alloc.AllocError.{AllocError}
 use Rattle.post_core.specs.declared.post.Post.{Post}
-use Rattle.session_text.specs.declared.line.Line.{Line}
+use Rattle.session_text.specs.declared.line.ReplyLine.{ReplyLine}
 use Rattle.session_text.specs.Lines.{line_text}
 use Rattle.client_core.specs.declared.ask.Sight.{Sight}
 use Rattle.client_core.specs.declared.ask.Sight.TheVariants as insides
-use Rattle.client_core.specs.declared.client.Opened.{Opened}
+use Rattle.client_core.specs.declared.client.OpenObject.{OpenObject}
 use Rattle.hosted_core.specs.Scene.{Scene}
 use Rattle.client_core.specs.People.{Person}
 use Rattle.decl_core.specs.HoldForm.{HoldForm}
@@ -41,13 +41,13 @@ told_or people now place inside text old new said added each (inl only) = each o
 told_or people now place inside text old new said added each (inr refused) = inr refused
 
 -- it is refused
-pub look_refused : (a b : Post) (old new : State) (people : List Person) (now place : ℕ) (inside : Sight) (line : Line) → IsRefusal line →
+pub look_refused : (a b : Post) (old new : State) (people : List Person) (now place : ℕ) (inside : Sight) (line : ReplyLine) → IsRefusal line →
     Brings (OnlyTold place (line_text line)) a old b new → Brings (LooksOf people now place inside) a old b new
 look_refused a b old new people now place inside line is brings =
     brings_as (IsRefused place) (LooksOf people now place inside) a b old new (λ said added refused. inr refused) (refuses a b old new place line is brings)
 
 -- there is no memory for the text
-pub show_refused : (a b : Post) (old new : State) (place : ℕ) (text : List ℕ) (line : Line) → IsRefusal line → Brings (OnlyTold place (line_text line)) a old b new →
+pub show_refused : (a b : Post) (old new : State) (place : ℕ) (text : List ℕ) (line : ReplyLine) → IsRefusal line → Brings (OnlyTold place (line_text line)) a old b new →
     Brings (ShowsText place text) a old b new
 show_refused a b old new place text line is brings =
     brings_as (IsRefused place) (ShowsText place text) a b old new (λ said added refused. inr refused) (refuses a b old new place line is brings)
@@ -55,7 +55,7 @@ show_refused a b old new place text line is brings =
 pub show_told : (a b : Post) (old new : State) (place : ℕ) (text : List ℕ) → Brings (OnlyTold place text) a old b new → Brings (ShowsText place text) a old b new
 show_told a b old new place text brings = brings_as (OnlyTold place text) (ShowsText place text) a b old new (λ said added only. inl only) brings
 
-pub why_shown : (a b : Post) (old new : State) (people : List Person) (now place number : ℕ) (opened : Opened) (text : Result (Vec ℕ) AllocError) → Some opened ≡ opened_at old place →
+pub why_shown : (a b : Post) (old new : State) (people : List Person) (now place number : ℕ) (opened : OpenObject) (text : Result (Vec ℕ) AllocError) → Some opened ≡ opened_at old place →
     IfOk text (λ t. (object : Scene) × (slice_get old.objects opened.object ≡ Some object) × IsWhy object number t.items) →
     Brings (Shows place text) a old b new → Brings (LooksOf people now place (insides.Why number)) a old b new
 why_shown a b old new people now place number opened (Ok t) by (object, there, is) brings =
@@ -65,7 +65,7 @@ why_shown a b old new people now place number opened (Ok t) by (object, there, i
 why_shown a b old new people now place number opened (Err e) by is brings =
     brings_as (IsRefused place) (LooksOf people now place (insides.Why number)) a b old new (λ said added refused. inr refused) brings
 
-pub who_shown : (a b : Post) (old new : State) (people : List Person) (now place from : ℕ) (opened : Opened) (text : Result (Vec ℕ) AllocError) → Some opened ≡ opened_at old place →
+pub who_shown : (a b : Post) (old new : State) (people : List Person) (now place from : ℕ) (opened : OpenObject) (text : Result (Vec ℕ) AllocError) → Some opened ≡ opened_at old place →
     IfOk text (λ t. (object : Scene) × (slice_get old.objects opened.object ≡ Some object) × IsWho (record { peers = old.peers; people = people; now = now; at = opened.object }) object (holds_by (slice_get old.custody opened.object)) (held_by (slice_get old.custody opened.object)) from t.items) →
     Brings (Shows place text) a old b new → Brings (LooksOf people now place (insides.Who from)) a old b new
 who_shown a b old new people now place from opened (Ok t) by (object, there, is) brings =

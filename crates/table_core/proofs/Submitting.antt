@@ -6,18 +6,18 @@ use Rattle.post_core.specs.declared.post.Post.{Post}
 use Rattle.value_core.specs.declared.datum.Datum.{Datum}
 use Rattle.decl_core.specs.ObjectMap.{object_of}
 use Rattle.word_core.specs.Text.{operation_name}
-use Rattle.session_text.specs.declared.line.Line.{Line}
+use Rattle.session_text.specs.declared.line.ReplyLine.{ReplyLine}
 use Rattle.session_text.specs.Lines.{accepted_text, ended_text, line_text}
-use Rattle.client_core.specs.declared.client.Opened.{Opened}
-use Rattle.client_core.specs.declared.clients.Clients.{Clients}
+use Rattle.client_core.specs.declared.client.OpenObject.{OpenObject}
+use Rattle.client_core.specs.declared.clients.ClientPlaces.{ClientPlaces}
 use Rattle.client_core.specs.Held.{is_some}
 use Rattle.live_core.specs.declared.call.Ran.{Ran}
 use Rattle.live_core.specs.declared.live.Taken.{Taken}
 use Rattle.live_core.specs.Lines.{all_lines}
 use Rattle.guest_core.specs.declared.seats.Seat.TheVariants.{Nameless}
 use Rattle.guest_core.specs.Guests.{with_seat}
-use Rattle.hosted_core.specs.declared.hosted.Keyed.{Keyed}
-use Rattle.hosted_core.specs.declared.hosted.Keyed.TheVariants as keys
+use Rattle.hosted_core.specs.declared.hosted.KeyState.{KeyState}
+use Rattle.hosted_core.specs.declared.hosted.KeyState.TheVariants as keys
 use Rattle.hosted_core.specs.Keys.{Says}
 use Rattle.hosted_core.specs.Scene.{Scene, told_of, with_guests}
 use Rattle.custody_core.specs.Custody.{Custodies}
@@ -34,13 +34,13 @@ use Rattle.table_core.proofs.Entering.{of, peers_are, objects_are}
 use Rattle.table_core.proofs.Telling.{tells_none, tells_then}
 
 -- it is refused
-pub call_refused : (a b : Post) (old new : State) (place : ℕ) (key : Option ℕ) (name : List ℕ) (arguments : List Datum) (line : Line) → IsRefusal line →
+pub call_refused : (a b : Post) (old new : State) (place : ℕ) (key : Option ℕ) (name : List ℕ) (arguments : List Datum) (line : ReplyLine) → IsRefusal line →
     Brings (OnlyTold place (line_text line)) a old b new → Brings (AnswersCall place key name arguments) a old b new
 call_refused a b old new place key name arguments line is brings =
     brings_as (OnlyTold place (line_text line)) (AnswersCall place key name arguments) a b old new (λ said added only. inr (inr (inl (line, is, only)))) brings
 
-refuses_one : (old new : State) (said added : Texts) (place : ℕ) (key : Option ℕ) (name : List ℕ) (arguments : List Datum) (opened : Opened) →
-    opened_at old place ≡ Some opened → (seat : Opened) (mid : State) → Sits place old opened seat mid → IsRefused place mid said added new →
+refuses_one : (old new : State) (said added : Texts) (place : ℕ) (key : Option ℕ) (name : List ℕ) (arguments : List Datum) (opened : OpenObject) →
+    opened_at old place ≡ Some opened → (seat : OpenObject) (mid : State) → Sits place old opened seat mid → IsRefused place mid said added new →
     AnswersCall place key name arguments old said added new
 refuses_one old new said added place key name arguments opened by seat mid (inl same) refused =
     inr (inr (inl (subst (λ (s : State). IsRefused place s said added new) same.1 refused)))
@@ -51,7 +51,7 @@ named_as : (object : Scene) (operation : Option ℕ) (asked : ℕ) (name : List 
     IfSome operation (λ o. operation_name (object_of object.hall.object) o ≡ name) → operation_name (object_of object.hall.object) asked ≡ name
 named_as object operation asked name is named = subst (λ (o : Option ℕ). IfSome o (λ n. operation_name (object_of object.hall.object) n ≡ name)) is named
 
-makes_plain : (old new : State) (said added : Texts) (place : ℕ) (operation : Option ℕ) (name : List ℕ) (arguments : List Datum) (opened : Opened) →
+makes_plain : (old new : State) (said added : Texts) (place : ℕ) (operation : Option ℕ) (name : List ℕ) (arguments : List Datum) (opened : OpenObject) →
     opened_at old place ≡ Some opened → HasOperation old.objects opened.object operation name → AsksCall place opened operation arguments old said added new →
     AnswersCall place None name arguments old said added new
 makes_plain old new said added place operation name arguments opened by has (inl (may, inl m)) = inl (record {
@@ -84,14 +84,14 @@ makes_plain old new said added place operation name arguments opened by has (inr
 makes_plain old new said added place operation name arguments opened by has (inr (not, inr refused)) = inr (inr (inl refused))
 
 -- a call without a key is made, or refused
-pub call_plain : (a b : Post) (old new : State) (place : ℕ) (operation : Option ℕ) (name : List ℕ) (arguments : List Datum) (opened : Opened) →
+pub call_plain : (a b : Post) (old new : State) (place : ℕ) (operation : Option ℕ) (name : List ℕ) (arguments : List Datum) (opened : OpenObject) →
     Some opened ≡ opened_at old place → HasOperation old.objects opened.object operation name →
     Brings (AsksCall place opened operation arguments) a old b new → Brings (AnswersCall place None name arguments) a old b new
 call_plain a b old new place operation name arguments opened by has brings =
     brings_as (AsksCall place opened operation arguments) (AnswersCall place None name arguments) a b old new
     (λ said added is. makes_plain old new said added place operation name arguments opened (sym by) has is) brings
 
-makes_under : (old new : State) (said added : Texts) (place key : ℕ) (operation : Option ℕ) (name : List ℕ) (arguments : List Datum) (opened : Opened) →
+makes_under : (old new : State) (said added : Texts) (place key : ℕ) (operation : Option ℕ) (name : List ℕ) (arguments : List Datum) (opened : OpenObject) →
     opened_at old place ≡ Some opened → HasOperation old.objects opened.object operation name →
     UnderKey place opened key operation arguments old said added new → AnswersCall place (Some key) name arguments old said added new
 makes_under old new said added place key operation name arguments opened by has (inl (says, inl (may, inl m))) = inl (record {
@@ -137,27 +137,27 @@ makes_under old new said added place key operation name arguments opened by has 
 makes_under old new said added place key operation name arguments opened by has (inr (inr refused)) = inr (inr (inl refused))
 
 -- a call under a key is made, or told again, or refused
-pub call_keyed : (a b : Post) (old new : State) (place key : ℕ) (operation : Option ℕ) (name : List ℕ) (arguments : List Datum) (opened : Opened) →
+pub call_keyed : (a b : Post) (old new : State) (place key : ℕ) (operation : Option ℕ) (name : List ℕ) (arguments : List Datum) (opened : OpenObject) →
     Some opened ≡ opened_at old place → HasOperation old.objects opened.object operation name →
     Brings (UnderKey place opened key operation arguments) a old b new → Brings (AnswersCall place (Some key) name arguments) a old b new
 call_keyed a b old new place key operation name arguments opened by has brings =
     brings_as (UnderKey place opened key operation arguments) (AnswersCall place (Some key) name arguments) a b old new
     (λ said added is. makes_under old new said added place key operation name arguments opened (sym by) has is) brings
 
-pub key_refused : (a b : Post) (old new : State) (place key : ℕ) (opened : Opened) (operation : Option ℕ) (arguments : List Datum) (line : Line) → IsRefusal line →
+pub key_refused : (a b : Post) (old new : State) (place key : ℕ) (opened : OpenObject) (operation : Option ℕ) (arguments : List Datum) (line : ReplyLine) → IsRefusal line →
     Brings (OnlyTold place (line_text line)) a old b new → Brings (UnderKey place opened key operation arguments) a old b new
 key_refused a b old new place key opened operation arguments line is brings =
     brings_as (OnlyTold place (line_text line)) (UnderKey place opened key operation arguments) a b old new (λ said added only. inr (inr (line, is, only))) brings
 
-says_of : (objects : List Scene) (opened : Opened) (key : ℕ) (session : Option ℕ) (operation : Option ℕ) (arguments : List Datum) (keyed said : Keyed) →
+says_of : (objects : List Scene) (opened : OpenObject) (key : ℕ) (session : Option ℕ) (operation : Option ℕ) (arguments : List Datum) (keyed said : KeyState) →
     session ≡ session_by opened →
     ((object : Scene) → slice_get objects opened.object ≡ Some object → Says object session opened.calls key operation arguments keyed) → keyed ≡ said →
     (object : Scene) → slice_get objects opened.object ≡ Some object → Says object (session_by opened) opened.calls key operation arguments said
 says_of objects opened key session operation arguments keyed said same says is object there =
-    subst (λ (k : Keyed). Says object (session_by opened) opened.calls key operation arguments k) is
+    subst (λ (k : KeyState). Says object (session_by opened) opened.calls key operation arguments k) is
     (subst (λ (s : Option ℕ). Says object s opened.calls key operation arguments keyed) same (says object there))
 
-pub key_new : (a b : Post) (old new : State) (place key : ℕ) (opened : Opened) (session : Option ℕ) (operation : Option ℕ) (arguments : List Datum) (keyed : Keyed) →
+pub key_new : (a b : Post) (old new : State) (place key : ℕ) (opened : OpenObject) (session : Option ℕ) (operation : Option ℕ) (arguments : List Datum) (keyed : KeyState) →
     session ≡ session_by opened →
     ((object : Scene) → slice_get old.objects opened.object ≡ Some object → Says object session opened.calls key operation arguments keyed) → keyed ≡ keys.New →
     Brings (AsksCall place opened operation arguments) a old b new → Brings (UnderKey place opened key operation arguments) a old b new
@@ -165,7 +165,7 @@ key_new a b old new place key opened session operation arguments keyed same says
     brings_as (AsksCall place opened operation arguments) (UnderKey place opened key operation arguments) a b old new
     (λ said added m. inl (says_of old.objects opened key session operation arguments keyed keys.New same says is, m)) brings
 
-pub key_old : (a b : Post) (old new : State) (place key : ℕ) (opened : Opened) (session : Option ℕ) (operation : Option ℕ) (arguments : List Datum) (keyed : Keyed) →
+pub key_old : (a b : Post) (old new : State) (place key : ℕ) (opened : OpenObject) (session : Option ℕ) (operation : Option ℕ) (arguments : List Datum) (keyed : KeyState) →
     session ≡ session_by opened →
     ((object : Scene) → slice_get old.objects opened.object ≡ Some object → Says object session opened.calls key operation arguments keyed) →
     (keyed ≡ keys.New → ⊥) → Brings (OnlyTold place (keyed_text keyed)) a old b new → Brings (UnderKey place opened key operation arguments) a old b new
@@ -174,7 +174,7 @@ key_old a b old new place key opened session operation arguments keyed same says
     (λ said added only. inr (inl (keyed, says_of old.objects opened key session operation arguments keyed keyed same says refl, other, only))) brings
 
 -- behind a session that got its number
-pub makes_refused : (a b c : Post) (old mid new : State) (place : ℕ) (opened seat : Opened) (operation : Option ℕ) (arguments : List Datum) (line : Line) →
+pub makes_refused : (a b c : Post) (old mid new : State) (place : ℕ) (opened seat : OpenObject) (operation : Option ℕ) (arguments : List Datum) (line : ReplyLine) →
     IsRefusal line → Tells a b [] [] → Sits place old opened seat mid → Brings (OnlyTold place (line_text line)) b mid c new →
     Brings (MakesCall place opened operation arguments) a old c new
 makes_refused a b c old mid new place opened seat operation arguments line is quiet sits brings = record {
@@ -184,7 +184,7 @@ makes_refused a b c old mid new place opened seat operation arguments line is qu
   is = inr (record { seat = seat; mid = mid; sits = sits; refused = (line, is, brings.is) });
 }
 
-submits_as : (old mid new : State) (said added : Texts) (place : ℕ) (opened seat : Opened) (operation : Option ℕ) (asked : ℕ) (arguments : List Datum) →
+submits_as : (old mid new : State) (said added : Texts) (place : ℕ) (opened seat : OpenObject) (operation : Option ℕ) (asked : ℕ) (arguments : List Datum) →
     Sits place old opened seat mid → operation ≡ Some asked → SubmitsOr place seat asked arguments mid said added new →
     MakesCall place opened operation arguments old said added new
 submits_as old mid new said added place opened seat operation asked arguments sits is (inl s) =
@@ -192,7 +192,7 @@ submits_as old mid new said added place opened seat operation asked arguments si
 submits_as old mid new said added place opened seat operation asked arguments sits is (inr r) =
     inr (record { seat = seat; mid = mid; sits = sits; refused = r })
 
-pub makes_it : (a b c : Post) (old mid new : State) (place : ℕ) (opened seat : Opened) (operation : Option ℕ) (asked : ℕ) (arguments : List Datum) →
+pub makes_it : (a b c : Post) (old mid new : State) (place : ℕ) (opened seat : OpenObject) (operation : Option ℕ) (asked : ℕ) (arguments : List Datum) →
     Tells a b [] [] → Sits place old opened seat mid → operation ≡ Some asked → Brings (SubmitsOr place seat asked arguments) b mid c new →
     Brings (MakesCall place opened operation arguments) a old c new
 makes_it a b c old mid new place opened seat operation asked arguments quiet sits is brings = record {
@@ -203,13 +203,13 @@ makes_it a b c old mid new place opened seat operation asked arguments quiet sit
 }
 
 -- a session stays the same
-pub sits_same : (place : ℕ) (old mid new : State) (opened seat : Opened) → Sits place old opened seat mid → new ≡ mid → Sits place old opened seat new
+pub sits_same : (place : ℕ) (old mid new : State) (opened seat : OpenObject) → Sits place old opened seat mid → new ≡ mid → Sits place old opened seat new
 sits_same place old mid new opened seat sits same = subst (λ (s : State). Sits place old opened seat s) (sym same) sits
 
-pub sits_from : (place : ℕ) (old mid new : State) (opened seat : Opened) → mid ≡ old → Sits place mid opened seat new → Sits place old opened seat new
+pub sits_from : (place : ℕ) (old mid new : State) (opened seat : OpenObject) → mid ≡ old → Sits place mid opened seat new → Sits place old opened seat new
 sits_from place old mid new opened seat same sits = subst (λ (s : State). Sits place s opened seat new) same sits
 
-pub gets_number : (custody : Custodies) (old new : List Scene) (clients clients_new : Clients) (place session : ℕ) (opened : Opened) → opened.session ≡ 0 →
+pub gets_number : (custody : Custodies) (old new : List Scene) (clients clients_new : ClientPlaces) (place session : ℕ) (opened : OpenObject) → opened.session ≡ 0 →
     SeatsAt old opened.object session new → peers_of clients_new ≡ change (peers_of clients) place (opening (record opened { session = session })) →
     Sits place (state_of custody old clients) opened (record opened { session = session }) (state_of custody new clients_new)
 gets_number custody old new clients clients_new place session opened unseated seats is = inr (record {
@@ -224,13 +224,13 @@ gets_number custody old new clients clients_new place session opened unseated se
       (change (peers_of clients) place (opening (record opened { session = session }))) seats.left;
 })
 
-pub err_sits : {A E : Type 0} (r : Result A E) (place : ℕ) (old : State) (opened seat : Opened) (new : State) → Sits place old opened seat new →
-    OnErr r ((s : Opened) × Sits place old opened s new)
+pub err_sits : {A E : Type 0} (r : Result A E) (place : ℕ) (old : State) (opened seat : OpenObject) (new : State) → Sits place old opened seat new →
+    OnErr r ((s : OpenObject) × Sits place old opened s new)
 err_sits (Ok a) place old opened seat new sits = tt
 err_sits (Err e) place old opened seat new sits = (seat, sits)
 
 -- a call was made
-pub makes_at : (custody : Custodies) (a b : Post) (old new : List Scene) (peers : List Peer) (seat : Opened) (operation : ℕ) (arguments : List Datum) (taken : Taken)
+pub makes_at : (custody : Custodies) (a b : Post) (old new : List Scene) (peers : List Peer) (seat : OpenObject) (operation : ℕ) (arguments : List Datum) (taken : Taken)
     (line bytes : List ℕ) → HasCalled old seat.object seat.session operation arguments taken line new → bytes ≡ line →
     Tells a b [] ((seat.object, bytes) ∷ []) → HasMade seat operation arguments taken a (of custody old peers) b (of custody new peers)
 makes_at custody a b old new peers seat operation arguments taken line bytes has is tells = record {
@@ -244,7 +244,7 @@ makes_at custody a b old new peers seat operation arguments taken line bytes has
   };
 }
 
-pub submit_refused : (a b c : Post) (old mid new : State) (place : ℕ) (seat : Opened) (operation : ℕ) (arguments : List Datum) (line : Line) → IsRefusal line →
+pub submit_refused : (a b c : Post) (old mid new : State) (place : ℕ) (seat : OpenObject) (operation : ℕ) (arguments : List Datum) (line : ReplyLine) → IsRefusal line →
     Stays a old b mid → Brings (OnlyTold place (line_text line)) b mid c new → Brings (SubmitsOr place seat operation arguments) a old c new
 submit_refused a b c old mid new place seat operation arguments line is stays brings =
     subst (λ (s : State). Brings (SubmitsOr place seat operation arguments) a s c new) stays.left (record {
@@ -262,7 +262,7 @@ set_there [] k x y there = absurd (none_there x there)
 set_there (z ∷ xs) zero x y there = refl
 set_there (z ∷ xs) (suc k) x y there = set_there xs k x y there
 
-pub submit_taken : (a b c : Post) (old mid new : State) (place : ℕ) (seat : Opened) (operation : ℕ) (arguments : List Datum) (taken : Taken) →
+pub submit_taken : (a b c : Post) (old mid new : State) (place : ℕ) (seat : OpenObject) (operation : ℕ) (arguments : List Datum) (taken : Taken) →
     HasMade seat operation arguments taken a old b mid →
     ((object : Scene) → slice_get mid.objects seat.object ≡ Some object → Brings (TellsAll place seat taken object) b mid c new) →
     Brings (SubmitsOr place seat operation arguments) a old c new
@@ -291,7 +291,7 @@ submit_taken a b c old mid new place seat operation arguments taken made tells =
     }
 
 -- it is told, and all that ran
-pub taken_by : (custody : Custodies) (a b c : Post) (objects : List Scene) (old mid : Clients) (new : State) (place told : ℕ) (seat : Opened) (taken : Taken) (object : Scene) →
+pub taken_by : (custody : Custodies) (a b c : Post) (objects : List Scene) (old mid : ClientPlaces) (new : State) (place told : ℕ) (seat : OpenObject) (taken : Taken) (object : Scene) →
     told ≡ told_of object taken.number → Tells a b (told_to (peers_of old) place (accepted_text told)) [] →
     peers_of mid ≡ change (peers_of old) place (opening (counted told seat)) →
     Brings (AllEnd seat.object object taken.ran.items) b (state_of custody objects mid) c new → Brings (TellsTaken place seat taken object) a (state_of custody objects old) c new
@@ -336,7 +336,7 @@ one_ends a b c old mid new at object all r rest is one more =
     })
 
 -- the one whose call has ended is told so, and waits no more; or nobody
-pub ends_at : (custody : Custodies) (a b : Post) (objects : List Scene) (old new : Clients) (at session number place : ℕ) (text shown : List ℕ) →
+pub ends_at : (custody : Custodies) (a b : Post) (objects : List Scene) (old new : ClientPlaces) (at session number place : ℕ) (text shown : List ℕ) →
     ((kept : Custodies) (os : List Scene) → Waits at session number (state_of kept os old) place) → shown ≡ text → Tells a b (told_to (peers_of old) place shown) [] →
     peers_of new ≡ change (peers_of old) place (waiting false) → Brings (Ends at session number text) a (state_of custody objects old) b (state_of custody objects new)
 ends_at custody a b objects old new at session number place text shown waits is tells peers = record {
@@ -354,7 +354,7 @@ ends_at custody a b objects old new at session number place text shown waits is 
   );
 }
 
-pub ends_nowhere : (custody : Custodies) (a : Post) (objects : List Scene) (old : Clients) (at session number : ℕ) (text : List ℕ) →
+pub ends_nowhere : (custody : Custodies) (a : Post) (objects : List Scene) (old : ClientPlaces) (at session number : ℕ) (text : List ℕ) →
     ((kept : Custodies) (os : List Scene) (place : ℕ) → Waits at session number (state_of kept os old) place → ⊥) → Brings (Ends at session number text) a (state_of custody objects old) a (state_of custody objects old)
 ends_nowhere custody a objects old at session number text none = record {
   said = [];
@@ -363,7 +363,7 @@ ends_nowhere custody a objects old at session number text none = record {
   is = inr (none custody objects, record { told = refl; lines = refl; left = refl });
 }
 
-pub ends_nowhere_as : (custody : Custodies) (a : Post) (objects : List Scene) (old : Clients) (at session found number told : ℕ) (text : List ℕ) → found ≡ session → told ≡ number →
+pub ends_nowhere_as : (custody : Custodies) (a : Post) (objects : List Scene) (old : ClientPlaces) (at session found number told : ℕ) (text : List ℕ) → found ≡ session → told ≡ number →
     ((kept : Custodies) (os : List Scene) (place : ℕ) → Waits at found told (state_of kept os old) place → ⊥) →
     Brings (Ends at session number text) a (state_of custody objects old) a (state_of custody objects old)
 ends_nowhere_as custody a objects old at session found number told text one two none =

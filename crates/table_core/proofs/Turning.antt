@@ -10,12 +10,12 @@ use Rattle.post_core.specs.Turns.Asked.{Heard, Noted}
 use Rattle.post_core.specs.declared.served.LineEnd.{LineEnd}
 use Rattle.post_core.specs.declared.served.Note.{Note}
 use Rattle.guest_core.specs.declared.answer.SubmitFault.TheVariants as faults
-use Rattle.session_text.specs.declared.line.Line.TheVariants as lines
+use Rattle.session_text.specs.declared.line.ReplyLine.TheVariants as lines
 use Rattle.session_text.specs.Lines.{line_text}
 use Rattle.client_core.specs.declared.ask.Ask.{Ask}
 use Rattle.client_core.specs.declared.ask.Ask.TheVariants as asks
-use Rattle.client_core.specs.declared.client.Opened.{Opened}
-use Rattle.client_core.specs.declared.clients.Clients.{Clients}
+use Rattle.client_core.specs.declared.client.OpenObject.{OpenObject}
+use Rattle.client_core.specs.declared.clients.ClientPlaces.{ClientPlaces}
 use Rattle.client_core.specs.Asks.{Asks}
 use Rattle.client_core.specs.Held.{is_some, waits_of}
 use Rattle.client_core.specs.declared.ask.Sight.{Sight}
@@ -52,14 +52,14 @@ pub line_cancels : (a b : Post) (old new : State) (place told : ℕ) (text : Lis
 line_cancels a b old new place told text is_whole busy whole reads brings =
     brings_as (AnswersCancel place told) (HearsLine place text is_whole) a b old new (λ said added is. cancels busy whole told reads is) brings
 
-pub line_held : (custody : Custodies) (a : Post) (objects : List Scene) (old new : Clients) (place : ℕ) (text : List ℕ) (is_whole : Bool) → (IsIdle (state_of custody objects old) place → ⊥) →
+pub line_held : (custody : Custodies) (a : Post) (objects : List Scene) (old new : ClientPlaces) (place : ℕ) (text : List ℕ) (is_whole : Bool) → (IsIdle (state_of custody objects old) place → ⊥) →
     peers_of new ≡ change (peers_of old) place (holding text is_whole) → Brings (HearsLine place text is_whole) a (state_of custody objects old) a (state_of custody objects new)
 line_held custody a objects old new place text is_whole busy peers =
     subst (λ (s : State). Brings (HearsLine place text is_whole) a (state_of custody objects old) a s)
     (sym (peers_are custody objects new (change (peers_of old) place (holding text is_whole)) peers))
     (record { said = []; added = []; tells = tells_none a; is = holds busy })
 
-pub line_refused : (custody : Custodies) (a b : Post) (objects : List Scene) (old mid : Clients) (new : State) (place : ℕ) (text : List ℕ) (is_whole : Bool) →
+pub line_refused : (custody : Custodies) (a b : Post) (objects : List Scene) (old mid : ClientPlaces) (new : State) (place : ℕ) (text : List ℕ) (is_whole : Bool) →
     (IsIdle (state_of custody objects old) place → ⊥) → peers_of mid ≡ peers_of old →
     Brings (OnlyTold place (line_text (lines.Unsubmitted faults.Memory))) a (state_of custody objects mid) b new →
     Brings (HearsLine place text is_whole) a (state_of custody objects old) b new
@@ -73,7 +73,7 @@ pub line_sees : (a b : Post) (old new : State) (place : ℕ) (inside : Sight) (t
 line_sees a b old new place inside text is_whole busy whole reads brings =
     brings_as (AnswersInside place inside) (HearsLine place text is_whole) a b old new (λ said added is. sees busy whole inside reads is) brings
 
-pub line_put_off : (custody : Custodies) (a : Post) (objects : List Scene) (old new : Clients) (place : ℕ) (text : List ℕ) (is_whole : Bool) (inside : Sight) →
+pub line_put_off : (custody : Custodies) (a : Post) (objects : List Scene) (old new : ClientPlaces) (place : ℕ) (text : List ℕ) (is_whole : Bool) (inside : Sight) →
     Asks (is_some (opened_at (state_of custody objects old) place)) is_whole text (asks.Inside inside) →
     peers_of new ≡ change (peers_of old) place (holding text is_whole) → Brings (HearsLine place text is_whole) a (state_of custody objects old) a (state_of custody objects new)
 line_put_off custody a objects old new place text is_whole inside ask peers =
@@ -81,7 +81,7 @@ line_put_off custody a objects old new place text is_whole inside ask peers =
     (sym (peers_are custody objects new (change (peers_of old) place (holding text is_whole)) peers))
     (record { said = []; added = []; tells = tells_none a; is = puts_off inside ask })
 
-pub line_off_refused : (custody : Custodies) (a b : Post) (objects : List Scene) (old mid : Clients) (new : State) (place : ℕ) (text : List ℕ) (is_whole : Bool) (inside : Sight) →
+pub line_off_refused : (custody : Custodies) (a b : Post) (objects : List Scene) (old mid : ClientPlaces) (new : State) (place : ℕ) (text : List ℕ) (is_whole : Bool) (inside : Sight) →
     IsIdle (state_of custody objects old) place → Asks (is_some (opened_at (state_of custody objects old) place)) is_whole text (asks.Inside inside) →
     peers_of mid ≡ peers_of old → Brings (OnlyTold place (line_text (lines.Unsubmitted faults.Memory))) a (state_of custody objects mid) b new →
     Brings (HearsLine place text is_whole) a (state_of custody objects old) b new
@@ -102,11 +102,11 @@ goes_by a b old mid new place asked idle takes brings = continues_by a b old new
 })
 
 -- the same is seen
-pub goes_same : (custody : Custodies) (a b : Post) (objects : List Scene) (old mid : Clients) (new : State) → peers_of mid ≡ peers_of old → Continues a (state_of custody objects mid) b new →
+pub goes_same : (custody : Custodies) (a b : Post) (objects : List Scene) (old mid : ClientPlaces) (new : State) → peers_of mid ≡ peers_of old → Continues a (state_of custody objects mid) b new →
     Continues a (state_of custody objects old) b new
 goes_same custody a b objects old mid new same goes = subst (λ (s : State). Continues a s b new) (peers_are custody objects mid (peers_of old) same) goes
 
-pub goes_still : (custody : Custodies) (a : Post) (objects : List Scene) (old new : Clients) → peers_of new ≡ peers_of old → Continues a (state_of custody objects old) a (state_of custody objects new)
+pub goes_still : (custody : Custodies) (a : Post) (objects : List Scene) (old new : ClientPlaces) → peers_of new ≡ peers_of old → Continues a (state_of custody objects old) a (state_of custody objects new)
 goes_still custody a objects old new same p first so =
     subst (λ (s : State). Brings GoesOn p first a s) (sym (peers_are custody objects new (peers_of old) same)) so
 
@@ -130,7 +130,7 @@ ends_last a b old mid new place asked is takes brings =
     brings_from : (said added : Texts) → Tells a b said added → EndsHeld place old said added new → Brings (EndsHeld place) a old b new
     brings_from said added tells is = record { said = said; added = added; tells = tells; is = is }
 
-pub ends_none : (custody : Custodies) (a : Post) (objects : List Scene) (old new : Clients) (place : ℕ) → NoLineFeed (held_at (state_of custody objects old) place) → peers_of new ≡ peers_of old →
+pub ends_none : (custody : Custodies) (a : Post) (objects : List Scene) (old new : ClientPlaces) (place : ℕ) → NoLineFeed (held_at (state_of custody objects old) place) → peers_of new ≡ peers_of old →
     Brings (EndsHeld place) a (state_of custody objects old) a (state_of custody objects new)
 ends_none custody a objects old new place none same =
     subst (λ (s : State). Brings (EndsHeld place) a (state_of custody objects old) a s) (sym (peers_are custody objects new (peers_of old) same))
@@ -165,8 +165,8 @@ leaves_by a b c old one two new place first second goes =
     brings_then (WithdrawsAt place) (Then (EndsHeld place) (Goes place)) a b c old one new first
     (brings_then (EndsHeld place) (Goes place) b c c one two new second (record { said = []; added = []; tells = tells_none c; is = goes }))
 
-none_waits : (o : Option Opened) → None ≡ o → waits_of o ≡ false
-none_waits o is = subst (λ (x : Option Opened). waits_of x ≡ false) is refl
+none_waits : (o : Option OpenObject) → None ≡ o → waits_of o ≡ false
+none_waits o is = subst (λ (x : Option OpenObject). waits_of x ≡ false) is refl
 
 pub withdraws_nobody : (a : Post) (s : State) (place : ℕ) → None ≡ opened_at s place → Brings (WithdrawsAt place) a s a s
 withdraws_nobody a s place none = record {
@@ -176,15 +176,15 @@ withdraws_nobody a s place none = record {
   is = inr (none_waits (opened_at s place) none, record { told = refl; lines = refl; left = refl });
 }
 
-pub withdraws_idle : (a : Post) (s : State) (place : ℕ) (opened : Opened) → Some opened ≡ opened_at s place → opened.waits ≡ false → Brings (WithdrawsAt place) a s a s
+pub withdraws_idle : (a : Post) (s : State) (place : ℕ) (opened : OpenObject) → Some opened ≡ opened_at s place → opened.waits ≡ false → Brings (WithdrawsAt place) a s a s
 withdraws_idle a s place opened by idle = record {
   said = [];
   added = [];
   tells = tells_none a;
-  is = inr (subst (λ (x : Option Opened). waits_of x ≡ false) by idle, record { told = refl; lines = refl; left = refl });
+  is = inr (subst (λ (x : Option OpenObject). waits_of x ≡ false) by idle, record { told = refl; lines = refl; left = refl });
 }
 
-pub withdraws_at : (a b : Post) (old new : State) (place : ℕ) (opened : Opened) → Some opened ≡ opened_at old place → opened.waits ≡ true →
+pub withdraws_at : (a b : Post) (old new : State) (place : ℕ) (opened : OpenObject) → Some opened ≡ opened_at old place → opened.waits ≡ true →
     Brings (Withdraws opened.object opened.session) a old b new → Brings (WithdrawsAt place) a old b new
 withdraws_at a b old new place opened by waits brings =
     brings_as (Withdraws opened.object opened.session) (WithdrawsAt place) a b old new (λ said added is. inl (opened, sym by, waits, is)) brings
@@ -226,7 +226,7 @@ pub way_is_made : (a b : Post) (old new : State) (who place : ℕ) → place ≡
 way_is_made a b old new who place is here brings =
     subst (λ p. Brings (LeavesIf p) a old b new) is (one_leaves a b old new place here.0 (sym here.1) brings)
 
-pub joins_by : (custody : Custodies) (a b : Post) (old : State) (objects : List Scene) (mid new : Clients) (who : ℕ) → Brings (LeavesIf (place_of old who)) a old b (state_of custody objects mid) →
+pub joins_by : (custody : Custodies) (a b : Post) (old : State) (objects : List Scene) (mid new : ClientPlaces) (who : ℕ) → Brings (LeavesIf (place_of old who)) a old b (state_of custody objects mid) →
     peers_of new ≡ change (peers_of mid) (place_of (state_of custody objects mid) who) (λ p. comer who) →
     Brings (Then (LeavesIf (place_of old who)) (Comes who)) a old b (state_of custody objects new)
 joins_by custody a b old objects mid new who way peers =

@@ -16,13 +16,13 @@ use Rattle.guest_core.specs.declared.guests.Entered.{Entered}
 use Rattle.guest_core.specs.declared.guests.EnterFault.{EnterFault}
 use Rattle.guest_core.specs.Entering.{Enters}
 use Rattle.guest_core.specs.Guests.{Guests}
-use Rattle.hosted_core.specs.declared.hosted.Keyed.{Keyed}
-use Rattle.hosted_core.specs.declared.hosted.Keyed.TheVariants as keys
+use Rattle.hosted_core.specs.declared.hosted.KeyState.{KeyState}
+use Rattle.hosted_core.specs.declared.hosted.KeyState.TheVariants as keys
 use Rattle.hosted_core.specs.Calls.{Does, Cancels}
 use Rattle.hosted_core.specs.Keys.{Says}
 use Rattle.hosted_core.specs.Lines.{entered_lines}
 use Rattle.hosted_core.specs.Scene.{Scene, told_of, with_guests}
-use Rattle.client_core.specs.declared.client.Opened.{Opened}
+use Rattle.client_core.specs.declared.client.OpenObject.{OpenObject}
 use Rattle.post_core.specs.Posts.{Tells}
 use Rattle.post_core.specs.declared.post.Post.{Post}
 use Rattle.client_core.specs.State.{State, opening, changed, with_object, told_to, counted, session_by}
@@ -33,7 +33,7 @@ use Rattle.client_core.specs.Gone.{Frees, SeatsOne}
 use Rattle.client_core.specs.Turns.{NoneWaits}
 
 -- the one at a place is told this, and has opened that
-pub record TellsOpened (place : ℕ) (text : List ℕ) (opened : Opened) (old : State) (said added : Texts) (new : State) : Type 0 where
+pub record TellsOpened (place : ℕ) (text : List ℕ) (opened : OpenObject) (old : State) (said added : Texts) (new : State) : Type 0 where
   pub told : said ≡ told_to old.peers place text
   pub lines : added ≡ []
   pub left : new ≡ changed old place (opening opened)
@@ -68,51 +68,51 @@ abbrev pub LeavesOf : ℕ → State → State → Type 0
 LeavesOf place old new = LeavesObject place old new ⊎ (NoneLeaves old place × (new ≡ old))
 
 -- a call was made of an object
-pub record HasMade (seat : Opened) (operation : ℕ) (arguments : List Datum) (taken : Taken) (before : Post) (old : State) (behind : Post) (new : State) : Type 0 where
+pub record HasMade (seat : OpenObject) (operation : ℕ) (arguments : List Datum) (taken : Taken) (before : Post) (old : State) (behind : Post) (new : State) : Type 0 where
   pub object : Scene
   pub there : slice_get old.objects seat.object ≡ Some object
   pub after : Scene
   pub does : Does object seat.session operation arguments taken after
   pub adds : Adds seat.object after (all_lines (object_of object.hall.object) taken.ran.items) before old behind new
 
-abbrev pub MakesAt : Opened → ℕ → List Datum → Result Taken SubmitFault → Post → State → Post → State → Type 0
+abbrev pub MakesAt : OpenObject → ℕ → List Datum → Result Taken SubmitFault → Post → State → Post → State → Type 0
 MakesAt seat operation arguments (Ok taken) before old after new = HasMade seat operation arguments taken before old after new
 MakesAt seat operation arguments (Err fault) before old after new = Stays before old after new
 
 -- it is told that a call was taken, and each that ran that it ended
-pub record TellsTaken (place : ℕ) (seat : Opened) (taken : Taken) (object : Scene) (old : State) (said added : Texts) (new : State) : Type 0 where
+pub record TellsTaken (place : ℕ) (seat : OpenObject) (taken : Taken) (object : Scene) (old : State) (said added : Texts) (new : State) : Type 0 where
   pub ended : Texts
   pub told : said ≡ told_to old.peers place (accepted_text (told_of object taken.number)) ++ ended
   pub lines : added ≡ []
   pub ends : AllEnd seat.object object taken.ran.items (changed old place (opening (counted (told_of object taken.number) seat))) ended [] new
 
 -- and what is held follows
-pub record TellsAll (place : ℕ) (seat : Opened) (taken : Taken) (object : Scene) (old : State) (said added : Texts) (new : State) : Type 0 where
+pub record TellsAll (place : ℕ) (seat : OpenObject) (taken : Taken) (object : Scene) (old : State) (said added : Texts) (new : State) : Type 0 where
   pub mid : State
   pub tells : TellsTaken place seat taken object old said added mid
   pub follows : Follows seat.object object taken.ran.items mid new
 
 -- a call is made, or refused
-abbrev pub SubmitsOr : ℕ → Opened → ℕ → List Datum → Deed
+abbrev pub SubmitsOr : ℕ → OpenObject → ℕ → List Datum → Deed
 SubmitsOr place seat operation arguments old said added new =
     Submits place seat operation arguments old said added new ⊎ IsRefused place old said added new
 
 -- the call of one that has opened an object is made, or refused
-pub record MakesOne (place : ℕ) (opened : Opened) (operation : Option ℕ) (arguments : List Datum) (old : State) (said added : Texts) (new : State) : Type 0 where
-  pub seat : Opened
+pub record MakesOne (place : ℕ) (opened : OpenObject) (operation : Option ℕ) (arguments : List Datum) (old : State) (said added : Texts) (new : State) : Type 0 where
+  pub seat : OpenObject
   pub mid : State
   pub sits : Sits place old opened seat mid
   pub asked : ℕ
   pub operation_is : operation ≡ Some asked
   pub submits : Submits place seat asked arguments mid said added new
 
-pub record RefusesOne (place : ℕ) (opened : Opened) (old : State) (said added : Texts) (new : State) : Type 0 where
-  pub seat : Opened
+pub record RefusesOne (place : ℕ) (opened : OpenObject) (old : State) (said added : Texts) (new : State) : Type 0 where
+  pub seat : OpenObject
   pub mid : State
   pub sits : Sits place old opened seat mid
   pub refused : IsRefused place mid said added new
 
-abbrev pub MakesCall : ℕ → Opened → Option ℕ → List Datum → Deed
+abbrev pub MakesCall : ℕ → OpenObject → Option ℕ → List Datum → Deed
 MakesCall place opened operation arguments old said added new =
     MakesOne place opened operation arguments old said added new ⊎ RefusesOne place opened old said added new
 
@@ -121,21 +121,21 @@ abbrev pub TellsUnheld : ℕ → Deed
 TellsUnheld place old said added new = OnlyTold place not_held_text old said added new ⊎ IsRefused place old said added new
 
 -- it may make a call, by what is held, where that is of an operation
-abbrev pub MayAsk : State → Opened → Option ℕ → List Datum → Type 0
+abbrev pub MayAsk : State → OpenObject → Option ℕ → List Datum → Type 0
 MayAsk s opened operation arguments = (asked : ℕ) → operation ≡ Some asked → MayCall s opened asked arguments
 
 -- it may not
-abbrev pub MayNotAsk : State → Opened → Option ℕ → List Datum → Type 0
+abbrev pub MayNotAsk : State → OpenObject → Option ℕ → List Datum → Type 0
 MayNotAsk s opened operation arguments = (asked : ℕ) × (operation ≡ Some asked) × (MayCall s opened asked arguments → ⊥)
 
 -- the call of one that has opened an object is made, or refused, for what is held too
-abbrev pub AsksCall : ℕ → Opened → Option ℕ → List Datum → Deed
+abbrev pub AsksCall : ℕ → OpenObject → Option ℕ → List Datum → Deed
 AsksCall place opened operation arguments old said added new =
     (MayAsk old opened operation arguments × MakesCall place opened operation arguments old said added new)
     ⊎ (MayNotAsk old opened operation arguments × TellsUnheld place old said added new)
 
 -- a session of the object at a place, which no connection has
-abbrev pub bare_seat : ℕ → ℕ → Opened
+abbrev pub bare_seat : ℕ → ℕ → OpenObject
 bare_seat at session = record { object = at; session = session; is_named = false; waits = false; calls = 0; told = 0 }
 
 -- a call is owed for a session, where there is such an object
@@ -164,14 +164,14 @@ abbrev pub FreesOr : ℕ → ℕ → State → State → Type 0
 FreesOr at session old new = Frees at session old [] [] new ⊎ (new ≡ old)
 
 -- what a key says of a call of the object that was opened
-abbrev pub SaysOf : Opened → ℕ → Option ℕ → List Datum → Keyed → State → Type 0
+abbrev pub SaysOf : OpenObject → ℕ → Option ℕ → List Datum → KeyState → State → Type 0
 SaysOf opened key operation arguments keyed s =
     (object : Scene) → slice_get s.objects opened.object ≡ Some object → Says object (session_by opened) opened.calls key operation arguments keyed
 
-abbrev pub UnderKey : ℕ → Opened → ℕ → Option ℕ → List Datum → Deed
+abbrev pub UnderKey : ℕ → OpenObject → ℕ → Option ℕ → List Datum → Deed
 UnderKey place opened key operation arguments old said added new =
     (SaysOf opened key operation arguments keys.New old × AsksCall place opened operation arguments old said added new)
-    ⊎ (((keyed : Keyed) × SaysOf opened key operation arguments keyed old × (keyed ≡ keys.New → ⊥)
+    ⊎ (((keyed : KeyState) × SaysOf opened key operation arguments keyed old × (keyed ≡ keys.New → ⊥)
     × OnlyTold place (keyed_text keyed) old said added new)
     ⊎ IsRefused place old said added new)
 

@@ -1,13 +1,13 @@
 -- What is seen of a table.
 use Rattle.std.specs.Prelude.{◌≡◌, ℕ, List, [], Some, None, slice_get}
 use Rattle.hosted_core.specs.Scene.{Scene}
-use Rattle.client_core.specs.declared.clients.Clients.{Clients}
+use Rattle.client_core.specs.declared.clients.ClientPlaces.{ClientPlaces}
 use Rattle.custody_core.specs.Custody.{Custodies}
 use Rattle.custody_core.specs.Views.{custodies_of}
 use Rattle.client_core.specs.State.{Peer, State, peers_of}
 use Rattle.table_core.specs.declared.table.Table.{Table}
 
-abbrev pub state_of : Custodies → List Scene → Clients → State
+abbrev pub state_of : Custodies → List Scene → ClientPlaces → State
 state_of custody objects clients = record { objects = objects; peers = peers_of clients; custody = custody }
 
 -- its objects with their clients, its places of connections, and what is held of its objects

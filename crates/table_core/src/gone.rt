@@ -5,7 +5,7 @@
 
 ghost use Rattle.std.specs.Prelude.{◌≡◌, ◌<◌, ◌++◌, [], List, Bool, Some, None, Ok, true, false, OnOk, IfOk, IfSome, MatchOption, length, slice_get};
 ghost use Rattle.hosted_core.specs.Scene.{Scene};
-ghost use Rattle.client_core.specs.declared.client.Opened.{Opened as AnOpened};
+ghost use Rattle.client_core.specs.declared.client.OpenObject.{OpenObject as AnOpened};
 ghost use Rattle.post_core.specs.Posts.{Tells};
 ghost use Rattle.inside_core.specs.Tallies.{CountsTaken};
 ghost use Rattle.client_core.specs.Asked.{Opens, Follows};
@@ -25,7 +25,7 @@ use crate::objects::{admit_at, begin_at, is_known_at, leave_at};
 use crate::peers::{has_session, opened_at};
 use crate::table::Table;
 use crate::tell::tell;
-use client_core::client::Opened;
+use client_core::client::OpenObject;
 use custody_core::all::DueCall;
 use custody_core::holder::Holder;
 use custody_core::holding::OwedCall;
@@ -38,7 +38,7 @@ use live_core::call::Ran;
 use live_core::live::Taken;
 use path_tree::name::Name;
 use path_tree::node::OpId;
-use session_text::line::Refusal;
+use session_text::line::LineRefusal;
 use std::alloc::AllocError;
 use value_core::datum::Datum;
 
@@ -46,10 +46,10 @@ use value_core::datum::Datum;
 const NOBODY: u64 = u64::MAX;
 
 // A session of the object at a place, which no connection has.
-fn seat_of(at: usize, session: u16) -> Opened
+fn seat_of(at: usize, session: u16) -> OpenObject
     ensures { result ≡ bare_seat at session }
 {
-    Opened {
+    OpenObject {
         object: at,
         session,
         is_named: false,
@@ -107,7 +107,7 @@ fn before<'a>(text: &'a [u8], last: &[u8]) -> Option<&'a [u8]>
 
 impl Table {
     // Whether the session of one may not make a call of the object that it has opened, by what is held.
-    fn is_unheld(&self, opened: Opened, operation: Option<OpId>, arguments: &[Datum]) -> bool
+    fn is_unheld(&self, opened: OpenObject, operation: Option<OpId>, arguments: &[Datum]) -> bool
         ensures yes { result ≡ true → MayNotAsk (seen self.now) opened operation arguments.now }
         ensures no { result ≡ false → MayAsk (seen self.now) opened operation arguments.now }
     {
@@ -217,7 +217,7 @@ impl Table {
     }
 
     // The session leaves of the one at a place that has opened this, unless it stays until what it holds is given back.
-    pub(crate) fn leave_by(&mut self, place: usize, opened: Opened) -> Result<(), AllocError>
+    pub(crate) fn leave_by(&mut self, place: usize, opened: OpenObject) -> Result<(), AllocError>
         requires { Some opened ≡ opened_at (seen self.old) place }
         ensures { OnOk result (LeavesOf place (seen self.old) (seen self.new)) }
     {

@@ -19,7 +19,7 @@ use crate::peers::opened_at;
 use crate::table::Table;
 use crate::tell::tell;
 use client_core::ask::Sight;
-use client_core::clients::Clients;
+use client_core::clients::ClientPlaces;
 use custody_core::all::AllHeld;
 use guest_core::answer::SubmitFault;
 use hosted_core::hosted::Hosted;
@@ -27,7 +27,7 @@ use inside_core::list::list_of;
 use inside_core::who::{Whom, who_of};
 use inside_core::why::why_of;
 use keep_loop::Post;
-use session_text::line::Refusal;
+use session_text::line::LineRefusal;
 use std::alloc::{AllocError, Global};
 
 // Why a call of the object at a place waits.
@@ -49,7 +49,7 @@ fn why_at(
 // Who is there, of the object at a place, and what is held of it.
 fn who_at(
     alloc: Global,
-    clients: &Clients,
+    clients: &ClientPlaces,
     objects: &[Hosted],
     custody: &AllHeld,
     whom: Whom,
@@ -68,7 +68,7 @@ fn who_at(
 }
 
 // The place of the object that the one at a place has opened.
-fn object_of(clients: &Clients, place: usize) -> Option<usize>
+fn object_of(clients: &ClientPlaces, place: usize) -> Option<usize>
     ensures { result ≡ object_in (opened_in (slice_get (peers_of clients.now) place)) }
 {
     match opened_at(clients, place) {
@@ -123,12 +123,12 @@ impl Table {
             (seen self.old) post.new (seen self.new)) }
     {
         let Some(opened) = opened_at(&self.clients, place) else {
-            self.refuse(place, Refusal::NotOpen, post)?;
+            self.refuse(place, LineRefusal::NotOpen, post)?;
             return Ok(());
         };
         match why_at(self.alloc, &self.objects, opened.object, told) {
             None => {
-                self.refuse(place, Refusal::NoObject, post)?;
+                self.refuse(place, LineRefusal::NoObject, post)?;
                 Ok(())
             }
             Some(text) => {
@@ -143,7 +143,7 @@ impl Table {
             (seen self.old) post.new (seen self.new)) }
     {
         let Some(opened) = opened_at(&self.clients, place) else {
-            self.refuse(place, Refusal::NotOpen, post)?;
+            self.refuse(place, LineRefusal::NotOpen, post)?;
             return Ok(());
         };
         let whom = Whom {
@@ -159,7 +159,7 @@ impl Table {
             whom,
         ) {
             None => {
-                self.refuse(place, Refusal::NoObject, post)?;
+                self.refuse(place, LineRefusal::NoObject, post)?;
                 Ok(())
             }
             Some(text) => {

@@ -4,8 +4,8 @@ ghost use Rattle.std.specs.Prelude.{◌≡◌, ◌<◌, [], Some, true, false, O
 ghost use Rattle.word_core.specs.Answers.{cancelled_line};
 ghost use Rattle.session_text.specs.Lines.{cancel_name, ended_text, withdrawn_text};
 ghost use Rattle.guest_core.specs.declared.answer.Cancelled.TheVariants as answers;
-ghost use Rattle.client_core.specs.declared.client.Opened.{Opened as AnOpened};
-ghost use Rattle.hosted_core.specs.declared.hosted.Keyed.TheVariants as keys;
+ghost use Rattle.client_core.specs.declared.client.OpenObject.{OpenObject as AnOpened};
+ghost use Rattle.hosted_core.specs.declared.hosted.KeyState.TheVariants as keys;
 ghost use Rattle.hosted_core.specs.Scene.{Scene, told_of};
 ghost use Rattle.post_core.specs.Posts.{Tells};
 ghost use Rattle.inside_core.specs.Tallies.{CountsTaken};
@@ -24,15 +24,15 @@ use crate::objects::{
 use crate::peers::{ToldCall, open, open_called, opened_at, rest, waiter};
 use crate::table::{MOST_LINE, SHORT_LINE, Table};
 use crate::tell::tell_line;
-use client_core::client::Opened;
+use client_core::client::OpenObject;
 use guest_core::answer::{Cancelled, SubmitFault};
-use hosted_core::hosted::Keyed;
+use hosted_core::hosted::KeyState;
 use keep_loop::Post;
 use live_core::call::Ran;
 use live_core::live::Taken;
 use path_tree::name::Name;
 use path_tree::node::OpId;
-use session_text::line::{AnyLine, Line, Refusal, Unended};
+use session_text::line::{AnyLine, ReplyLine, LineRefusal, Unended};
 use std::alloc::AllocError;
 use value_core::datum::Datum;
 
@@ -40,18 +40,18 @@ use value_core::datum::Datum;
 #[derive(Clone, Copy)]
 pub(crate) struct Asker {
     pub(crate) place: usize,
-    pub(crate) opened: Opened,
+    pub(crate) opened: OpenObject,
 }
 
 // A call that may be submitted: by which session, and of which operation.
 #[derive(Clone, Copy)]
 pub(crate) struct Ready {
-    pub(crate) seat: Opened,
+    pub(crate) seat: OpenObject,
     pub(crate) operation: OpId,
 }
 
 // The session of one that has a name.
-fn session_by(opened: Opened) -> Option<u16>
+fn session_by(opened: OpenObject) -> Option<u16>
     ensures { result ≡ session_by opened }
 {
     if opened.is_named {
@@ -61,10 +61,10 @@ fn session_by(opened: Opened) -> Option<u16>
 }
 
 // One call more waits, of which this number was told.
-fn counted(seat: Opened, told: u64) -> Opened
+fn counted(seat: OpenObject, told: u64) -> OpenObject
     ensures { result ≡ counted told seat }
 {
-    Opened {
+    OpenObject {
         waits: true,
         calls: seat.calls.saturating_add(1),
         told,
@@ -72,12 +72,12 @@ fn counted(seat: Opened, told: u64) -> Opened
     }
 }
 
-fn is_new(keyed: &Keyed) -> bool
+fn is_new(keyed: &KeyState) -> bool
     ensures yes { result ≡ true → keyed.now ≡ keys.New }
     ensures no { result ≡ false → keyed.now ≡ keys.New → ⊥ }
 {
     match keyed {
-        Keyed::New => true,
+        KeyState::New => true,
         _ => false,
     }
 }
@@ -96,12 +96,12 @@ impl Table {
             (seen self.new)) }
     {
         let Some(opened) = opened_at(&self.clients, place) else {
-            self.refuse(place, Refusal::NotOpen, post)?;
+            self.refuse(place, LineRefusal::NotOpen, post)?;
             return Ok(());
         };
         let asker = Asker { place, opened };
         let Some(operation) = operation_at(&self.objects, opened.object, name) else {
-            self.refuse(place, Refusal::NoObject, post)?;
+            self.refuse(place, LineRefusal::NoObject, post)?;
             return Ok(());
         };
         match key {
@@ -137,7 +137,7 @@ impl Table {
             operation,
         };
         let Some(keyed) = key_at(&self.objects, opened.object, call, &arguments) else {
-            self.refuse(asker.place, Refusal::NoObject, post)?;
+            self.refuse(asker.place, LineRefusal::NoObject, post)?;
             return Ok(());
         };
         if is_new(&keyed) {
@@ -149,23 +149,23 @@ impl Table {
     }
 
     // Answers a call of which its key says that it is not to be made.
-    fn answer_key(&mut self, place: usize, keyed: Keyed, post: &mut Post) -> Result<(), AllocError>
+    fn answer_key(&mut self, place: usize, keyed: KeyState, post: &mut Post) -> Result<(), AllocError>
         requires { keyed ≡ keys.New → ⊥ }
         ensures { OnOk result (Brings (OnlyTold place (keyed_text keyed)) post.old (seen self.old) post.new
             (seen self.new)) }
     {
         match keyed {
-            Keyed::New => Ok(()),
-            Keyed::Repeated(told, reply) => {
+            KeyState::New => Ok(()),
+            KeyState::Repeated(told, reply) => {
                 let line = AnyLine::Repeated(told, &reply);
                 tell_line(&self.clients, &mut self.line, place, line, post)?;
                 Ok(())
             }
-            Keyed::Cancelled(told) => {
-                self.say(place, Line::Kept(told, Unended::Cancelled), post)
+            KeyState::Cancelled(told) => {
+                self.say(place, ReplyLine::Kept(told, Unended::Cancelled), post)
             }
-            Keyed::Waits(told) => { self.say(place, Line::Kept(told, Unended::Waiting), post) }
-            Keyed::Refused(fault) => { self.say(place, Line::Unkeyed(fault), post) }
+            KeyState::Waits(told) => { self.say(place, ReplyLine::Kept(told, Unended::Waiting), post) }
+            KeyState::Refused(fault) => { self.say(place, ReplyLine::Unkeyed(fault), post) }
         }
     }
 
@@ -221,7 +221,7 @@ impl Table {
     }
 
     // The session of the one that asks, which gets a number with its first call.
-    fn seat(&mut self, asker: Asker) -> Result<Opened, SubmitFault>
+    fn seat(&mut self, asker: Asker) -> Result<OpenObject, SubmitFault>
         ensures ok { IfOk result (λ seat. Sits asker.place (seen self.old) asker.opened seat (seen self.new)) }
         ensures err { OnErr result (seen self.new ≡ seen self.old) }
     {
@@ -229,7 +229,7 @@ impl Table {
             return Ok(asker.opened);
         }
         let session = seat_at(&mut self.objects, asker.opened.object, asker.place)?;
-        let seat = Opened {
+        let seat = OpenObject {
             session,
             ..asker.opened
         };
@@ -289,7 +289,7 @@ impl Table {
     fn taken_all(
         &mut self,
         place: usize,
-        seat: Opened,
+        seat: OpenObject,
         taken: &Taken,
         post: &mut Post,
     ) -> Result<(), AllocError>
@@ -307,7 +307,7 @@ impl Table {
     fn taken(
         &mut self,
         place: usize,
-        seat: Opened,
+        seat: OpenObject,
         taken: &Taken,
         post: &mut Post,
     ) -> Result<(), AllocError>
@@ -317,7 +317,7 @@ impl Table {
     {
         let at = seat.object;
         let told = told_at(&self.objects, at, taken.number);
-        let line = AnyLine::Told(Line::Accepted(told));
+        let line = AnyLine::Told(ReplyLine::Accepted(told));
         tell_line(&self.clients, &mut self.line, place, line, post)?;
         open_called(&mut self.clients, place, counted(seat, told), self.second);
         self.all_ended(at, &taken.ran, post)?;
@@ -378,7 +378,7 @@ impl Table {
         ensures { OnOk result (Brings (AnswersCancel place told) post.old (seen self.old) post.new (seen self.new)) }
     {
         let Some(opened) = opened_at(&self.clients, place) else {
-            self.refuse(place, Refusal::NotOpen, post)?;
+            self.refuse(place, LineRefusal::NotOpen, post)?;
             return Ok(());
         };
         let at = opened.object;
@@ -468,7 +468,7 @@ impl Table {
         ensures { OnOk result (Brings (OnlyTold place (cancelled_line told (cancel_name answer))) post.old (seen self.old)
             post.new (seen self.new)) }
     {
-        self.say(place, Line::Cancel(told, answer), post)?;
+        self.say(place, ReplyLine::Cancel(told, answer), post)?;
         Ok(())
     }
 
@@ -512,7 +512,7 @@ impl Table {
         match waiter(&self.clients, thought, call) {
             None => Ok(()),
             Some(place) => {
-                let line = AnyLine::Told(Line::Withdrawn(number));
+                let line = AnyLine::Told(ReplyLine::Withdrawn(number));
                 tell_line(&self.clients, &mut self.line, place, line, post)?;
                 rest(&mut self.clients, place);
                 Ok(())

@@ -2,7 +2,7 @@
 
 ghost use Rattle.std.specs.Prelude.{◌≡◌, [], ◌∷◌, Ok, Err, Some, true, false, IfOk, IfErr, IfSome, OnErr, slice_get, slice_set};
 ghost use Rattle.guest_core.specs.declared.answer.Cancelled.TheVariants as answers;
-ghost use Rattle.hosted_core.specs.declared.hosted.Keyed.TheVariants as keys;
+ghost use Rattle.hosted_core.specs.declared.hosted.KeyState.TheVariants as keys;
 ghost use Rattle.hosted_core.specs.Keys.{Says, WaitsAs};
 ghost use Rattle.hosted_core.specs.Scene.{Scene, told_of};
 ghost use Rattle.hosted_core.specs.Fronts.{IsNextFront};
@@ -12,7 +12,7 @@ ghost use Rattle.table_core.specs.Objects.{IsNamed, HasOperation, EntersAt, Seat
 
 use guest_core::answer::{Cancelled, SubmitFault};
 use guest_core::guests::{EnterFault, Entered};
-use hosted_core::hosted::{Hosted, Keyed};
+use hosted_core::hosted::{Hosted, KeyState};
 use live_core::live::Taken;
 use path_tree::name::Name;
 use path_tree::node::OpId;
@@ -174,7 +174,7 @@ pub(crate) fn key_at(
     at: usize,
     call: Keying,
     arguments: &[Datum],
-) -> Option<Keyed>
+) -> Option<KeyState>
     ensures { IfSome result (λ keyed. (object : Scene) → slice_get objects.now at ≡ Some object
         → Says object call.session call.calls call.key call.operation arguments.now keyed) }
 {

@@ -3,7 +3,7 @@
 ghost use Rattle.std.specs.Prelude.{◌≡◌, [], Some, OnOk, IfOk, slice_get};
 ghost use Rattle.hosted_core.specs.Scene.{Scene};
 ghost use Rattle.post_core.specs.Posts.{Tells};
-ghost use Rattle.session_text.specs.declared.line.Line.TheVariants as lines;
+ghost use Rattle.session_text.specs.declared.line.ReplyLine.TheVariants as lines;
 ghost use Rattle.session_text.specs.Lines.{line_text, opened_text};
 ghost use Rattle.client_core.specs.Asked.{IsRefusal, OpensBare, Opens, Goes, Quits};
 ghost use Rattle.client_core.specs.Deeds.{OnlyTold};
@@ -15,8 +15,8 @@ ghost use Rattle.table_core.specs.Seen.{IsQuiet, NobodyIsThere, seen};
 use crate::objects::{Comer, enter_at, may_come, object_for};
 use crate::peers::{go, open_as, opened_at, who_at};
 use crate::tell::tell_line;
-use client_core::client::Opened;
-use client_core::clients::Clients;
+use client_core::client::OpenObject;
+use client_core::clients::ClientPlaces;
 use custody_core::all::AllHeld;
 use guest_core::answer::SubmitFault;
 use guest_core::guests::{EnterFault, Entered};
@@ -24,7 +24,7 @@ use hosted_core::hosted::Hosted;
 use inside_core::tallies::Tallies;
 use keep_loop::Post;
 use path_tree::name::Name;
-use session_text::line::{AnyLine, Line, Refusal};
+use session_text::line::{AnyLine, ReplyLine, LineRefusal};
 use std::alloc::{AllocError, Global};
 
 /// Where more than so many bytes are owed to a connection, its held lines are done later.
@@ -42,7 +42,7 @@ pub(crate) const SHORT_LINE: usize = 192;
 pub struct Table {
     pub(crate) alloc: Global,
     pub(crate) objects: Vec<Hosted>,
-    pub(crate) clients: Clients,
+    pub(crate) clients: ClientPlaces,
     // the line that is being told or added
     pub(crate) line: Vec<u8>,
     // the second of the last tick
@@ -62,13 +62,13 @@ fn tallies_of(alloc: Global, objects: &[Hosted]) -> Result<Tallies, AllocError> 
     Ok(tallies)
 }
 
-fn refusal_of(fault: EnterFault) -> Line
+fn refusal_of(fault: EnterFault) -> ReplyLine
     ensures { IsRefusal result }
 {
     match fault {
-        EnterFault::InUse => Line::Refused(Refusal::InUse),
-        EnterFault::Full => Line::Refused(Refusal::Full),
-        EnterFault::Memory => Line::Unsubmitted(SubmitFault::Memory),
+        EnterFault::InUse => ReplyLine::Refused(LineRefusal::InUse),
+        EnterFault::Full => ReplyLine::Refused(LineRefusal::Full),
+        EnterFault::Memory => ReplyLine::Unsubmitted(SubmitFault::Memory),
     }
 }
 
@@ -102,7 +102,7 @@ impl Table {
         ensures quiet { IfOk result (λ t. IsQuiet (seen t)) }
         ensures empty { IfOk result (λ t. NobodyIsThere (seen t)) }
     {
-        let clients = Clients::new(alloc, places)?;
+        let clients = ClientPlaces::new(alloc, places)?;
         let line = Vec::with_capacity(alloc, MOST_LINE)?;
         let tallies = tallies_of(alloc, &objects)?;
         Ok(Table {
@@ -128,7 +128,7 @@ impl Table {
     pub(crate) fn say(
         &mut self,
         place: usize,
-        line: Line,
+        line: ReplyLine,
         post: &mut Post,
     ) -> Result<(), AllocError>
         ensures { OnOk result (Brings (OnlyTold place (line_text line)) post.old (seen self.old) post.new (seen self.new)) }
@@ -142,13 +142,13 @@ impl Table {
     pub(crate) fn refuse(
         &mut self,
         place: usize,
-        refusal: Refusal,
+        refusal: LineRefusal,
         post: &mut Post,
     ) -> Result<(), AllocError>
         ensures { OnOk result (Brings (OnlyTold place (line_text (lines.Refused refusal))) post.old (seen self.old)
             post.new (seen self.new)) }
     {
-        self.say(place, Line::Refused(refusal), post)?;
+        self.say(place, ReplyLine::Refused(refusal), post)?;
         Ok(())
     }
 
@@ -162,7 +162,7 @@ impl Table {
         ensures { OnOk result (Brings (OnlyTold place (line_text (lines.Unsubmitted fault))) post.old (seen self.old)
             post.new (seen self.new)) }
     {
-        self.say(place, Line::Unsubmitted(fault), post)?;
+        self.say(place, ReplyLine::Unsubmitted(fault), post)?;
         Ok(())
     }
 
@@ -197,7 +197,7 @@ impl Table {
         ensures { OnOk result (Brings (Opens place name.now client) post.old (seen self.old) post.new (seen self.new)) }
     {
         let Some(at) = object_for(&self.objects, name) else {
-            self.refuse(place, Refusal::NoObject, post)?;
+            self.refuse(place, LineRefusal::NoObject, post)?;
             return Ok(());
         };
         match client {
@@ -224,7 +224,7 @@ impl Table {
         requires { IsNamed self.old.objects.items at name.now }
         ensures { OnOk result (Brings (OpensBare place name.now) post.old (seen self.old) post.new (seen self.new)) }
     {
-        let opened = Opened {
+        let opened = OpenObject {
             object: at,
             session: 0,
             is_named: false,
@@ -279,7 +279,7 @@ impl Table {
     {
         match self.come(place, at, &client, post)? {
             None => {
-                self.refuse(place, Refusal::NoObject, post)?;
+                self.refuse(place, LineRefusal::NoObject, post)?;
                 Ok(())
             }
             Some(Err(fault)) => {
@@ -287,7 +287,7 @@ impl Table {
                 Ok(())
             }
             Some(Ok(entered)) => {
-                let opened = Opened {
+                let opened = OpenObject {
                     object: at,
                     session: entered.session,
                     is_named: true,
@@ -333,7 +333,7 @@ impl Table {
         place: usize,
         name: &Name,
         next: Option<u64>,
-        opened: Opened,
+        opened: OpenObject,
         client: Option<Name>,
         post: &mut Post,
     ) -> Result<(), AllocError>
@@ -351,7 +351,7 @@ impl Table {
     pub(crate) fn quit(&mut self, place: usize, post: &mut Post) -> Result<(), AllocError>
         ensures { OnOk result (Brings (Quits place) post.old (seen self.old) post.new (seen self.new)) }
     {
-        self.say(place, Line::Bye, post)?;
+        self.say(place, ReplyLine::Bye, post)?;
         let who = who_at(&self.clients, place);
         hang_up(post, who)?;
         self.go(place)?;

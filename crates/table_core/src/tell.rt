@@ -5,14 +5,14 @@ ghost use Rattle.session_text.specs.Answers.{said_of, said_text};
 ghost use Rattle.post_core.specs.Posts.{Tells};
 ghost use Rattle.client_core.specs.State.{peers_of, told_to};
 
-use client_core::clients::Clients;
+use client_core::clients::ClientPlaces;
 use keep_loop::Post;
 use session_text::line::{AnyLine, push_line};
 use std::alloc::AllocError;
 
 /// Tells the one at a place a text that was made.
 pub(crate) fn tell(
-    clients: &Clients,
+    clients: &ClientPlaces,
     place: usize,
     line: &[u8],
     post: &mut Post,
@@ -30,7 +30,7 @@ pub(crate) fn tell(
 
 /// Tells a line.
 pub(crate) fn tell_line(
-    clients: &Clients,
+    clients: &ClientPlaces,
     out: &mut Vec<u8>,
     place: usize,
     line: AnyLine<'_>,

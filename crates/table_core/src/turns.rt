@@ -29,7 +29,7 @@ use guest_core::answer::SubmitFault;
 use hosted_core::hosted::Hosted;
 use inside_core::look::write_look;
 use keep_loop::{LineEnd, Note, Post, Served, Visible};
-use session_text::line::{Line, Refusal};
+use session_text::line::{ReplyLine, LineRefusal};
 use std::alloc::AllocError;
 
 impl Table {
@@ -349,11 +349,11 @@ impl Table {
     {
         match ask {
             Ok(Ask::Quit) => {
-                self.say(place, Line::Bye, post)?;
+                self.say(place, ReplyLine::Bye, post)?;
                 Ok(())
             }
             Ok(Ask::Open(_, _)) => {
-                self.refuse(place, Refusal::Opened, post)?;
+                self.refuse(place, LineRefusal::Opened, post)?;
                 Ok(())
             }
             Ok(Ask::Answer(refusal)) => {
@@ -439,7 +439,7 @@ impl Table {
     {
         match end {
             LineEnd::TooLong => {
-                self.refuse(place, Refusal::LineTooLong, post)?;
+                self.refuse(place, LineRefusal::LineTooLong, post)?;
                 Ok(())
             }
             LineEnd::Feed => {

@@ -10,7 +10,7 @@ use Rattle.inside_text.specs.declared.reason.Reason.{Reason}
 use Rattle.inside_text.specs.Found.{whys_of}
 use Rattle.inside_text.specs.Tells.{Tells}
 use Rattle.board_core.specs.Board.{Board, paths_of, past_of}
-use Rattle.inside_text.specs.declared.why.Running.{Running}
+use Rattle.inside_text.specs.declared.why.RunningRow.{RunningRow}
 use Rattle.inside_text.specs.Why.{why_text}
 use Rattle.world_core.specs.Counted.{HasCounted}
 use Rattle.world_core.specs.Told.{running_there}
@@ -24,7 +24,7 @@ told_by b c o paths given op found counted same are is told =
     (told (length b.object.operations.items) (past_of b) (subst (λ ps. StandsFor c (length b.object.operations.items) ps (past_of b)) (sym path) counted)))
 
 -- the lines that tell of a call that waits
-pub why_made : (b : Board) (o : Object) (number : ℕ) (out new : List ℕ) (found given asked : List Reason) (runs shown : List Running) → o ≡ b.object
+pub why_made : (b : Board) (o : Object) (number : ℕ) (out new : List ℕ) (found given asked : List Reason) (runs shown : List RunningRow) → o ≡ b.object
     → new ≡ out ++ why_text (object_of o) number (whys_of given) shown → given ≡ found → shown ≡ runs → asked ≡ found → runs ≡ running_there b (whys_of asked)
     → new ≡ out ++ why_text (object_of b.object) number (whys_of found) (running_there b (whys_of found))
 why_made b o number out new found given asked runs shown same made is_given is_shown is_asked run =

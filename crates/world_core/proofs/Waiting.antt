@@ -13,7 +13,7 @@ use Rattle.inside_text.specs.Tells.{Tells}
 use Rattle.board_core.specs.Calls.{AcceptedCall}
 use Rattle.board_core.specs.Board.{Board, call_at, paths_of, past_of}
 use Rattle.board_core.specs.Answers.{waits_in}
-use Rattle.inside_text.specs.declared.who.Waiting.{Waiting}
+use Rattle.inside_text.specs.declared.who.WaitingRow.{WaitingRow}
 use Rattle.inside_text.specs.Who.{Refused, call_words, waits_line, who_line}
 use Rattle.inside_text.specs.Why.{node_words}
 use Rattle.world_core.specs.Asked.{who}
@@ -60,7 +60,7 @@ sum_snoc : (all : List Refused) (r : Refused) → sum (map (λ (x : Refused). le
 sum_snoc all r = ap sum (map_snoc all r) ∙ sum_by_push (λ (n : ℕ). n) (map (λ (x : Refused). length x.whys) all) (length r.whys)
 
 -- a line has its end at least
-one_each : (o : ObjectForm) (w : Waiting) (whys : List Why) → length whys ≤ length (flat_map (waits_line o w) whys)
+one_each : (o : ObjectForm) (w : WaitingRow) (whys : List Why) → length whys ≤ length (flat_map (waits_line o w) whys)
 one_each o w [] = omega arith
 one_each o w (x ∷ whys) = omega (arith, one_each o w whys, length-append (waits_line o w x) (flat_map (waits_line o w) whys), line_end (call_words o w ++ node_words x []))
   where
@@ -68,7 +68,7 @@ one_each o w (x ∷ whys) = omega (arith, one_each o w whys, length-append (wait
     line_end words = omega (arith, length-append (words_text words) (10 ∷ []))
 
 -- a call that waits
-pub one_waits : (b : Board) (k lines count : ℕ) (text out : List ℕ) (call : AcceptedCall) (w : Waiting) (whys : List Why) → HasTold b k lines text → call_at b.calls (k + 1) ≡ Some call → waits_in b (k + 1) ≡ true
+pub one_waits : (b : Board) (k lines count : ℕ) (text out : List ℕ) (call : AcceptedCall) (w : WaitingRow) (whys : List Why) → HasTold b k lines text → call_at b.calls (k + 1) ≡ Some call → waits_in b (k + 1) ≡ true
     → w ≡ record { number = k + 1; session = call.session; operation = call.op; seconds = None } → Tells (paths_of b) call.op (past_of b) whys
     → out ≡ text ++ flat_map (waits_line (object_of b.object) w) whys → count ≡ lines + length whys → HasTold b (k + 1) count out
 one_waits b k lines count text out call w whys h there waits is tells made more =

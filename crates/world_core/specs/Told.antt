@@ -9,8 +9,8 @@ use Rattle.inside_text.specs.Tells.{Tells}
 use Rattle.board_core.specs.Calls.{AcceptedCall}
 use Rattle.board_core.specs.Board.{Board, call_at, paths_of, past_of}
 use Rattle.board_core.specs.Answers.{waits_in, runs_in}
-use Rattle.inside_text.specs.declared.why.State.TheVariants.{Running as IsRunning, Ended, Unknown}
-use Rattle.inside_text.specs.declared.why.Running.{Running}
+use Rattle.inside_text.specs.declared.why.CallStatus.TheVariants.{Running as IsRunning, Ended, Unknown}
+use Rattle.inside_text.specs.declared.why.RunningRow.{RunningRow}
 use Rattle.inside_text.specs.Why.{state_line, why_text}
 use Rattle.inside_text.specs.Who.{Refused, waits_line, who_text}
 use Rattle.inside_text.specs.List.{list_text}
@@ -31,18 +31,18 @@ abbrev pub is_needed : List Why → ℕ → Bool
 is_needed whys op = list_any (λ why. is_among why.needs op) whys
 
 -- the call, if it runs and a finish of its operation is needed
-abbrev pub if_runs : Board → List Why → Numbered → List Running
+abbrev pub if_runs : Board → List Why → Numbered → List RunningRow
 if_runs b whys c =
     if runs_in b c.number && is_needed whys c.call.op
     then record { number = c.number; session = c.call.session; operation = c.call.op } ∷ [] else []
 
 -- the same of the call of this number, if there is one
-abbrev pub if_there_runs : Board → List Why → ℕ → Option AcceptedCall → List Running
+abbrev pub if_there_runs : Board → List Why → ℕ → Option AcceptedCall → List RunningRow
 if_there_runs b whys n None = []
 if_there_runs b whys n (Some call) = if_runs b whys (record { number = n; call = call })
 
 -- the calls that run of the operations whose finish is needed, in the order of their numbers
-abbrev pub running_there : Board → List Why → List Running
+abbrev pub running_there : Board → List Why → List RunningRow
 running_there b whys = flat_map (if_runs b whys) (numbered 1 b.calls)
 
 -- the calls among these that wait

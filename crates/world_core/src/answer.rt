@@ -19,8 +19,8 @@ use desk_core::desk::Desk;
 use inside_text::find::reasons_by;
 use inside_text::list::push_only;
 use inside_text::reason::Reason;
-use inside_text::who::{Waiting, push_waits, push_who};
-use inside_text::why::{Running, State, push_state, push_why};
+use inside_text::who::{WaitingRow, push_waits, push_who};
+use inside_text::why::{RunningRow, CallStatus, push_state, push_why};
 use path_count::counters::Counters;
 use path_tree::node::OpId;
 use std::alloc::{AllocError, Global};
@@ -60,7 +60,7 @@ fn push_run(
     desk: &Desk,
     reasons: &[Reason],
     number: u32,
-    runs: &mut Vec<Running>,
+    runs: &mut Vec<RunningRow>,
 ) -> Result<(), AllocError>
     ensures { OnOk result (runs.new.items ≡ runs.old.items
         ++ if_there_runs desk.now (whys_of reasons.now) number (call_at desk.now.calls number)) }
@@ -74,7 +74,7 @@ fn push_run(
     if !is_needed(reasons, call.op()) {
         return Ok(());
     }
-    runs.push(Running {
+    runs.push(RunningRow {
         number: number as u64,
         session: call.session() as u64,
         operation: call.op(),
@@ -83,7 +83,7 @@ fn push_run(
 }
 
 // The calls that run of the operations whose finish is needed.
-fn runs_of(alloc: Global, desk: &Desk, reasons: &[Reason]) -> Result<Vec<Running>, AllocError>
+fn runs_of(alloc: Global, desk: &Desk, reasons: &[Reason]) -> Result<Vec<RunningRow>, AllocError>
     ensures { IfOk result (λ runs. runs.items ≡ running_there desk.now (whys_of reasons.now)) }
 {
     // Its board is sound: it has at most so many calls.
@@ -121,7 +121,7 @@ fn answer_why(alloc: Global, desk: &Desk, number: u32, out: &mut Vec<u8>) -> Res
         × IsTold desk.now (why_asked number) text) }
 {
     let Some(call) = desk.call(number) else {
-        push_state(out, number as u64, State::Unknown)?;
+        push_state(out, number as u64, CallStatus::Unknown)?;
         return Ok(());
     };
     if desk.waits(number) {
@@ -129,10 +129,10 @@ fn answer_why(alloc: Global, desk: &Desk, number: u32, out: &mut Vec<u8>) -> Res
         return Ok(());
     }
     if desk.runs(number) {
-        push_state(out, number as u64, State::Running)?;
+        push_state(out, number as u64, CallStatus::Running)?;
         return Ok(());
     }
-    push_state(out, number as u64, State::Ended)?;
+    push_state(out, number as u64, CallStatus::Ended)?;
     Ok(())
 }
 
@@ -159,7 +159,7 @@ fn push_call(
     }
     let object = desk.accepted().object();
     let reasons = reasons_by(alloc, &object.paths, counters, call.op())?;
-    let waiting = Waiting {
+    let waiting = WaitingRow {
         number: number as u64,
         session: call.session() as u64,
         operation: call.op(),

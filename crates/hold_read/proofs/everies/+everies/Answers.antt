@@ -2,7 +2,7 @@ use Rattle.std.proofs.Common.{◌≡◌, true, false, arith}
 use Rattle.std.proofs.lemmas.Result.{err_from_is_err_and}
 use Rattle.decl_core.specs.HoldMap.{everies_of, holds_of}
 use Rattle.decl_core.specs.ObjectMap.{operations_of}
-use Rattle.hold_read.specs.declared.words.Word.TheVariants as words
+use Rattle.hold_read.specs.declared.words.HoldKeyword.TheVariants as words
 use Rattle.hold_read.specs.Words.{begins_word}
 use Rattle.hold_read.specs.HoldReading.{every_in}
 use Rattle.hold_read.specs.Views.{everies_read}

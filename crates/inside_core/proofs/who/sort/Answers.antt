@@ -1,6 +1,6 @@
 use Rattle.std.proofs.Common.{ℕ, rules}
 use Rattle.std.proofs.lemmas.List.Sorted.{IsNonDecreasingBy-from_sort_by_key}
-use Rattle.client_core.specs.declared.client.Opened.{Opened as AnOpened}
+use Rattle.client_core.specs.declared.client.OpenObject.{OpenObject as AnOpened}
 use Rattle.inside_core.proofs.who.sort.Goals as goal
 
 pub returns-clause-rising : goal.returns-clause-rising

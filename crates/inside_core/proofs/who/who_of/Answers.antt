@@ -1,5 +1,5 @@
 use Rattle.std.proofs.Common.{◌≡◌, ◌+◌, ◌∙◌, ap, subst, ℕ, List, [], ◌++◌, length, take}
-use Rattle.client_core.specs.declared.client.Opened.{Opened}
+use Rattle.client_core.specs.declared.client.OpenObject.{OpenObject}
 use Rattle.decl_core.specs.ObjectForm.{ObjectForm}
 use Rattle.decl_core.specs.ObjectMap.{object_of}
 use Rattle.decl_core.specs.HoldForm.{HoldForm}
@@ -12,19 +12,19 @@ use Rattle.inside_core.proofs.who.who_of.Goals as goal
 
 pub returns : goal.returns
 returns c =
-    let all : List (ℕ × Opened) = c.in_ok-all.all.items in
+    let all : List (ℕ × OpenObject) = c.in_ok-all.all.items in
     let crowd : Crowd = crowd_of c.args.clients.now c.args.whom in
     let o : ObjectForm = object_of c.args.object.now.hall.object in
     let holds : List HoldForm = holds_of c.args.holds.now in
     let few : c.told-seats.result.now ≡ take 256 all = c.told-seats.ensures ∙ ap (take 256) c.deref.ensures.value in
     let last : c.last_told-last.result ≡ last_told all = c.last_told-last.ensures ∙ ap last_told c.deref-2.ensures.value in
-    let rows : c.in_ok-rows.rows ≡ length (take 256 all) + c.in_ok-calls.calls = c.in_ok-rows.ensures ∙ ap (λ (l : List (ℕ × Opened)). length l + c.in_ok-calls.calls) few in
+    let rows : c.in_ok-rows.rows ≡ length (take 256 all) + c.in_ok-calls.calls = c.in_ok-rows.ensures ∙ ap (λ (l : List (ℕ × OpenObject)). length l + c.in_ok-calls.calls) few in
     who_is crowd c.args.object.now holds c.args.held.now c.args.whom.from all c.in_ok-calls.calls c.in_ok-kept.kept c.in_ok-count.count c.push_seats.new.out.items
     c.push_calls.new.out.items c.push_held.new.out.items c.push_who.new.out.items c.extend_from_slice.new.self.items c.in_ok-all.ensures
-    (subst (λ (l : List (ℕ × Opened)). AddsSeats crowd l [] c.push_seats.new.out.items) few
+    (subst (λ (l : List (ℕ × OpenObject)). AddsSeats crowd l [] c.push_seats.new.out.items) few
     (subst (λ l. AddsSeats crowd c.told-seats.result.now l c.push_seats.new.out.items) c.in_ok-lines.ensures.items c.in_ok-push_seats.ensures))
     (subst
-    (λ (l : List (ℕ × Opened)). AddsWaits crowd l c.args.object.now (waiting_in c.args.whom.from (last_told all) c.args.object.now.hall.waiting) c.in_ok-calls.calls c.push_seats.new.out.items c.push_calls.new.out.items)
+    (λ (l : List (ℕ × OpenObject)). AddsWaits crowd l c.args.object.now (waiting_in c.args.whom.from (last_told all) c.args.object.now.hall.waiting) c.in_ok-calls.calls c.push_seats.new.out.items c.push_calls.new.out.items)
     few
     (subst
     (λ o. AddsWaits crowd c.told-seats.result.now c.args.object.now (waiting_in c.args.whom.from o c.args.object.now.hall.waiting) c.in_ok-calls.calls c.push_seats.new.out.items c.push_calls.new.out.items)

@@ -5,7 +5,7 @@ use Rattle.decl_core.specs.declared.object.Object.{Object}
 use Rattle.decl_core.specs.ObjectMap.{object_of}
 use Rattle.inside_text.specs.declared.reason.Reason.{Reason}
 use Rattle.inside_text.specs.Found.{why_of, whys_of}
-use Rattle.inside_text.specs.declared.who.Waiting.{Waiting}
+use Rattle.inside_text.specs.declared.who.WaitingRow.{WaitingRow}
 use Rattle.inside_text.specs.Who.{waits_line}
 use Rattle.world_core.proofs.Telling.{told_by}
 use Rattle.world_core.proofs.Waiting.{no_call, not_waiting, one_waits}
@@ -22,7 +22,7 @@ pub returns : goal.returns
 returns c =
     let b = c.args.desk.now in
     let call = c.in-Some.call.now in
-    let w : Waiting = record { number = c.args.place + 1; session = c.session.result; operation = c.op-2.result; seconds = None } in
+    let w : WaitingRow = record { number = c.args.place + 1; session = c.session.result; operation = c.op-2.result; seconds = None } in
     let same : c.object-object.result.now ≡ b.object = c.object-object.ensures.same ∙ c.accepted.ensures in
     let found = c.in_ok-reasons.reasons.items in
     one_waits b c.args.place c.args.lines (c.args.lines + c.len.result) c.args.text.now.items c.push_waits.new.out.items call w (whys_of found) c.requires.told c.in-Some.ensures.some (sym c.if-not-waits.ensures)

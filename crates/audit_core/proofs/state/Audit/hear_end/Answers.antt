@@ -12,7 +12,7 @@ use Rattle.audit_core.specs.declared.state.Audit.{Audit}
 use Rattle.audit_core.specs.Counting.{AreCounters}
 use Rattle.audit_core.specs.Replies.{CanDo}
 use Rattle.audit_core.specs.View.{told_view}
-use Rattle.audit_core.specs.declared.calls.Slot.TheVariants.{Fresh, Runs, Ended}
+use Rattle.audit_core.specs.declared.calls.CallSlot.TheVariants.{Fresh, Runs, Ended}
 use Rattle.audit_core.proofs.Hearing.{end_bad}
 use Rattle.audit_core.proofs.Slots.{slot_stranger, slot_runs, running_among}
 use Rattle.audit_core.proofs.Standing.{end_stands, can_do}

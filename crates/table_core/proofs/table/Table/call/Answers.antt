@@ -1,5 +1,5 @@
-use Rattle.session_text.specs.declared.line.Line.TheVariants as lines
-use Rattle.session_text.specs.declared.line.Refusal.TheVariants as refusals
+use Rattle.session_text.specs.declared.line.ReplyLine.TheVariants as lines
+use Rattle.session_text.specs.declared.line.LineRefusal.TheVariants as refusals
 use Rattle.std.proofs.Common.{sym, subst, List, Option, ℕ}
 use Rattle.hosted_core.specs.Scene.{Scene}
 use Rattle.client_core.specs.Asked.{AnswersCall}

@@ -1,4 +1,4 @@
-use Rattle.session_text.specs.declared.line.Line.TheVariants as lines
+use Rattle.session_text.specs.declared.line.ReplyLine.TheVariants as lines
 use Rattle.table_core.specs.Seen.{seen}
 use Rattle.table_core.proofs.Submitting.{makes_refused, makes_it}
 use Rattle.table_core.proofs.table.Table.call_new.Goals as goal

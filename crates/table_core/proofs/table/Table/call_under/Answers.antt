@@ -1,7 +1,7 @@
 use Rattle.std.proofs.Common.{◌∙◌, ap, subst, List, slice_get}
 use Rattle.value_core.specs.declared.datum.Datum.{Datum}
-use Rattle.session_text.specs.declared.line.Line.TheVariants as lines
-use Rattle.session_text.specs.declared.line.Refusal.TheVariants as refusals
+use Rattle.session_text.specs.declared.line.ReplyLine.TheVariants as lines
+use Rattle.session_text.specs.declared.line.LineRefusal.TheVariants as refusals
 use Rattle.hosted_core.specs.Keys.{Says}
 use Rattle.hosted_core.specs.Scene.{Scene}
 use Rattle.table_core.specs.Seen.{seen}

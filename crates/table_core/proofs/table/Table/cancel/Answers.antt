@@ -1,6 +1,6 @@
 use Rattle.std.proofs.Common.{sym, subst, List, Some, slice_get, ◌≡◌}
-use Rattle.session_text.specs.declared.line.Line.TheVariants as lines
-use Rattle.session_text.specs.declared.line.Refusal.TheVariants as refusals
+use Rattle.session_text.specs.declared.line.ReplyLine.TheVariants as lines
+use Rattle.session_text.specs.declared.line.LineRefusal.TheVariants as refusals
 use Rattle.hosted_core.specs.Scene.{Scene}
 use Rattle.table_core.specs.Seen.{seen}
 use Rattle.table_core.proofs.Cancelling.{cancel_refused, cancels_by}

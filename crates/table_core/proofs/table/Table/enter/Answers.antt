@@ -1,5 +1,5 @@
-use Rattle.session_text.specs.declared.line.Line.TheVariants as lines
-use Rattle.session_text.specs.declared.line.Refusal.TheVariants as refusals
+use Rattle.session_text.specs.declared.line.ReplyLine.TheVariants as lines
+use Rattle.session_text.specs.declared.line.LineRefusal.TheVariants as refusals
 use Rattle.table_core.specs.Seen.{seen}
 use Rattle.table_core.proofs.Bringing.{refuses}
 use Rattle.table_core.proofs.Entering.{opens_refused}

@@ -1,6 +1,6 @@
 use Rattle.std.proofs.Common.{Some}
 use Rattle.guest_core.specs.declared.answer.SubmitFault.TheVariants as faults
-use Rattle.session_text.specs.declared.line.Line.TheVariants as lines
+use Rattle.session_text.specs.declared.line.ReplyLine.TheVariants as lines
 use Rattle.table_core.specs.Seen.{seen}
 use Rattle.table_core.proofs.Bringing.{refuses}
 use Rattle.table_core.proofs.Entering.{enter_refused, opens_refused}

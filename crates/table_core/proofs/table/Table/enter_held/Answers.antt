@@ -1,5 +1,5 @@
 use Rattle.std.specs.Prelude.{Some}
-use Rattle.session_text.specs.declared.line.Line.TheVariants as lines
+use Rattle.session_text.specs.declared.line.ReplyLine.TheVariants as lines
 use Rattle.table_core.specs.Seen.{seen}
 use Rattle.table_core.proofs.Bringing.{refuses}
 use Rattle.table_core.proofs.Entering.{opens_refused}

@@ -1,8 +1,8 @@
 use Rattle.std.proofs.Common.{◌≡◌, subst, List}
 use Rattle.std.specs.Prelude.{Some, IfOk, slice_get}
 use Rattle.client_core.specs.declared.ask.Sight.TheVariants as insides
-use Rattle.session_text.specs.declared.line.Line.TheVariants as lines
-use Rattle.session_text.specs.declared.line.Refusal.TheVariants as refusals
+use Rattle.session_text.specs.declared.line.ReplyLine.TheVariants as lines
+use Rattle.session_text.specs.declared.line.LineRefusal.TheVariants as refusals
 use Rattle.hosted_core.specs.Scene.{Scene}
 use Rattle.custody_core.specs.Custody.{holds_by, held_by}
 use Rattle.client_core.specs.ToldInside.{IsWho}

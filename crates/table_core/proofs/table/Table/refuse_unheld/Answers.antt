@@ -1,5 +1,5 @@
 use Rattle.guest_core.specs.declared.answer.SubmitFault.TheVariants as faults
-use Rattle.session_text.specs.declared.line.Line.TheVariants as lines
+use Rattle.session_text.specs.declared.line.ReplyLine.TheVariants as lines
 use Rattle.table_core.specs.Seen.{seen}
 use Rattle.table_core.proofs.Settling.{unheld_refused}
 use Rattle.table_core.proofs.table.Table.refuse_unheld.Goals as goal

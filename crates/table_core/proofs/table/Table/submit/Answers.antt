@@ -1,7 +1,7 @@
 use Rattle.std.proofs.Common.{subst, Result}
 use Rattle.guest_core.specs.declared.answer.SubmitFault.{SubmitFault}
 use Rattle.live_core.specs.declared.live.Taken.{Taken}
-use Rattle.session_text.specs.declared.line.Line.TheVariants as lines
+use Rattle.session_text.specs.declared.line.ReplyLine.TheVariants as lines
 use Rattle.table_core.specs.Parts.{MakesAt}
 use Rattle.table_core.specs.Seen.{seen}
 use Rattle.table_core.proofs.Submitting.{submit_refused, submit_taken}

@@ -1,5 +1,5 @@
 use Rattle.std.proofs.Common.{◌≡◌, ◌∙◌, ap, sym, subst, List, Some, slice_get}
-use Rattle.client_core.specs.declared.client.Opened.{Opened}
+use Rattle.client_core.specs.declared.client.OpenObject.{OpenObject}
 use Rattle.hosted_core.specs.Scene.{Scene}
 use Rattle.live_core.specs.declared.call.Ran.{Ran}
 use Rattle.client_core.specs.State.{change, opening, peers_of}
@@ -16,6 +16,6 @@ returns-clause-brings c = λ object there.
     c.told_at-told.result c.args.seat c.args.taken.now object
     (c.told_at-told.ensures object (subst (λ (l : List Scene). slice_get l c.args.seat.object ≡ Some object) (sym c.deref.ensures.value) there))
     c.in_ok-tell_line.ensures
-    (c.open_called.ensures ∙ ap (λ (o : Opened). change (peers_of c.args.self.now.clients) c.args.place (opening o)) c.counted.ensures)
+    (c.open_called.ensures ∙ ap (λ (o : OpenObject). change (peers_of c.args.self.now.clients) c.args.place (opening o)) c.counted.ensures)
     (subst (λ (l : List Ran). Brings (AllEnd c.args.seat.object object l) c.tell_line.new.post (state_of (custodies_of c.args.self.now.custody) c.args.self.now.objects.items c.open_called.new.clients) c.all_ended.new.post (seen c.all_ended.new.self))
     c.deref-2.ensures.value (c.in_ok-all_ended.ensures.brings object there))

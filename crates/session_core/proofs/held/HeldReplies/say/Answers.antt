@@ -1,7 +1,7 @@
 use Rattle.std.proofs.Common.{true, false}
 use Rattle.session_text.specs.Answers.{said_of}
 use Rattle.session_core.proofs.Saying.{adds_seen, held_more, held_still}
-use Rattle.session_core.proofs.held.Held.say.Goals as goal
+use Rattle.session_core.proofs.held.HeldReplies.say.Goals as goal
 
 pub invariant_of-self-then-not-add_line : goal.invariant_of-self-then-not-add_line
 invariant_of-self-then-not-add_line c = held_still c.self.inside.text.items c.add_line.new.held.items c.self.inside.notes.items c.add_line.new.notes.items c.self.inside.first c.self.inside.at (said_of c.args.line) c.add_line.result c.self.invariant
