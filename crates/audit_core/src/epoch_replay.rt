@@ -172,7 +172,11 @@ impl Replay {
 
     /// Hears a line, and answers what it told, or its fault; after a fault, and where memory is refused, the state is
     /// open.
-    pub fn hear(&mut self, object: &Object, line: &[u8]) -> Result<Result<ReplayNote, AuditFault>, AllocError>
+    pub fn hear(
+        &mut self,
+        object: &Object,
+        line: &[u8],
+    ) -> Result<Result<ReplayNote, AuditFault>, AllocError>
         ensures { IfOk result (λ found. Hears (object_of object.now) line.now self.old found self.new) }
     {
         match read_line(self.alloc, line)? {
@@ -300,7 +304,11 @@ impl Replay {
     }
 
     // Hears that a session got a name.
-    fn hear_name(&self, session: u32, client: &[u8]) -> Result<Result<ReplayNote, AuditFault>, AllocError>
+    fn hear_name(
+        &self,
+        session: u32,
+        client: &[u8],
+    ) -> Result<Result<ReplayNote, AuditFault>, AllocError>
         ensures { IfOk result (λ found. (o : ObjectForm) →
             HearsSaid o (a_name session client.now) self.now found self.now) }
     {

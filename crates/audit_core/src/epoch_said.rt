@@ -51,7 +51,11 @@ pub fn read_line(alloc: Global, line: &[u8]) -> Result<Option<EpochLine<'_>>, Al
 }
 
 // What a line says of this word and of those behind it.
-fn said_by<'a>(alloc: Global, verb: &[u8], line: &'a [u8]) -> Result<Option<EpochLine<'a>>, AllocError>
+fn said_by<'a>(
+    alloc: Global,
+    verb: &[u8],
+    line: &'a [u8],
+) -> Result<Option<EpochLine<'a>>, AllocError>
     ensures { IfOk result (Reads (said_in verb.now) said_view line.now) }
 {
     if is_same_word(verb, b"start") {

@@ -39,7 +39,11 @@ pub fn read_line(alloc: Global, line: &[u8]) -> Result<Option<ToldLine<'_>>, All
 }
 
 // What a line says of this word and of those behind it.
-fn said_by<'a>(alloc: Global, verb: &[u8], line: &'a [u8]) -> Result<Option<ToldLine<'a>>, AllocError>
+fn said_by<'a>(
+    alloc: Global,
+    verb: &[u8],
+    line: &'a [u8],
+) -> Result<Option<ToldLine<'a>>, AllocError>
     ensures { IfOk result (Reads (said_in verb.now) said_view line.now) }
 {
     if is_same_word(verb, b"object") {

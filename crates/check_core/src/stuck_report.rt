@@ -68,7 +68,11 @@ fn push_told(alloc: Global, out: &mut Vec<u8>, object: &Object) -> Result<bool, 
 }
 
 // Adds the lines of an accepted object.
-fn push_kept(alloc: Global, out: &mut Vec<u8>, accepted: &Accepted) -> Result<StuckTally, AllocError>
+fn push_kept(
+    alloc: Global,
+    out: &mut Vec<u8>,
+    accepted: &Accepted,
+) -> Result<StuckTally, AllocError>
     ensures { IfOk result (λ said. (text : List ℕ) × (out.new.items ≡ out.old.items ++ text)
         × IsSaid (object_of accepted.now) said.refused said.lost text) }
 {

@@ -89,7 +89,12 @@ fn set_waits(rows: &mut Vec<ClientPlace>, at: usize, waits: bool)
 }
 
 // Holds a line of the one at a place.
-fn hold(rows: &mut Vec<ClientPlace>, at: usize, line: &[u8], is_whole: bool) -> Result<(), AllocError>
+fn hold(
+    rows: &mut Vec<ClientPlace>,
+    at: usize,
+    line: &[u8],
+    is_whole: bool,
+) -> Result<(), AllocError>
     requires { at < length rows.old.items }
     ensures count { length rows.new.items ≡ length rows.old.items }
     ensures ok { OnOk result (IsHeld line.now is_whole (slice_get rows.old.items at) (slice_get rows.new.items at)) }

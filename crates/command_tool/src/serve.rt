@@ -18,7 +18,7 @@ use device_core::sealed::Sealed;
 use page_core::found::found_in;
 use page_core::values::DirValues;
 use serve_core::gate::Gate;
-use serve_core::serve::{ServerFolder, ServeEnd, serve_on};
+use serve_core::serve::{ServeEnd, ServerFolder, serve_on};
 use std::alloc::AllocError;
 use std::io::{ErrorKind, Write};
 use std::os::unix::fs::FileExt;

@@ -6,7 +6,7 @@ ghost use Rattle.std.specs.Prelude.{◌≡◌, ◌≢◌, ◌<◌, ◌+◌, ◌^
 
 use decl_core::object::Object;
 use guest_core::guests::Guests;
-use hosted_core::hosted::{HostedStart, Hosted};
+use hosted_core::hosted::{Hosted, HostedStart};
 use live_core::call::Limits;
 use live_core::live::Live;
 use live_core::source::source_of;

@@ -36,7 +36,10 @@ fn judge(alloc: Global, object: Object) -> Result<ProposalVerdict, AllocError> {
         Ok(_) => Ok(ProposalVerdict::Accepted),
         Err(refused) => match refused.why {
             Refusal::Memory => Err(AllocError),
-            Refusal::Unseparated(first, second, _) => Ok(ProposalVerdict::Refused(Pair { first, second })),
+            Refusal::Unseparated(first, second, _) => Ok(ProposalVerdict::Refused(Pair {
+                first,
+                second,
+            })),
         },
     }
 }

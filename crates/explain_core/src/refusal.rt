@@ -80,7 +80,11 @@ fn push_operation(
 }
 
 // Adds both operations, or the one.
-fn push_operations(out: &mut Vec<u8>, page: Page<'_>, case: RefusalCase<'_>) -> Result<(), AllocError> {
+fn push_operations(
+    out: &mut Vec<u8>,
+    page: Page<'_>,
+    case: RefusalCase<'_>,
+) -> Result<(), AllocError> {
     let names = case.names;
     let first = operation_tokens(case, case.first);
     let second = operation_tokens(case, case.second);

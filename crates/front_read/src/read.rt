@@ -18,7 +18,7 @@ use crate::names::object_has_names;
 use crate::run::take_run;
 use crate::text::{begins_with, feeds_in, goes_on};
 use decl_core::object::{Object, Part};
-use live_core::front::{CarriedCall, NamedClient, Front, KeptCall};
+use live_core::front::{CarriedCall, Front, KeptCall, NamedClient};
 use live_core::past::PastRun;
 use std::alloc::{AllocError, Global};
 use value_core::value::Value;

@@ -80,7 +80,10 @@ pub(crate) fn begins_word(tokens: &[Token], word: HoldKeyword) -> bool
 }
 
 /// The tokens behind a word that has to stand here.
-pub(crate) fn behind_word<'t>(tokens: &'t [Token], word: HoldKeyword) -> Result<&'t [Token], TextFault>
+pub(crate) fn behind_word<'t>(
+    tokens: &'t [Token],
+    word: HoldKeyword,
+) -> Result<&'t [Token], TextFault>
     ensures { Gives (λ rest. lexemes rest.now) result (word_at word (lexemes tokens.now)) }
 {
     match after_word(tokens, word) {

@@ -3,7 +3,7 @@
 ghost use Rattle.std.specs.Prelude.{IfOk, IfSome};
 ghost use Rattle.hosted_core.specs.Again.{BeginsAgain};
 
-use crate::hosted::{HostedStart, Hosted};
+use crate::hosted::{Hosted, HostedStart};
 use decl_core::object::Object;
 use guest_core::guests::Guests;
 use live_core::call::Limits;

@@ -129,7 +129,11 @@ fn push_sitting(
 }
 
 // All that are asked for, each with the place of its connection, by these places.
-fn sitting(alloc: Global, clients: &ClientPlaces, whom: Whom) -> Result<Vec<(usize, OpenObject)>, AllocError>
+fn sitting(
+    alloc: Global,
+    clients: &ClientPlaces,
+    whom: Whom,
+) -> Result<Vec<(usize, OpenObject)>, AllocError>
     ensures { IfOk result (λ all. all.items ≡ sitting_from 0 whom.at whom.from (peers_of clients.now)) }
 {
     let mut all = Vec::new(alloc);
@@ -140,7 +144,11 @@ fn sitting(alloc: Global, clients: &ClientPlaces, whom: Whom) -> Result<Vec<(usi
 }
 
 // The same, by their numbers.
-fn seated(alloc: Global, clients: &ClientPlaces, whom: Whom) -> Result<Vec<(usize, OpenObject)>, AllocError>
+fn seated(
+    alloc: Global,
+    clients: &ClientPlaces,
+    whom: Whom,
+) -> Result<Vec<(usize, OpenObject)>, AllocError>
     ensures { IfOk result (λ all. AreSitting whom.at whom.from (peers_of clients.now) all.items) }
 {
     let mut all = sitting(alloc, clients, whom)?;

@@ -79,7 +79,12 @@ fn push_reasons(
 }
 
 // Why a call waits.
-fn say_why(alloc: Global, object: &Hosted, told: u64, call: &LiveCall) -> Result<Vec<u8>, AllocError>
+fn say_why(
+    alloc: Global,
+    object: &Hosted,
+    told: u64,
+    call: &LiveCall,
+) -> Result<Vec<u8>, AllocError>
     requires there { (k : ℕ) × (slice_get object.now.hall.waiting k ≡ Some call.now) }
     requires told { told_of object.now call.now.number ≡ told }
     ensures { IfOk result (λ text. SaysWhy object.now told text.items) }

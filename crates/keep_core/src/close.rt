@@ -332,7 +332,13 @@ fn is_same_name(one: &Name, other: &Name) -> bool
 }
 
 // Whether a desk is of the object of this name, it began with this opening, and each entry of its history has a slip.
-fn has_all(marks: &mut Marks, name: &Name, opening: &ObjectOpening, desk: &Desk, slips: &[Slip]) -> bool
+fn has_all(
+    marks: &mut Marks,
+    name: &Name,
+    opening: &ObjectOpening,
+    desk: &Desk,
+    slips: &[Slip],
+) -> bool
     ensures all { IsTrue result ↔ HasAll name.now opening.now desk.now slips.now }
     ensures sound { IsSound desk.now }
 {
@@ -541,7 +547,12 @@ impl<S: Shelf + Drop, T: Shelf + Drop, H: Hand + Drop> Closing<S, T, H> {
     /// no slip, or where the office is that of an object of another name or began with other pins; this is told as
     /// refused. A fault is noted, and what does not hang on it is still done: an object that is not closed is saved all
     /// the same.
-    pub fn close_one<W: Write, E: Write>(&mut self, ending: ClosingObject, writer: &mut W, error: &mut E)
+    pub fn close_one<W: Write, E: Write>(
+        &mut self,
+        ending: ClosingObject,
+        writer: &mut W,
+        error: &mut E,
+    )
         ensures ended { (e : Ended) × IsOf ending.name ending.opening ending.seats.items ending.receipts.items e
             × IsEndingIn (moment_of S.holds T.holds H.agrees self.old (W.contents writer.old))
             (moment_of S.holds T.holds H.agrees self.new (W.contents writer.new)) e }

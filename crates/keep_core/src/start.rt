@@ -16,7 +16,7 @@ use device_core::hand::HandFault;
 use device_core::memory::MemHand;
 use device_core::shelf::Shelf;
 use guest_core::guests::Guests;
-use hosted_core::hosted::{HostedStart, Hosted};
+use hosted_core::hosted::{Hosted, HostedStart};
 use hosted_core::start::{EndedEpoch, begin_again};
 use live_core::call::Limits;
 use live_core::live::Live;

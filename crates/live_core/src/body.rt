@@ -62,7 +62,12 @@ fn reply_of(
 }
 
 // Does a call on the values of all parts, in place.
-pub(crate) fn do_call(alloc: Global, object: &Object, call: &LiveCall, parts: &mut Vec<Value>) -> Reply
+pub(crate) fn do_call(
+    alloc: Global,
+    object: &Object,
+    call: &LiveCall,
+    parts: &mut Vec<Value>,
+) -> Reply
     requires call { IsCallOf (object_of object.now) call.now }
     requires held { map kind_of parts.old.items ≡ map (λ p. p.1) (object_of object.now).parts }
     ensures reply { IsReplyOn result (body_at (object_of object.now) call.now.operation) call.now.arguments

@@ -19,7 +19,7 @@ ghost use Rattle.live_core.specs.declared.hall.CallRefusal.TheVariants.{Memory a
 ghost use Rattle.live_core.specs.Steps.{joined, Leaves, IsSame, RunsOne, SettlesTo};
 
 use crate::body::{are_of, do_call, fits};
-use crate::call::{LiveCall, Limits, Ran};
+use crate::call::{Limits, LiveCall, Ran};
 use crate::waiting::{first_to_start, place_for, place_of, renumber, take_at};
 use decl_core::object::Object;
 use path_count::counters::Counters;

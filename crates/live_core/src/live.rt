@@ -11,8 +11,8 @@ ghost use Rattle.live_core.specs.Steps.{joined, IsFixed, IsSame, Leaves, Settles
 ghost use Rattle.live_core.specs.Epochs.{IsBegun, told_behind};
 ghost use Rattle.live_core.specs.Answers.{asked, carried_from, IsTaken, IsRefused, IsSetUp};
 
-use crate::call::{LiveCall, Carried, Limits, Ran};
-use crate::hall::{Hall, CallRefusal};
+use crate::call::{Carried, Limits, LiveCall, Ran};
+use crate::hall::{CallRefusal, Hall};
 use decl_core::object::Object;
 use path_count::counters::Counters;
 use path_count::past::PastEvent;

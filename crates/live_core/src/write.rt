@@ -13,7 +13,7 @@ ghost use Rattle.live_core.specs.Text.{answer_words, answer_of, call_words, kept
 ghost use Rattle.live_core.specs.Text.{clients_text};
 ghost use Rattle.live_core.specs.Text.{kept_text, calls_text, behind_parts, front_text};
 
-use crate::front::{Answer, CarriedCall, NamedClient, Front, KeptCall};
+use crate::front::{Answer, CarriedCall, Front, KeptCall, NamedClient};
 use crate::past::PastRun;
 use apply_core::reply::Reply;
 use decl_core::object::{Object, Part};

@@ -18,8 +18,16 @@ impl ClientListener {
     /// Has connections that wait be told. The error is that of the system.
     pub(crate) fn register(&mut self, registry: &Registry, token: Token) -> io::Result<()> {
         match self {
-            ClientListener::Port(listener) => registry.register(listener, token, Interest::READABLE),
-            ClientListener::Path(listener) => registry.register(listener, token, Interest::READABLE),
+            ClientListener::Port(listener) => registry.register(
+                listener,
+                token,
+                Interest::READABLE,
+            ),
+            ClientListener::Path(listener) => registry.register(
+                listener,
+                token,
+                Interest::READABLE,
+            ),
         }
     }
 

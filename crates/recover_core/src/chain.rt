@@ -12,7 +12,7 @@ use crate::recover::Recovered;
 use decl_core::object::Object;
 use guest_core::guests::Guests;
 use guest_core::kept::Kept;
-use live_core::front::{Answer, NamedClient, Front, KeptCall};
+use live_core::front::{Answer, Front, KeptCall, NamedClient};
 use live_core::past::{PastRun, events_of};
 use path_count::counters::Counters;
 use path_count::past::counters_behind;

@@ -11,7 +11,7 @@ ghost use Rattle.recover_core.specs.Odd.{IsHeldUp, CannotCome};
 use apply_core::reply::Reply;
 use guest_core::guests::{AdmitFault, Guests};
 use guest_core::keys::{AskFault, MOST_KEPT};
-use live_core::front::{Answer, NamedClient, KeptCall};
+use live_core::front::{Answer, KeptCall, NamedClient};
 use path_tree::name::Name;
 use path_tree::node::OpId;
 use std::alloc::{AllocError, Global};

@@ -47,7 +47,10 @@ fn carried_from(alloc: Global, call: &CarriedCall) -> Result<WaitedCall, AllocEr
 }
 
 // Waiting calls, for a replay.
-pub(crate) fn carried_of(alloc: Global, calls: &[CarriedCall]) -> Result<Vec<WaitedCall>, AllocError>
+pub(crate) fn carried_of(
+    alloc: Global,
+    calls: &[CarriedCall],
+) -> Result<Vec<WaitedCall>, AllocError>
     ensures { IfOk result (λ v. carried_calls v.items ≡ calls_of calls.now) }
 {
     let mut all = Vec::new(alloc);

@@ -19,7 +19,7 @@ use crate::text::{HeldFront, from, split_line};
 use apply_core::reply::Reply;
 use apply_core::slim::Slims;
 use audit_core::carried::WaitedCall;
-use audit_core::epoch_replay::{Known, ReplayNote, Replay};
+use audit_core::epoch_replay::{Known, Replay, ReplayNote};
 use audit_core::told::ToldReply;
 use decl_core::hold::Hold;
 use decl_core::object::Object;

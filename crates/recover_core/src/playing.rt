@@ -14,7 +14,7 @@ use crate::clients::{admit, remember_cancelled, remember_ended};
 use crate::lines::split_line;
 use crate::numbers::EpochNumbers;
 use apply_core::reply::Reply;
-use audit_core::epoch_replay::{Known, ReplayNote, Replay};
+use audit_core::epoch_replay::{Known, Replay, ReplayNote};
 use audit_core::told::ToldReply;
 use audit_core::verdict::AuditFault;
 use decl_core::object::Object;
@@ -87,7 +87,11 @@ fn take_ran(
 }
 
 // A call that was cancelled is remembered, where its client has a name. False: as of one that ended.
-fn take_cancelled(guests: &mut Guests, numbers: &EpochNumbers, known: &Known) -> Result<bool, AllocError>
+fn take_cancelled(
+    guests: &mut Guests,
+    numbers: &EpochNumbers,
+    known: &Known,
+) -> Result<bool, AllocError>
     ensures yes { IfOk result (λ yes. IsTrue yes → (now : ℕ) →
         Makes numbers.now.base numbers.now.carried.items now guests.old (cancelled (known_call known.now))
         guests.new) }
@@ -122,7 +126,12 @@ fn take_name(guests: &mut Guests, now: u64, session: u32, name: &Name) -> Result
 }
 
 // What a line told is told to the clients. False: it contradicts what was told of them before.
-fn take(guests: &mut Guests, numbers: &EpochNumbers, now: u64, note: &ReplayNote) -> Result<bool, AllocError>
+fn take(
+    guests: &mut Guests,
+    numbers: &EpochNumbers,
+    now: u64,
+    note: &ReplayNote,
+) -> Result<bool, AllocError>
     ensures yes { IfOk result (λ yes. IsTrue yes →
         TakesNote numbers.now.base numbers.now.carried.items now guests.old note.now guests.new) }
     ensures no { IfOk result (λ yes. yes ≡ false →

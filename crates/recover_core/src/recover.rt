@@ -14,7 +14,7 @@ ghost use Rattle.recover_core.specs.Recovered.{ComesTo, IsBehind, IsOddFront, Re
 use crate::clients::{OddLine, open_all};
 use crate::numbers::{EpochNumbers, carried_of, uncounted};
 use crate::playing::{Playing, RefusedLine, play};
-use audit_core::epoch_replay::{ReplayedEpoch, Replay};
+use audit_core::epoch_replay::{Replay, ReplayedEpoch};
 use audit_core::verdict::AuditFault;
 use decl_core::object::Object;
 use guest_core::guests::Guests;

@@ -14,7 +14,7 @@ use crate::steps::{LoopCall, ScheduleStep, StepWords, cut_bytes, is_run, push_st
 use check_core::judge::{JudgedSource, judge};
 use decl_core::object::Object;
 use guest_core::guests::Guests;
-use hosted_core::hosted::{HostedStart, Hosted};
+use hosted_core::hosted::{Hosted, HostedStart};
 use keep_loop::{Fault as LoopFault, LoopLimits, run};
 use live_core::call::Limits as LiveLimits;
 use live_core::live::Live;
@@ -142,7 +142,12 @@ fn push_end(ended: Result<Table, LoopFault>, out: &mut Vec<u8>) -> Result<(), Al
 }
 
 // Serves a table over a schedule, until the server is to end. What is told of that is honest at each moment.
-fn serve(alloc: Global, table: Table, limits: LoopLimits, fake: &mut Fake) -> Result<Table, LoopFault>
+fn serve(
+    alloc: Global,
+    table: Table,
+    limits: LoopLimits,
+    fake: &mut Fake,
+) -> Result<Table, LoopFault>
     requires { seen_of fake.old.rows ≡ Some [] }
     ensures { IfSome (seen_of fake.new.rows) (λ seen. Always (IsHonest (rules_of Gives Fronts) table limits) seen) }
 {

@@ -88,7 +88,11 @@ fn next_of<X>(items: &mut IntoIter<X>) -> X
 }
 
 // An object at the end, with what its sessions left.
-fn ending_of<H: Hand + Drop>(named: Named, opening: ObjectOpening, gathered: Gathered<H>) -> ClosingObject
+fn ending_of<H: Hand + Drop>(
+    named: Named,
+    opening: ObjectOpening,
+    gathered: Gathered<H>,
+) -> ClosingObject
     ensures name { result.name ≡ named.name }
     ensures opening { result.opening ≡ opening }
     ensures slips { result.receipts.items ≡ gathered.backed }

@@ -7,7 +7,7 @@ use crate::order::Offices;
 use crate::output::Start;
 use crossbeam_channel::Receiver;
 use session_text::ear::{Ear, Heard};
-use session_text::line::{AnyLine, ReplyLine, LineRefusal};
+use session_text::line::{AnyLine, LineRefusal, ReplyLine};
 use session_text::relay::Relay;
 use session_text::session::Action;
 use std::alloc::Global;

@@ -5,7 +5,7 @@ ghost use Rattle.apply_core.specs.declared.reply.Reply.{Reply};
 ghost use Rattle.session_text.specs.Answers.{opened, ended, repeated, said_of, told};
 ghost use Rattle.session_core.specs.Dialogue.{Leads, IsShut};
 
-use session_text::line::{AnyLine, ReplyLine, LineRefusal};
+use session_text::line::{AnyLine, LineRefusal, ReplyLine};
 
 /// Where the lines of a session have come to.
 #[derive(Clone, Copy, Debug, PartialEq, Eq)]

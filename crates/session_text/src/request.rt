@@ -178,7 +178,11 @@ fn call_by(alloc: Global, word: &[u8], line: &[u8]) -> Result<Option<SessionRequ
 }
 
 // A call under the key that these digits tell.
-fn call_under(alloc: Global, digits: &[u8], line: &[u8]) -> Result<Option<SessionRequest>, AllocError>
+fn call_under(
+    alloc: Global,
+    digits: &[u8],
+    line: &[u8],
+) -> Result<Option<SessionRequest>, AllocError>
     ensures { IfOk result (Reads (digits_behind digits.now) request_view line.now) }
 {
     match integer_of(digits) {

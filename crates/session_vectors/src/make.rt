@@ -1,6 +1,7 @@
 //! Offices of small objects, and sessions on them.
 
 use crate::streams::Told;
+use call_core::ticket::Ticket;
 use decl_core::analyse::{Accepted, analyse};
 use decl_core::object::Object;
 use decl_read::read::read_objects;
@@ -14,7 +15,6 @@ use page_core::page_list::PageList;
 use page_core::pins::Pins;
 use path_tree::name::Name;
 use run_core::at_once::run_at_once;
-use call_core::ticket::Ticket;
 use session_core::end::SessionEnd;
 use session_core::order::Named;
 use session_core::serve::{Connection, serve_session};

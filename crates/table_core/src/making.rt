@@ -32,7 +32,7 @@ use live_core::call::Ran;
 use live_core::live::Taken;
 use path_tree::name::Name;
 use path_tree::node::OpId;
-use session_text::line::{AnyLine, ReplyLine, LineRefusal, Unended};
+use session_text::line::{AnyLine, LineRefusal, ReplyLine, Unended};
 use std::alloc::AllocError;
 use value_core::datum::Datum;
 
@@ -149,7 +149,12 @@ impl Table {
     }
 
     // Answers a call of which its key says that it is not to be made.
-    fn answer_key(&mut self, place: usize, keyed: KeyState, post: &mut Post) -> Result<(), AllocError>
+    fn answer_key(
+        &mut self,
+        place: usize,
+        keyed: KeyState,
+        post: &mut Post,
+    ) -> Result<(), AllocError>
         requires { keyed ≡ keys.New → ⊥ }
         ensures { OnOk result (Brings (OnlyTold place (keyed_text keyed)) post.old (seen self.old) post.new
             (seen self.new)) }
@@ -164,7 +169,9 @@ impl Table {
             KeyState::Cancelled(told) => {
                 self.say(place, ReplyLine::Kept(told, Unended::Cancelled), post)
             }
-            KeyState::Waits(told) => { self.say(place, ReplyLine::Kept(told, Unended::Waiting), post) }
+            KeyState::Waits(told) => {
+                self.say(place, ReplyLine::Kept(told, Unended::Waiting), post)
+            }
             KeyState::Refused(fault) => { self.say(place, ReplyLine::Unkeyed(fault), post) }
         }
     }

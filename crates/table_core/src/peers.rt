@@ -110,7 +110,12 @@ pub(crate) fn open(clients: &mut ClientPlaces, place: usize, opened: OpenObject)
 }
 
 /// The one at a place has opened this, for a client of this name or of none.
-pub(crate) fn open_as(clients: &mut ClientPlaces, place: usize, opened: OpenObject, client: Option<Name>)
+pub(crate) fn open_as(
+    clients: &mut ClientPlaces,
+    place: usize,
+    opened: OpenObject,
+    client: Option<Name>,
+)
     ensures { peers_of clients.new ≡ change (peers_of clients.old) place (opening opened) }
 {
     open(clients, place, opened);
@@ -215,7 +220,11 @@ fn is_its(opened: OpenObject, call: ToldCall) -> bool
 }
 
 /// The place of one that waits for a call: the one that is thought to be it, or the first one.
-pub(crate) fn waiter(clients: &ClientPlaces, thought: Option<usize>, call: ToldCall) -> Option<usize>
+pub(crate) fn waiter(
+    clients: &ClientPlaces,
+    thought: Option<usize>,
+    call: ToldCall,
+) -> Option<usize>
     ensures some { IfSome result (λ place. (custody : Custodies) (objects : List Scene) → Waits call.at call.session call.told (state_of custody objects clients.now) place) }
     ensures none { IfNone result ((custody : Custodies) (objects : List Scene) (place : ℕ) → Waits call.at call.session call.told (state_of custody objects clients.now) place → ⊥) }
 {

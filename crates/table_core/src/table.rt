@@ -24,7 +24,7 @@ use hosted_core::hosted::Hosted;
 use inside_core::tallies::Tallies;
 use keep_loop::Post;
 use path_tree::name::Name;
-use session_text::line::{AnyLine, ReplyLine, LineRefusal};
+use session_text::line::{AnyLine, LineRefusal, ReplyLine};
 use std::alloc::{AllocError, Global};
 
 /// Where more than so many bytes are owed to a connection, its held lines are done later.

@@ -29,7 +29,7 @@ use guest_core::answer::SubmitFault;
 use hosted_core::hosted::Hosted;
 use inside_core::look::write_look;
 use keep_loop::{LineEnd, Note, Post, Served, Visible};
-use session_text::line::{ReplyLine, LineRefusal};
+use session_text::line::{LineRefusal, ReplyLine};
 use std::alloc::AllocError;
 
 impl Table {

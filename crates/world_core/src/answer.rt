@@ -20,7 +20,7 @@ use inside_text::find::reasons_by;
 use inside_text::list::push_only;
 use inside_text::reason::Reason;
 use inside_text::who::{WaitingRow, push_waits, push_who};
-use inside_text::why::{RunningRow, CallStatus, push_state, push_why};
+use inside_text::why::{CallStatus, RunningRow, push_state, push_why};
 use path_count::counters::Counters;
 use path_tree::node::OpId;
 use std::alloc::{AllocError, Global};

@@ -12,9 +12,9 @@ ghost use Rattle.run_core.specs.Runs.{run_call, run_ending, run_sealed, SoFar};
 ghost use Rattle.call_core.specs.Outcomes.{outcome_call, outcome_reply, outcome_sealed, outcome_news, outcome_gone};
 ghost use Rattle.call_core.specs.Outcomes.{outcome_pins, IsFresh};
 
+use call_core::outcome::Outcome;
 use device_core::fuse::FuseHand;
 use device_core::memory::MemHand;
-use call_core::outcome::Outcome;
 use run_core::perform::perform;
 use run_core::run::Run;
 use std::alloc::Global;
