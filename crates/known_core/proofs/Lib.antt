@@ -9,3 +9,4 @@ pub mod Full
 pub mod Fitting
 pub mod AllKnown
 pub mod Undoing
+pub mod Words

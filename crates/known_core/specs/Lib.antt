@@ -8,3 +8,4 @@ pub mod Sums
 pub mod Filled
 pub mod Log
 pub mod PageRow
+pub mod StopWord

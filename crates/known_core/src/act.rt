@@ -7,7 +7,6 @@ ghost use Rattle.value_core.specs.Contents.{kind_of};
 ghost use Rattle.value_core.specs.Datum.{elem_of};
 ghost use Rattle.value_core.specs.Kinds.{IsArray, IsQueue, IsTable};
 ghost use Rattle.value_core.specs.Meaning.{with_element, without_oldest, with_newest, with_row, without_key};
-ghost use Rattle.text_core.specs.Plain.{IsText};
 ghost use Rattle.value_core.specs.Words.{word_of};
 ghost use Rattle.decl_core.specs.Form.{set_element as set_element_form, set_result as set_result_form};
 ghost use Rattle.decl_core.specs.Form.{append as append_form, store as store_form, erase as erase_form};
@@ -23,12 +22,12 @@ ghost use Rattle.known_core.specs.declared.act.Stop.TheVariants.{Refused, Memory
 use crate::eval::{Break, holds, integer, text};
 use crate::pages::Pages;
 use crate::parts::PartValues;
+use crate::stop_word::StopWord;
 use decl_core::expr::{Expr, IntegerExpr, TextExpr};
 use decl_core::id::PartId;
 use decl_core::stmt::Stmt;
 use decl_core::word::RefusalWord;
 use std::alloc::AllocError;
-use text_core::text::Text;
 use value_core::datum::Datum;
 use value_core::refusal::{GrowFault, Refusal};
 
@@ -36,22 +35,11 @@ use value_core::refusal::{GrowFault, Refusal};
 #[derive(Clone, Copy)]
 pub enum Stop {
     /// It was refused by this word.
-    Refused(Text),
+    Refused(StopWord),
     /// It comes to this element of this part, which is not known. Elements count from 0.
     Needs(PartId, u32),
     /// Memory was refused.
     Memory,
-}
-
-// The text of a word.
-fn word_text(letters: &[u8]) -> Text
-    requires { IsText letters.now }
-    ensures { result ≡ letters.now }
-{
-    let Some(text) = Text::from_bytes(letters) else {
-        unreachable!();
-    };
-    text
 }
 
 impl From<Break> for Stop {
@@ -69,7 +57,7 @@ impl From<Refusal> for Stop {
     ghost from_gives = { λ refusal stop. stop ≡ Refused (word_of refusal) };
 
     fn from(refusal: Refusal) -> Stop {
-        Stop::Refused(word_text(refusal.word().as_bytes()))
+        Stop::Refused(StopWord::new(refusal.word().as_bytes()))
     }
 }
 
@@ -389,7 +377,7 @@ fn do_set_result<P: PartValues>(
 fn do_refuse(word: &RefusalWord) -> Result<(), Stop>
     ensures { result ≡ Err (Refused word.now) }
 {
-    Err(Stop::Refused(word_text(word.letters())))
+    Err(Stop::Refused(StopWord::new(word.letters())))
 }
 
 // Does a statement; `reply` is what the function is to reply. A statement that stops may leave

@@ -79,7 +79,7 @@ fn refusal(stop: WholeStop) -> Result<Reply, AllocError>
     ensures { IfOk result (λ reply. RepliesTo stop reply) }
 {
     match stop {
-        WholeStop::Refused(word) => Ok(Reply::Refused(word)),
+        WholeStop::Refused(word) => Ok(Reply::Refused(word.text())),
         WholeStop::Memory => Err(AllocError),
     }
 }

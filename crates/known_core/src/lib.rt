@@ -18,4 +18,5 @@ mod log;
 mod logged;
 pub mod pages;
 pub mod parts;
+pub mod stop_word;
 mod whole;

@@ -14,8 +14,8 @@ use crate::act::Stop;
 use crate::evaluate::evaluate_into;
 use crate::logged::LoggedValues;
 use crate::pages::Pages;
+use crate::stop_word::StopWord;
 use decl_core::object::Operation;
-use text_core::text::Text;
 use value_core::datum::Datum;
 use value_core::value::Value;
 
@@ -23,7 +23,7 @@ use value_core::value::Value;
 #[derive(Clone, Copy)]
 pub(crate) enum WholeStop {
     // It was refused by this word.
-    Refused(Text),
+    Refused(StopWord),
     // Memory was refused.
     Memory,
 }

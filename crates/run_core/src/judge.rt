@@ -244,7 +244,7 @@ fn stopped(stop: Stop, parts: &[Spelled]) -> Verdict
     ensures { StoppedAs parts.now stop result }
 {
     match stop {
-        Stop::Refused(word) => Verdict::Refused(word),
+        Stop::Refused(word) => Verdict::Refused(word.text()),
         Stop::Needs(part, index) => needed(parts, part, index),
         Stop::Memory => Verdict::Memory,
     }
