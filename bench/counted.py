@@ -12,11 +12,10 @@ import argparse
 import pathlib
 import re
 import signal
-import socket
-import subprocess
 import tempfile
 
 from bench import keys
+from gate.served import Server
 from tools.ready import given_words, program
 
 # So many calls are made before those that are counted, and so many are sent at once.
@@ -32,9 +31,9 @@ def lots(call, named, count):
         yield "".join(f"call {key}{call.replace('#', number)}\n" for key, number in marks).encode()
 
 
-def talk(port, call, named, count):
+def talk(server, call, named, count):
     """Makes so many calls, each of which has to be done."""
-    with socket.create_connection(("127.0.0.1", port)) as wire, wire.makefile("rb") as said:
+    with server.connect() as wire, wire.makefile("rb") as said:
         wire.sendall(b"open cell as c1\n" if named else b"open cell\n")
         said.readline()
         for lot in lots(call, named, count):
@@ -50,21 +49,14 @@ def talk(port, call, named, count):
 def counted(binary, way, call, named, count):
     """The instructions of a server from its start to its end."""
     with tempfile.TemporaryDirectory(prefix="counted-") as made:
-        folder, port = pathlib.Path(made), keys.free_port()
+        folder = pathlib.Path(made)
         (folder / "objects").write_text(keys.CELL, encoding="ascii")
         (folder / "place").mkdir()
-        words = ["valgrind", "--tool=callgrind", f"--callgrind-out-file={folder / 'counts'}", binary]
-        words += [way, folder / "objects", folder / "place", port, *WAYS[way]]
-        with (folder / "notes").open("wb") as notes:
-            with subprocess.Popen([str(it) for it in words], stdout=subprocess.PIPE, stderr=notes) as ran:
-                try:
-                    if not ran.stdout.readline().startswith(b"listening"):
-                        raise SystemExit(f"{binary} does not serve")
-                    talk(port, call, named, count)
-                    ran.send_signal(signal.SIGTERM)
-                    ran.wait(60)
-                finally:
-                    ran.kill()
+        by = ["valgrind", "--tool=callgrind", f"--callgrind-out-file={folder / 'counts'}", binary]
+        with Server(way, folder / "objects", folder / "place", *WAYS[way], by=by, errors=folder / "notes") as server:
+            talk(server, call, named, count)
+            server.child.send_signal(signal.SIGTERM)
+            server.awaited(60)
         return int(re.search(rb"Collected : (\d+)", (folder / "notes").read_bytes())[1])
 
 

@@ -19,11 +19,11 @@ both. --rows prints the rows as bench/README.md has them. It is no part of the g
 import argparse
 import os
 import pathlib
-import socket
 import statistics
 import subprocess
 import tempfile
 
+from gate.served import Server
 from tools.ready import TOP, given_words, program
 
 CELL = """object {name};
@@ -121,24 +121,12 @@ class Measured:
         self.server, self.load = (statistics.median(it[at] / it[0] for it in runs) for at in (2, 3))
 
 
-def free_port():
-    with socket.socket() as it:
-        it.bind(("127.0.0.1", 0))
-        return it.getsockname()[1]
-
-
-def processor_time(process):
-    """The processor seconds of a process that runs, its threads included."""
-    fields = pathlib.Path(f"/proc/{process}/stat").read_text(encoding="ascii").rpartition(")")[2].split()
-    return (int(fields[11]) + int(fields[12])) / os.sysconf("SC_CLK_TCK")
-
-
-def loaded(load, port, server, words):
+def loaded(load, server, words):
     """Loads a server: calls, seconds, the processor seconds of the server and of the load."""
-    used = processor_time(server)
-    with subprocess.Popen([load, port, *words], stdin=subprocess.PIPE, stdout=subprocess.PIPE, text=True) as it:
+    used = server.processor()
+    with subprocess.Popen([load, server.place, *words], stdin=subprocess.PIPE, stdout=subprocess.PIPE, text=True) as it:
         told = it.stdout.readline().split()
-        used = processor_time(server) - used
+        used = server.processor() - used
         it.stdin.close()
         if it.wait():
             raise SystemExit("the load failed")
@@ -149,19 +137,13 @@ def ran(program, load, case, calls):
     """One run of a case."""
     connections = sum(it[1] for it in case.groups)
     with tempfile.TemporaryDirectory() as folder:
-        source, port = pathlib.Path(folder) / "source.pp", str(free_port())
+        source = pathlib.Path(folder) / "source.pp"
         source.write_text(case.source, encoding="ascii")
-        words = [program, "serve", source, folder, port, "--sessions", str(connections)]
-        with subprocess.Popen(words, stdout=subprocess.PIPE, text=True) as server:
-            try:
-                if not server.stdout.readline().startswith("listening"):
-                    raise SystemExit(f"{case.title}: the server does not listen")
-                found = loaded(load, port, server.pid, case.words(calls))
-                server.communicate(timeout=300)
-            finally:
-                server.kill()
-    if server.returncode:
-        raise SystemExit(f"{case.title}: the server ended with status {server.returncode}")
+        with Server("serve", source, pathlib.Path(folder), "--sessions", connections, by=[program]) as server:
+            found = loaded(load, server, case.words(calls))
+            status = server.ended(300).status
+    if status:
+        raise SystemExit(f"{case.title}: the server ended with status {status}")
     return found
 
 

@@ -3,19 +3,17 @@ import os
 import select
 import shlex
 import socket
-import struct
 import subprocess
 import time
 
 from gate.cases import TOP, read_text
-from gate.served import Told
+from gate.served import Told, resets
 from gate.sessions import Step
 from gate.tried import Wrong
 
 # How long a client that must hear nothing listens, and how long one that sends what is taken waits for the server to take
 # more, in seconds.
 QUIET, PRESSES = 0.3, 1
-RESET = struct.pack("ii", 1, 0)
 # The most bytes that are read at a time for a line, or that are kept of what a server writes.
 MOST_BYTES = 1 << 20
 
@@ -169,7 +167,7 @@ class Connection(Client):
             self.it.shutdown(socket.SHUT_WR)
         elif step.form in ("hangs up", "resets"):
             if step.form == "resets":
-                self.it.setsockopt(socket.SOL_SOCKET, socket.SO_LINGER, RESET)
+                resets(self.it)
             self.close()
 
 

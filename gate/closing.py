@@ -14,17 +14,19 @@ import socket
 import sys
 import threading
 import time
+from collections.abc import Mapping
+from typing import Union
 
 from clients.python import pathclient
 from clients.python.pathclient import Cancelled, Lost, Object
+from gate.fakes import CLOSES, HOLDS, Fake, Mark
+from gate.tried import Wrong
 
 # How long anything may take, in seconds, and how long a closing that does not end is waited for while a call is held.
 SECONDS, HELD = 30, 0.2
 # The numbers that Linux gives to calls that wait for the other side (poll, connect, sendto, recvfrom, epoll_wait), and
 # to those that wait for a time, or for a thread of the program (clock_nanosleep, futex).
 WAITS, SLEEPS = {"7", "42", "44", "45", "232"}, {"230", "202"}
-# What a server does in place of an answer.
-CLOSES, HOLDS = object(), object()
 
 
 def awaited(what, holds):
@@ -36,37 +38,41 @@ def awaited(what, holds):
         time.sleep(0.001)
 
 
-class Answering:
-    """A server that answers a line by what its connection has for how the line begins, and else by nothing. Where that
+Answers = Union[Mapping[str, Union[bytes, Mark]], Mark]
+
+
+class Answering(Fake):
+    """A fake that answers a line by what its connection has for how the line begins, and else by nothing. Where that
     is CLOSES, it closes the connection; where a connection has `then`, it reads nothing behind its first line until
     `goes_on` is set. The last of `connections` stands for all after it; where that is HOLDS, no more are taken."""
 
-    def __init__(self, *connections):
-        self.connections, self.heard, self.taken, self.ends = connections, [], 0, 0
-        self.goes_on, self.kept = threading.Event(), []
-        self.socket = socket.create_server(("127.0.0.1", 0))
+    def __init__(self, *connections: Answers) -> None:
+        self.connections, self.ends, self.goes_on = connections, 0, threading.Event()
+        self.kept: list[socket.socket] = []
+        super().__init__(most=len(connections) - 1 if connections[-1] is HOLDS else 1000)
         self.socket.setsockopt(socket.SOL_SOCKET, socket.SO_RCVBUF, 4096)
-        self.port = self.socket.getsockname()[1]
-        threading.Thread(target=self.serve, daemon=True).start()
 
-    def serve(self):
-        with contextlib.suppress(OSError):
-            while (answers := self.connections[min(self.taken, len(self.connections) - 1)]) is not HOLDS:
-                connection = self.socket.accept()[0]
-                self.taken += 1
-                threading.Thread(target=self.answer, args=(connection, answers), daemon=True).start()
+    @property
+    def taken(self) -> int:
+        return len(self.open)
 
-    def answer(self, connection, answers):
-        with connection, contextlib.suppress(OSError), connection.makefile("rb") as lines:
+    def served(self, it: socket.socket, number: int) -> None:
+        super().served(it, number)
+        self.ends += 1
+
+    def serve(self, it: socket.socket, number: int) -> None:
+        answers = self.connections[min(number, len(self.connections) - 1)]
+        if isinstance(answers, Mark):
+            raise Wrong("a connection was taken where none is to be")
+        with it.makefile("rb") as lines:
             for line in lines:
                 self.heard.append(line.decode("ascii"))
                 sent = next((it for begin, it in answers.items() if self.heard[-1].startswith(begin)), b"")
-                if sent is CLOSES:
+                if isinstance(sent, Mark):
                     break
-                connection.sendall(sent)
+                it.sendall(sent)
                 if "then" in answers:
                     self.goes_on.wait()
-        self.ends += 1
 
     def has_heard(self, word):
         return any(it.split()[0] == word for it in list(self.heard))
@@ -83,12 +89,9 @@ class Answering:
         awaited(f"the end of the connections, closed at {place}", lambda: self.ends == self.taken)
         return [it for it in self.heard if not it.startswith("mark ")]
 
-    def stop(self):
+    def stop(self) -> None:
         self.goes_on.set()
-        # (this wakes the thread that waits in it)
-        with contextlib.suppress(OSError):
-            self.socket.shutdown(socket.SHUT_RDWR)
-        self.socket.close()
+        self.close()
 
 
 class Call:

@@ -1,8 +1,9 @@
 """A connection that breaks where it is told to, for tools that try clients."""
 import select
 import socket
-import struct
 import threading
+
+from gate.served import resets
 
 
 class Cutter(threading.Thread):
@@ -42,5 +43,5 @@ class Cutter(threading.Thread):
             if self.way and self.count <= 0:
                 self.way = None
                 for it in ways if self.resets else ():
-                    it.setsockopt(socket.SOL_SOCKET, socket.SO_LINGER, struct.pack("ii", 1, 0))
+                    resets(it)
                 return

@@ -343,7 +343,7 @@ class World:
     def close(self):
         for it in [*self.voices, self.observer]:
             it.it.close()
-        if self.server.child.poll() is None:
+        if self.server.runs():
             self.server.kill()
 
 

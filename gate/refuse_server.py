@@ -49,7 +49,7 @@ class Ran:
         server = Server("serve", self.objects, self.folder / "place", "--sessions", play.clients, env=env)
         server.begin()
         try:
-            self.port, self.output = server.port, server.child.stdout.readline()
+            self.port, self.output = server.port, server.line()
             if self.output:
                 self.clients = [it for _ in range(play.clients) if (it := self.connection())]
                 play.talk(self, *self.clients)

@@ -5,20 +5,18 @@ import pathlib
 import random
 import select
 import socket
-import struct
 import tempfile
 import threading
 import time
 from collections.abc import Callable
 
 from gate.drawn_objects import OBJECTS
-from gate.served import Server, Told, traced_wrongly
+from gate.served import Server, Told, resets, traced_wrongly
 from gate.slow_world import written
 from gate.tried import TOP, Wrong
 
 # How long an answer, and the end of a server, may take, in seconds.
 SECONDS = 20
-RESET = struct.pack("ii", 1, 0)
 # How a connection breaks: its input and output are closed, or by a reset, or its input alone, and what comes is read to the end.
 CUTS = ("hangs up", "resets", "sends no more")
 # Of each reply follows how often the calls before it were done.
@@ -145,7 +143,7 @@ class Named:
             except EOFError:
                 pass
         if how == "resets":
-            self.it.setsockopt(socket.SOL_SOCKET, socket.SO_LINGER, RESET)
+            resets(self.it)
         self.it.close()
 
     def quit(self):

@@ -10,6 +10,7 @@ have failed the others are not run, and cases whose client is in C where there i
 N is not.
 """
 import concurrent.futures
+import contextlib
 import os
 import pathlib
 import shutil
@@ -18,69 +19,65 @@ import subprocess
 import tempfile
 import threading
 import time
-from typing import BinaryIO
 
 from gate.cases import chosen_cases, is_like
 from gate.clients import MOST_BYTES, Connection, Program, Wrong
 from gate.difference import difference
-from gate.served import free_port, traced_wrongly
+from gate.served import Process, Told, free_port, traced_wrongly
 from gate.sessions import content, folder_faults, stories_of
-from gate.tried import given_words, lacks, program, whole
+from gate.tried import given_words, lacks, program, there, whole
 
 # How long a case may last, and how long a step may wait, in seconds.
 LASTS, WAITS = 240, 20
 # How many cases run at once: most of them wait. After so many that failed the others are not run, and have failed too.
 AT_ONCE, MOST_FAILED = 8, 24
+# What a case may send elsewhere, and how that file is opened.
+REDIRECTIONS = {"<": ("stdin", "rb"), ">": ("stdout", "wb")}
 
 
-class Server:
-    """A started server: what it writes is kept."""
+class Played(Process):
+    """A server that is started by the words of a case: what it writes is kept."""
 
-    def __init__(self, words, folder):
-        stdin: int | BinaryIO = subprocess.PIPE if "--stop-with-input" in words else subprocess.DEVNULL
-        stdout: int | BinaryIO = subprocess.PIPE
-        given = []
+    def __init__(self, words: list[str], folder: pathlib.Path) -> None:
+        given, files = [], {}
         rest = iter(words)
         for word in rest:
-            if word == "<":
-                stdin = open(next(rest), "rb")
-            elif word == ">":
-                stdout = open(next(rest), "wb")
+            if word in REDIRECTIONS:
+                files[word] = next(rest)
             else:
                 given.append(word)
-        self.ran = subprocess.Popen([program(), *given], stdin=stdin, stdout=stdout, stderr=subprocess.PIPE, cwd=folder)
-        self.output, self.error, self.told, self.is_killed = b"", b"", [], False
-        self.said = threading.Event()
+        self.output, self.said_error, self.is_killed, self.said = b"", b"", False, threading.Event()
+        self.told: list[Told] = []
+        with contextlib.ExitStack() as stack:
+            more = {REDIRECTIONS[it][0]: stack.enter_context(open(file, REDIRECTIONS[it][1])) for it, file in files.items()}
+            if "<" not in files and "--stop-with-input" not in words:
+                more["stdin"] = subprocess.DEVNULL
+            self.begin_by([program(), *given], cwd=folder, **more)
         self.readers = [threading.Thread(target=it) for it in (self.keep_output, self.keep_error)]
         for it in self.readers:
             it.start()
 
-    def keep_output(self):
-        while self.ran.stdout and (piece := os.read(self.ran.stdout.fileno(), 1 << 16)):
+    def keep_output(self) -> None:
+        while self.child.stdout and (piece := os.read(self.child.stdout.fileno(), 1 << 16)):
             self.output += piece if len(self.output) < MOST_BYTES else b""
             if b"\n" in self.output:
                 self.said.set()
         self.said.set()
 
-    def keep_error(self):
-        self.error = self.ran.stderr.read()
+    def keep_error(self) -> None:
+        self.said_error = there(self.child.stderr).buffer.read()
 
-    def await_end(self, seconds):
-        try:
-            self.ran.wait(seconds)
-        except subprocess.TimeoutExpired:
-            raise Wrong(f"the server has not ended after {seconds:.0f} seconds") from None
+    def await_end(self, seconds: float) -> None:
+        if self.awaited(seconds) is None:
+            raise Wrong(f"the server has not ended after {seconds:.0f} seconds")
         for it in self.readers:
             it.join()
 
-    def stop(self):
-        """Ends its standard input."""
-        self.ran.stdin.close()
-
-    def kill(self):
+    def kill(self) -> None:
         self.is_killed = True
-        self.ran.kill()
+        self.child.kill()
         self.await_end(WAITS)
+        self.close()
 
 
 class Stage:
@@ -115,7 +112,7 @@ class Stage:
         return min(left, WAITS)
 
     def start(self, more=""):
-        server = Server(self.words(more), self.room)
+        server = Played(self.words(more), self.room)
         self.servers.append(server)
         if not server.said.wait(self.left()):
             raise Wrong("the server says nothing")
@@ -138,8 +135,8 @@ class Stage:
 
     def end_server(self):
         self.servers[-1].await_end(self.left())
-        if self.servers[-1].ran.returncode != 0:
-            raise Wrong(f"the server ended with status {self.servers[-1].ran.returncode}")
+        if self.servers[-1].child.returncode != 0:
+            raise Wrong(f"the server ended with status {self.servers[-1].child.returncode}")
 
     def do_server(self, step):
         """Does a step that is none of a client, or answers False."""
@@ -195,13 +192,13 @@ class Stage:
         wanted = case.output.replace(b"PORT", str(self.port).encode())
         wanted_error = case.error.replace(b"port PORT", b"port %d" % self.port)
         # An input is named by its name.
-        error = last.error.replace(os.fsencode(self.room) + b"/", b"")
+        error = last.said_error.replace(os.fsencode(self.room) + b"/", b"")
         if not is_like(wanted_error, error):
             return ["standard error:", *difference(wanted_error, error)]
         if not is_like(wanted, output):
             return ["standard output:", *difference(wanted, output)]
-        if last.ran.returncode != case.status:
-            return [f"ended with status {last.ran.returncode}, not {case.status}"]
+        if last.child.returncode != case.status:
+            return [f"ended with status {last.child.returncode}, not {case.status}"]
         faults = [] if case.after is None else folder_faults(case.after, self.place)
         for name, text in case.traces.items():
             if (self.place / name).read_bytes() != text:
@@ -211,7 +208,7 @@ class Stage:
     def trace_faults(self):
         """What is wrong with the traces of the last server."""
         last = self.servers[-1]
-        if last.is_killed or last.ran.returncode:
+        if last.is_killed or last.child.returncode:
             return []
         faults = [wrong for it in last.told for wrong in it.wrong]
         for line in last.output.decode().splitlines():
@@ -250,7 +247,7 @@ def what_fails(case):
             stage.close()
     if not faults:
         return None
-    said = [f"    the server said {it.output[-200:]!r} {it.error[-200:]!r}" for it in stage.servers]
+    said = [f"    the server said {it.output[-200:]!r} {it.said_error[-200:]!r}" for it in stage.servers]
     return "\n".join([f"{case.name()}: {faults[0]}", *faults[1:], *said])
 
 

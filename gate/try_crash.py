@@ -21,7 +21,6 @@ import contextlib
 import random
 import shutil
 import socket
-import struct
 import subprocess
 import threading
 import time
@@ -29,7 +28,7 @@ import time
 from gate import crowd, kept, losing
 from gate.crowd import NAMES, SOURCE, Crowd
 from gate.kept import SECONDS, Talk
-from gate.served import free_port
+from gate.served import free_port, resets
 from gate.tried import Wrong, check, given_words, holds, loads, program
 
 CLIENTS = 64
@@ -337,7 +336,7 @@ def who_does_not_read_is_not_read(folder, **_):
     memory = server.memory("VmHWM")
     holds(memory <= 100_000, f"the server has {memory} KiB")
     # One of them breaks off.
-    gone.socket.setsockopt(socket.SOL_SOCKET, socket.SO_LINGER, struct.pack("ii", 1, 0))
+    resets(gone.socket)
     gone.socket.shutdown(socket.SHUT_RDWR)
     gone.close()
     found = 0

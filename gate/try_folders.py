@@ -85,7 +85,7 @@ class Server(served.Server):
 
     def start(self):
         self.begin()
-        self.line = self.child.stdout.readline()
+        self.first = self.line()
 
     def ask(self, *lines):
         """Says lines on a connection of its own, and gives what comes."""
@@ -181,7 +181,7 @@ def repair(folder, unsaved):
     """What docs/SERVING.md says of parts that were not saved: a start moves the value files away, a stop, and then the files of a part, one behind
     the other, are the part."""
     with Server(folder) as server:
-        check(server.line.startswith("listening "), "the second start failed")
+        check(server.first.startswith("listening "), "the second start failed")
         _, status, error = server.ended(LASTS)
     check(status == 0, f"the second run ended with {status}")
     moved = MOVED.search(error)
@@ -217,7 +217,7 @@ def try_two_servers():
         told = f"{folder}: another server has this folder\n"
         for more in (), ("--explain",):
             with Server(folder, *more) as second:
-                check(second.line == "", "a second server serves")
+                check(second.first == "", "a second server serves")
                 said, status, error = second.ended(LASTS)
             check((status, said, error) == (3, "", f"{told}read fault\n"), f"the second one ended with {status}, {said!r}, {error!r}")
         check(contents(folder) == before, "the second server changed the folder")
@@ -228,7 +228,7 @@ def try_two_servers():
     with place() as folder:
         for is_killed in (False, True, False):
             with Server(folder) as server:
-                check(server.line.startswith("listening "), "the folder of a server that has ended is not free")
+                check(server.first.startswith("listening "), "the folder of a server that has ended is not free")
                 if is_killed:
                     server.kill()
                 else:
@@ -327,7 +327,7 @@ def try_read_only():
             said, status, error = server.ended(LASTS)
             last = error.splitlines(keepends=True)[-2:]
             wanted = [f"{folder}: in this folder a part cannot be read, or no file can be made\n", "read fault\n"]
-            check((server.line, status, said, last) == ("", 3, "", wanted), f"a start in a read-only folder: {status}, {said!r}, {error!r}")
+            check((server.first, status, said, last) == ("", 3, "", wanted), f"a start in a read-only folder: {status}, {said!r}, {error!r}")
         check(contents(folder) == before, "a start in a read-only folder changed it")
         folder.chmod(0o755)
         repair(folder, unsaved)
@@ -431,7 +431,7 @@ def try_fewer_files():
             check(server.ended(LASTS).status == 0, "the first run failed")
         for files in range(4, 25):
             with Server(folder, other=False, files=files) as server:
-                heard = ask_or_not(server, "open two", f"call put {files}") if server.line else ""
+                heard = ask_or_not(server, "open two", f"call put {files}") if server.first else ""
                 said, status, error = server.ended(LASTS)
             if "done 1\n" in heard:
                 values["two.v"] = bytes.fromhex(f"02010001{files:08x}")
@@ -440,7 +440,7 @@ def try_fewer_files():
             for name, count in re.findall(r"(\w+) entries (\d+)\n", said):
                 legal = audited(folder.parent / "objects.pp", folder / f"{name}.trace")
                 check(legal == f"legal {count}\n", f"{files} files: {name}.trace is {legal!r}")
-            ends.add((bool(server.line), heard[-10:], status))
+            ends.add((bool(server.first), heard[-10:], status))
         check(not value_files(folder), "value files were left though all was saved")
     wanted = {(False, "", 3), (True, "", 3), (True, "one 1\nbye\n", 0)}
     check(wanted <= ends, f"with few files came {ends}")
@@ -492,7 +492,7 @@ def try_unlisted():
             before = contents(folder)
             check(value_files(folder), "a server that was killed left no value file")
             with Server(folder, env=lacking(folder, LISTING=fails)) as server:
-                check(server.line == "", f"a server whose listing fails at read {fails} serves")
+                check(server.first == "", f"a server whose listing fails at read {fails} serves")
                 said, status, error = server.ended(LASTS)
             check((status, said) == (3, "") and error.endswith("read fault\n"), f"{status}, {said!r}, {error!r}")
             check(contents(folder) == before, f"a listing that fails at read {fails} changed the folder")

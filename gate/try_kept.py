@@ -15,7 +15,6 @@ import os
 import resource
 import selectors
 import socket
-import struct
 import subprocess
 import threading
 import time
@@ -23,6 +22,7 @@ import time
 from gate import kept
 from gate.crowd import SOURCE
 from gate.kept import Server, Talk
+from gate.served import resets
 from gate.tried import check, given_words, holds, loads, until
 
 LONG = "x" * 1000
@@ -175,7 +175,7 @@ def more_than_at_once_wait(folder, big):
     here[1].close()
     here[2].socket.shutdown(socket.SHUT_WR)
     here[2].hears("")
-    here[3].socket.setsockopt(socket.SOL_SOCKET, socket.SO_LINGER, struct.pack("ii", 1, 0))
+    resets(here[3].socket)
     here[3].close()
     for it in late:
         it.stream = it.socket.makefile("rb")
@@ -242,7 +242,7 @@ def cut_at_each_byte(folder, big):
                     while left > 0 and (piece := it.recv(left)):
                         left -= len(piece)
             if is_reset and not server.at_path:
-                it.setsockopt(socket.SOL_SOCKET, socket.SO_LINGER, struct.pack("ii", 1, 0))
+                resets(it)
             it.close()
             with Talk(server) as again:
                 answer = "no InUse"
