@@ -13,9 +13,11 @@ import pathlib
 import re
 import signal
 import tempfile
+from collections.abc import Iterator
 
 from bench import keys
 from gate.served import Server
+from gate.tried import there
 from tools.ready import given_words, program
 
 # So many calls are made before those that are counted, and so many are sent at once.
@@ -24,14 +26,14 @@ FIRST, LOT = 1_000, 50
 WAYS = {"keep": ["--sync", "1000"], "serve": ["--sessions", "1"]}
 
 
-def lots(call, named, count):
+def lots(call: str, named: bool, count: int) -> Iterator[bytes]:
     """Lines with so many calls, in lots."""
     for first in range(1, count + 1, LOT):
         marks = [(f"#{it} " if named else "", str(it)) for it in range(first, first + LOT)]
         yield "".join(f"call {key}{call.replace('#', number)}\n" for key, number in marks).encode()
 
 
-def talk(server, call, named, count):
+def talk(server: Server, call: str, named: bool, count: int) -> None:
     """Makes so many calls, each of which has to be done."""
     with server.connect() as wire, wire.makefile("rb") as said:
         wire.sendall(b"open cell as c1\n" if named else b"open cell\n")
@@ -46,7 +48,7 @@ def talk(server, call, named, count):
                 done += line.startswith(b"done ")
 
 
-def counted(binary, way, call, named, count):
+def counted(binary: object, way: str, call: str, named: bool, count: int) -> int:
     """The instructions of a server from its start to its end."""
     with tempfile.TemporaryDirectory(prefix="counted-") as made:
         folder = pathlib.Path(made)
@@ -57,10 +59,10 @@ def counted(binary, way, call, named, count):
             talk(server, call, named, count)
             server.child.send_signal(signal.SIGTERM)
             server.awaited(60)
-        return int(re.search(rb"Collected : (\d+)", (folder / "notes").read_bytes())[1])
+        return int(there(re.search(rb"Collected : (\d+)", (folder / "notes").read_bytes()))[1])
 
 
-def main():
+def main() -> None:
     words = given_words()
     parser = argparse.ArgumentParser(usage=__doc__.split("\n\n")[1].removeprefix("usage: "))
     parser.add_argument("--before")

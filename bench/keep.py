@@ -93,7 +93,7 @@ def figures(name, found):
     return f"{name} {rate:,.0f} calls/s, half in {half:,.0f}, 99 % in {late:,.0f}, processor {used:.2f}"
 
 
-def say(title, names, found):
+def say(title, names, found) -> None:
     """Prints a row: of each server its medians, and how much more calls the first one answers."""
     first, second = ([pair[at] for pair in found] for at in (0, 1))
     ratios = sorted(one[0] / two[0] for one, two in found)
@@ -102,7 +102,7 @@ def say(title, names, found):
     print(f"{title}: {ratio:.2f} ({ratios[0]:.2f} to {ratios[-1]:.2f}); {figure}", flush=True)
 
 
-def rounds(options, title, names, one, two):
+def rounds(options, title, names, one, two) -> None:
     """Measures two servers in turn."""
     if options.only not in title:
         return
@@ -114,7 +114,7 @@ def rounds(options, title, names, one, two):
     say(title, names, found)
 
 
-def compare(options, title, sync, connections, ahead, calls):
+def compare(options, title, sync, connections, ahead, calls) -> None:
     first, own, other = calls
 
     def one():
@@ -128,7 +128,7 @@ def compare(options, title, sync, connections, ahead, calls):
     rounds(options, title, ("kept", "Redis"), one, two)
 
 
-def beside_serve(options):
+def beside_serve(options) -> None:
     first, own, _ = GET
 
     def measure(sync, way):
@@ -139,7 +139,7 @@ def beside_serve(options):
     rounds(options, "get, --sync 1000, 16", names, lambda: measure("1000", "keep"), lambda: measure("", "serve"))
 
 
-def in_a_row(options):
+def in_a_row(options) -> None:
     for sync in ("1000", "always"):
 
         def one():
@@ -154,7 +154,7 @@ def in_a_row(options):
         rounds(options, title, ("kept", "Redis"), one, two)
 
 
-def idle(options):
+def idle(options) -> None:
     """The memory of a server over its idle connections, each with an object that is open, and one call made."""
     title = f"idle, {MANY:,}"
     if options.only not in title:
@@ -171,7 +171,7 @@ def idle(options):
         print(f"{title}: {each:.2f} KiB each, with all that the server has; processor {used / 1e4:.2f} % while idle", flush=True)
 
 
-def raise_priority():
+def raise_priority() -> None:
     """All that is started from now on comes before other work of the machine, where this may be."""
     with contextlib.suppress(OSError):
         os.setsid()
@@ -181,7 +181,7 @@ def raise_priority():
         print("at the priority of other work", flush=True)
 
 
-def main():
+def main() -> None:
     asks = argparse.ArgumentParser(description=__doc__, formatter_class=argparse.RawDescriptionHelpFormatter)
     asks.add_argument("--program", type=pathlib.Path, metavar="FILE")
     asks.add_argument("--rounds", type=int, default=5, metavar="N")

@@ -67,7 +67,7 @@ def served(program, sessions):
 class Pairs:
     """Two figures of each of some runs that followed each other."""
 
-    def __init__(self, found):
+    def __init__(self, found) -> None:
         self.found = found
 
     def said(self, over):
@@ -84,7 +84,7 @@ def measured(program, load, connections, kinds, calls, name="cell"):
         return it.load(load, f"{name}:{connections}:{min(calls // connections, MOST)}:{kinds}")[:2]
 
 
-def compare(options, load):
+def compare(options, load) -> None:
     for title, connections, call in LOADS:
         calls = min(options.calls, MOST * connections)
         runs, again = [], []
@@ -102,7 +102,7 @@ def compare(options, load):
             print(f"{title}, asked for again: {rate:,.1f} a second, processor time {used:.1f}", flush=True)
 
 
-def memory(options, load):
+def memory(options, load) -> None:
     """The memory of 48,000 calls of 16 connections."""
     kinds = [("plain", options.program, "cell", ""), ("under keys", options.program, "!cell", "!")]
     kinds += [("before", options.before, "cell", "")] if options.before else []
@@ -116,7 +116,7 @@ def memory(options, load):
                   f"({min(found):.2f} to {max(found):.2f})", flush=True)
 
 
-def opening(options):
+def opening(options) -> None:
     """How long the last of 64 connections waits for the answer to its `open`, with 62 names there."""
     found = []
     for _ in range(options.runs):
@@ -137,7 +137,7 @@ def opening(options):
     print(f"`open cell as last` beside 63 names: {statistics.median(found):.0f} microseconds ({min(found):.0f} to {max(found):.0f})")
 
 
-def main():
+def main() -> None:
     asks = argparse.ArgumentParser(description=__doc__, formatter_class=argparse.RawDescriptionHelpFormatter)
     asks.add_argument("--before", metavar="FILE")
     asks.add_argument("--runs", type=int, default=7, metavar="N")

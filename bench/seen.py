@@ -66,7 +66,7 @@ def ask(talk, question):
     return [first, *(talk.hear() for _ in range(count))]
 
 
-def questions(options):
+def questions(options) -> None:
     """What one question costs, by its word."""
     with served() as server, waiting(server, options.waiting) as numbers, Talk(server, "open buffer", "opened buffer") as one:
         check(ask(one, f"why {numbers[0]}")[0], f"why {numbers[0]} Waiting 1", "an answer")
@@ -83,7 +83,7 @@ def questions(options):
             print(f"{word}, {options.waiting} wait, {size:,} bytes: {statistics.median(found):.1f} microseconds ({min(found):.1f} to {max(found):.1f})", flush=True)
 
 
-def idle(options):
+def idle(options) -> None:
     """What a status costs a second, of a server in which many wait and nobody asks."""
     found = ([], [])
     for turn in range(options.runs):
@@ -98,7 +98,7 @@ def idle(options):
     print(f"idle, {options.waiting} wait, microseconds a second without and with --status 1: {said}; {more / 10_000:.3f} of 100 parts of a processor more", flush=True)
 
 
-def calls(options):
+def calls(options) -> None:
     """What a call costs without and with a status."""
     found = ([], [])
     for turn in range(2 * options.runs):
@@ -115,7 +115,7 @@ def calls(options):
           f"{CALLS:,} calls in {spent:.1f} s", flush=True)
 
 
-def main():
+def main() -> None:
     asks = argparse.ArgumentParser(description=__doc__, formatter_class=argparse.RawDescriptionHelpFormatter)
     for name, count in (("runs", 5), ("asked", 2_000), ("waiting", 256), ("seconds", 20)):
         asks.add_argument(f"--{name}", type=int, default=count, metavar="N")

@@ -44,7 +44,7 @@ GETS, MIXED = "get", ",".join(["get"] * 9 + ["put #"])
 class Case:
     """A title, a source of objects, the groups of the load, and what the model says: a function of the numbers."""
 
-    def __init__(self, title, source, groups, rate):
+    def __init__(self, title, source, groups, rate) -> None:
         self.title, self.source, self.groups, self.rate = title, source, groups, rate
 
     def words(self, calls):
@@ -101,7 +101,7 @@ CASES = [
 class Numbers:
     """The numbers of the model, in seconds, from the cases that are measured for them."""
 
-    def __init__(self, found):
+    def __init__(self, found) -> None:
         self.latency = {name: 1 / found[it].rate for name, it in ALONE.items()}
         self.overlap, self.turn = 1 / found[OVERLAP].rate, 1 / found[TURNS].rate
 
@@ -115,7 +115,7 @@ class Numbers:
 class Measured:
     """Calls a second, and the processor seconds of a call, of the server and of the load."""
 
-    def __init__(self, runs):
+    def __init__(self, runs) -> None:
         self.rates = sorted(calls / seconds for calls, seconds, _, _ in runs)
         self.rate = statistics.median(self.rates)
         self.server, self.load = (statistics.median(it[at] / it[0] for it in runs) for at in (2, 3))
@@ -147,7 +147,7 @@ def ran(program, load, case, calls):
     return found
 
 
-def print_table(found, numbers, taken):
+def print_table(found, numbers, taken) -> None:
     print(f"{'case':51} {'calls a second':>14} {'least':>8} {'most':>8} {'model':>8} {'ratio':>6}  processor us of server, load")
     for case, it in found.items():
         said = case.rate(numbers)
@@ -155,14 +155,14 @@ def print_table(found, numbers, taken):
               f"{it.server * 1e6:.1f}, {it.load * 1e6:.1f}{' *' if case in taken else ''}")
 
 
-def print_rows(found, numbers, taken):
+def print_rows(found, numbers, taken) -> None:
     for case, it in found.items():
         said = case.rate(numbers)
         model = "taken from it | " if case in taken else f"{said:,.0f} | {it.rate / said:.2f} "
         print(f"| {case.title} | {it.rate:,.0f} | {it.rates[0]:,.0f} to {it.rates[-1]:,.0f} | {model}|")
 
 
-def main():
+def main() -> None:
     parser = argparse.ArgumentParser(description=__doc__, formatter_class=argparse.RawDescriptionHelpFormatter)
     parser.add_argument("--calls", type=int, default=16_000)
     parser.add_argument("--runs", type=int, default=9)

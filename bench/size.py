@@ -83,7 +83,7 @@ class Row:
     """A form of body on an object: its title, call N (from 0) with its answer, the calls that fill the part, and the like request of
     Redis with its answer, and those that fill it, where there is one."""
 
-    def __init__(self, name, title, call, fill, request=None, filling=None):
+    def __init__(self, name, title, call, fill, request=None, filling=None) -> None:
         self.name, self.title, self.call, self.fill, self.request, self.filling = name, title, call, fill, request, filling
 
 
@@ -154,7 +154,7 @@ def rows(size, length):
 class Running:
     """The program on scripts."""
 
-    def __init__(self, folder, options):
+    def __init__(self, folder, options) -> None:
         self.folder, self.options, self.steps, self.filling = folder, options, {}, {}
 
     def used(self, row, count):
@@ -205,7 +205,7 @@ def opening(name, size, length):
 class Auditing:
     """The program on traces."""
 
-    def __init__(self, folder, size, length):
+    def __init__(self, folder, size, length) -> None:
         self.folder, self.size, self.length = folder, size, length
 
     def used(self, row, count):
@@ -232,13 +232,13 @@ class Auditing:
 class Lots:
     """A connection to a server, which sends requests in lots."""
 
-    def __init__(self, port):
+    def __init__(self, port) -> None:
         self.wire, self.held = socket.create_connection(("127.0.0.1", port)), b""
 
     def __enter__(self):
         return self
 
-    def __exit__(self, *_):
+    def __exit__(self, *_) -> None:
         self.wire.close()
 
     def line(self):
@@ -261,7 +261,7 @@ class Lots:
                     found.append(end[1].decode())
         return found
 
-    def ask(self, pairs):
+    def ask(self, pairs) -> None:
         """Sends requests of Redis, each of which has this answer."""
         for at in range(0, len(pairs), LOT):
             lot = pairs[at : at + LOT]
@@ -276,7 +276,7 @@ class Lots:
 class Serving:
     """The program as a server of one session, by the way `serve` or `keep`."""
 
-    def __init__(self, folder, way):
+    def __init__(self, folder, way) -> None:
         self.folder, self.way = folder, way
 
     def measure(self, row, calls):
@@ -296,7 +296,7 @@ class Serving:
 class Beside:
     """Redis, which keeps nothing."""
 
-    def __init__(self, folder):
+    def __init__(self, folder) -> None:
         self.folder = folder
 
     def measure(self, row, calls):
@@ -347,7 +347,7 @@ def shown(figure):
     return f"{figure:,.1f}" if figure < 1_000 else f"{figure:,.0f}"
 
 
-def main():
+def main() -> None:
     words = given_words()
     numbers = lambda text: tuple(int(it) for it in text.split(","))
     parser = argparse.ArgumentParser(usage=__doc__.split("\n\n")[1].removeprefix("usage: "))

@@ -103,7 +103,7 @@ def goals(said, sources):
     return found
 
 
-def is_named(clause, found, source, contracts):
+def is_named(clause, found, source, contracts) -> bool:
     """Whether a goal is the one of this clause, as far as its name tells it. The source is the text of the edited files,
     and the contracts are the sources among which those of the function are."""
     if clause.holder and not re.search(rf"\b{clause.holder}\b", source):

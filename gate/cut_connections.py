@@ -237,7 +237,7 @@ def names_failed(words):
     return len(chosen), failed
 
 
-def main():
+def main() -> int:
     words = given_words()
     names = words[1:] if words[:1] == ["--names"] else None
     if names is None and not all(it.isdigit() for it in words):

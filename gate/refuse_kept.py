@@ -244,7 +244,7 @@ def each_of(pool, libraries, kind, numbers, jobs):
     return passed, failed
 
 
-def main():
+def main() -> int:
     given, words = options(given_words(), runs=150, jobs=len(os.sched_getaffinity(0)), first=1)
     if lacks("cc"):
         return 0

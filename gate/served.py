@@ -88,7 +88,7 @@ class Process:
         pipe = subprocess.PIPE
         with contextlib.ExitStack() as stack:
             errors: int | BinaryIO = stack.enter_context(self.errors.open("wb")) if self.errors else pipe
-            given = {"stdin": pipe, "stdout": pipe, "stderr": errors, **more}
+            given: dict[str, Any] = {"stdin": pipe, "stdout": pipe, "stderr": errors, **more}
             self.begun = subprocess.Popen([str(it) for it in words], text=True, **given)
 
     def line(self) -> str:

@@ -44,7 +44,7 @@ import threading
 import time
 
 from gate import kept
-from gate.fakes import HOLDS, RESETS, FakeMeter, FakeServer
+from gate.fakes import HOLDS, RESETS, FakeMeter, FakeServer, Rows
 from gate.tried import TOP, Wrong, given_words, lacks, new_folder, whole
 
 DRIVERS = TOP / "gate" / "drivers"
@@ -54,7 +54,7 @@ SECONDS, LATER = 20, 5
 LANES = 3
 
 
-def check(found, *wanted):
+def check(found, *wanted) -> None:
     if found not in wanted:
         raise Wrong(f"{found!r}, not {' or '.join(map(repr, wanted))}")
 
@@ -62,14 +62,14 @@ def check(found, *wanted):
 class Client:
     """A client, as its driver answers for it."""
 
-    def __init__(self, words):
+    def __init__(self, words) -> None:
         self.lines = queue.Queue()
         self.ran = subprocess.Popen(words, stdin=subprocess.PIPE, stdout=subprocess.PIPE, text=True, bufsize=1, start_new_session=True)
         threading.Thread(target=self.read, daemon=True).start()
         kind, *self.can = self.hear().split(" ")
         check(kind, "can")
 
-    def read(self):
+    def read(self) -> None:
         for line in self.ran.stdout:
             self.lines.put(line.rstrip("\n"))
         self.lines.put(None)
@@ -87,10 +87,10 @@ class Client:
         self.ran.stdin.write(f"{line}\n")
         return self.hear(seconds)
 
-    def open(self, server, name="-", wait=9000, wanted="opened"):
+    def open(self, server, name="-", wait=9000, wanted="opened") -> None:
         check(self.say(f"open {server.port} {server.name} {wait} {name}"), wanted)
 
-    def call(self, text, *wanted, within=0):
+    def call(self, text, *wanted, within=0) -> None:
         begun = time.monotonic()
         check(self.say(f"call {within} {text}"), *wanted)
         took = time.monotonic() - begun
@@ -102,10 +102,10 @@ class Client:
             self.ran.stdin.write(f"{line}\n")
         return [self.hear(seconds) for _ in texts]
 
-    def close(self):
+    def close(self) -> None:
         check(self.say("close"), "closed")
 
-    def end(self):
+    def end(self) -> None:
         with contextlib.suppress(OSError):
             self.ran.stdin.close()
         with contextlib.suppress(subprocess.TimeoutExpired):
@@ -137,10 +137,10 @@ def attempt(title, *needs):
     return kept
 
 
-def answered(title, rows, wanted, needs=(), within=0, **options):
+def answered(title, rows, wanted, needs=(), within=0, **options) -> None:
     """A call of `get`, which is answered so."""
 
-    def tried(client):
+    def tried(client) -> None:
         with FakeServer([OPENED, *rows], **options) as server:
             client.open(server)
             client.call("get", wanted, within=within)
@@ -180,7 +180,7 @@ answered("a call that ends in its time", [(GET, b"accepted 1\ndone 1 5\n")], "do
 
 
 @attempt("calls of one session, and its end")
-def _(client):
+def _(client) -> None:
     rows = [("call put 'it''s' 7", b"accepted 1\ndone 1\n"), ("call pop", b"no UnknownOp\n"), (GET, b"accepted 2\ndone 2 ''\n")]
     with FakeServer([OPENED, *rows, QUIT]) as server:
         client.open(server)
@@ -192,27 +192,28 @@ def _(client):
 
 
 @attempt("an object that is not there")
-def _(client):
+def _(client) -> None:
     with FakeServer([("open cell", b"no NoObject\n")]) as server:
         client.open(server, wanted="no NoObject")
 
 
 @attempt("no server")
-def _(client):
+def _(client) -> None:
     with FakeServer() as server:
         pass
     client.open(server, wanted="no server", wait=100)
 
 
 @attempt("a server that opens nothing")
-def _(client):
+def _(client) -> None:
     with FakeServer(*[[("open cell", b"opened cell"[:at])] for at in range(100)]) as server:
         client.open(server, wanted="no server", wait=150)
 
 
 @attempt("a server that is full", "within")
-def _(client):
-    with FakeServer(*[[("open cell", b""), HOLDS]] * 9) as server:
+def _(client) -> None:
+    full: Rows = [("open cell", b""), HOLDS]
+    with FakeServer(*[full] * 9) as server:
         begun = time.monotonic()
         client.open(server, wanted="no server", wait=150)
         if time.monotonic() - begun > LATER:
@@ -220,14 +221,14 @@ def _(client):
 
 
 @attempt("`opened` in pieces")
-def _(client):
+def _(client) -> None:
     with FakeServer([OPENED, (GET, b"accepted 1\ndone 1 5\n")], pause=0.002) as server:
         client.open(server)
         client.call("get", "done 5")
 
 
 @attempt("the next call after a lost one")
-def _(client):
+def _(client) -> None:
     with FakeServer([OPENED, (GET, b"accepted 9\n")], [OPENED, (GET, b"accepted 1\ndone 1 5\n"), QUIT]) as server:
         client.open(server)
         client.call("get", "lost")
@@ -237,7 +238,7 @@ def _(client):
 
 
 @attempt("a call without a name is not sent again")
-def _(client):
+def _(client) -> None:
     for cut in [("up", at) for at in (0, 3, 10, 11)] + [("down", at) for at in range(0, 21, 3)]:
         with FakeMeter() as server:
             client.open(server)
@@ -250,7 +251,7 @@ def _(client):
 
 
 @attempt("an answer to a cancel that comes late", "within")
-def _(client):
+def _(client) -> None:
     rows = [(GET, b"accepted 1\n"), ("cancel 1", b"cancelled 1\n"), (GET, b"cancel 1 Cancelled\naccepted 2\ndone 2 5\n")]
     with FakeServer([OPENED, *rows]) as server:
         client.open(server)
@@ -259,9 +260,9 @@ def _(client):
 
 
 @attempt("an `accepted` that comes when the time is over", "within")
-def _(client):
+def _(client) -> None:
     class Late(FakeServer):
-        def serve(self, it, number):
+        def serve(self, it, number) -> None:
             lines = it.makefile("rb")
             rows = ((b"open cell\n", 0, b"opened cell\n"), (b"call get\n", 0.6, b"accepted 1\n"), (b"cancel 1\n", 0, b"cancelled 1\n"))
             for wanted, wait, sent in rows:
@@ -280,7 +281,7 @@ def _(client):
 
 
 @attempt("keys", "name")
-def _(client):
+def _(client) -> None:
     rows = [("call #5 get", b"accepted 9\ndone 9 1\n"), ("call #6 pop", b"no UnknownOp\n"),
             ("call #6 get", b"accepted 10\nrefused 10 empty\n"), ("call #7 get", b"accepted 11\ncancelled 11\n"), ("call #8 get", b"accepted 12\ndone 12 2\n")]
     with FakeServer([opened(5), *rows, QUIT]) as server:
@@ -290,11 +291,11 @@ def _(client):
         client.close()
 
 
-def comes_back(title, wanted, *connections, key=5, sent=b"", wait=9000):
+def comes_back(title, wanted, *connections, key=5, sent=b"", wait=9000) -> None:
     """A call of a client with a name, whose connection breaks behind the call of this key."""
 
     @attempt(f"asked again: {title}", "name")
-    def _(client):
+    def _(client) -> None:
         with FakeServer([opened(key), (f"call #{key} get", sent)], *connections) as server:
             client.open(server, "ann", wait)
             client.call("get", wanted)
@@ -320,7 +321,7 @@ comes_back("a server that has the call, and stops", "lost", [opened(6), ("call #
 
 
 @attempt("a connection that ended between two calls", "name")
-def _(client):
+def _(client) -> None:
     first, rows = [opened(5), ("call #5 get", b"accepted 9\ndone 9 1\n")], [opened(6), ("call #6 get", b"accepted 10\ndone 10 2\n"), QUIT]
     with FakeServer(first, rows) as server:
         client.open(server, "ann")
@@ -331,7 +332,7 @@ def _(client):
 
 
 @attempt("a connection that ended between two calls, of a name that has called meanwhile", "name")
-def _(client):
+def _(client) -> None:
     first, rows = [opened(5), ("call #5 get", b"accepted 9\ndone 9 1\n")], [opened(8), ("call #8 get", b"accepted 13\ndone 13 2\n"), QUIT]
     with FakeServer(first, [opened(8), HOLDS], rows) as server:
         client.open(server, "ann")
@@ -343,7 +344,7 @@ def _(client):
 
 
 @attempt("a name that is in use for a while", "name")
-def _(client):
+def _(client) -> None:
     with FakeMeter(first=3, in_use=4) as server:
         client.open(server, "ann")
         client.call("add 5", "done 5")
@@ -352,13 +353,13 @@ def _(client):
 
 
 @attempt("a name that stays in use", "name")
-def _(client):
+def _(client) -> None:
     with FakeMeter(in_use=9999) as server:
         client.open(server, "ann", wait=150, wanted="no InUse")
 
 
 @attempt("a name that is in use when it comes back", "name")
-def _(client):
+def _(client) -> None:
     with FakeMeter() as server:
         client.open(server, "ann", wait=500)
         client.call("add 5", "done 5")
@@ -367,7 +368,7 @@ def _(client):
 
 
 @attempt("a connection that breaks each time", "name")
-def _(client):
+def _(client) -> None:
     with FakeMeter(first=5) as server:
         client.open(server, "ann")
         server.cuts_all = True
@@ -375,9 +376,9 @@ def _(client):
         check(server.sum, 0)
 
 
-def cut_at_each_byte(way, size, resets):
+def cut_at_each_byte(way, size, resets) -> None:
     @attempt(f"a connection that breaks at each byte {way}, {'by a reset' if resets else 'closed'}", "name")
-    def _(client):
+    def _(client) -> None:
         with FakeMeter(first=10) as server:
             server.resets = resets
             client.open(server, "ann")
@@ -397,28 +398,28 @@ for resets in (False, True):
 
 
 @attempt("calls that are sent ahead", "ahead")
-def _(client):
+def _(client) -> None:
     with FakeMeter(together=8) as server:
         client.open(server)
         check(client.ahead(*["add 5"] * 8), [f"done {5 * it}" for it in range(1, 9)])
 
 
 @attempt("many calls that are sent ahead", "ahead")
-def _(client):
+def _(client) -> None:
     with FakeMeter() as server:
         client.open(server)
         check(client.ahead(*["add 1"] * 300), [f"done {it}" for it in range(1, 301)])
 
 
 @attempt("a call sent ahead that is not taken", "ahead")
-def _(client):
+def _(client) -> None:
     with FakeMeter() as server:
         client.open(server)
         check(client.ahead("add 5", "pop", "add 5"), ["done 5", "no UnknownOp", "done 10"])
 
 
 @attempt("calls sent ahead under keys, of which some are not taken", "ahead", "name")
-def _(client):
+def _(client) -> None:
     with FakeMeter(together=7) as server:
         client.open(server, "ann")
         server.together = 1
@@ -431,7 +432,7 @@ def _(client):
 
 
 @attempt("calls sent ahead without a name, whose connection breaks", "ahead")
-def _(client):
+def _(client) -> None:
     with FakeMeter() as server:
         client.open(server)
         server.cut = ("down", len("accepted 1\ndone 1 5\naccepted 2\ndone 2 "))
@@ -441,7 +442,7 @@ def _(client):
 
 
 @attempt("calls sent ahead under keys, over a connection that breaks", "ahead", "name")
-def _(client):
+def _(client) -> None:
     with FakeMeter(first=10) as server:
         client.open(server, "ann")
         for turn in range(40):
@@ -457,7 +458,7 @@ def _(client):
 class Crew:
     """Clients of one kind, each of which does one try at a time."""
 
-    def __init__(self, name, words, build=()):
+    def __init__(self, name, words, build=()) -> None:
         self.name, self.words, self.build, self.idle, self.made = name, list(map(str, words)), build, queue.LifoQueue(), []
 
     def one(self, work):
@@ -475,7 +476,7 @@ class Crew:
             client.end()
             raise
 
-    def end(self):
+    def end(self) -> None:
         for it in self.made:
             it.end()
 
@@ -535,14 +536,14 @@ end;
 KILLS, ADDS, PATIENCE = 4, 30, 60
 
 
-def live(crews, room):
+def live(crews, room) -> None:
     """All clients at once over `pathserve keep` at a socket, which is killed meanwhile: nothing that was answered is lost,
     and under a name no call is done twice."""
     server = kept.Server(room, METER, at_path=True)
     server.start()
     sure, unsure, faults, had, is_over = collections.Counter(), collections.Counter(), [], set(), threading.Event()
 
-    def work(crew, client):
+    def work(crew, client) -> None:
         named = "name" in client.can
         while client.say(f"open {server.place} meter {500 * PATIENCE} {crew.name.lower() if named else '-'}") == "no server":
             time.sleep(0.01)
@@ -568,13 +569,13 @@ def live(crews, room):
                     raise Wrong(f"{crew.name}: {it!r}")
         client.close()
 
-    def worked(crew):
+    def worked(crew) -> None:
         try:
             crew.one(lambda client: work(crew, client))
         except Exception as error:
             faults.append(f"{type(error).__name__}: {error}")
 
-    def killed():
+    def killed() -> None:
         for _ in range(KILLS):
             time.sleep(random.uniform(0.3, 0.7))
             server.kill()
@@ -602,7 +603,7 @@ def live(crews, room):
             server.kill()
 
 
-def main():
+def main() -> int:
     words = sys.argv[1:]
     is_own = bool(words) and words[0] != "--program"
     if words[:1] == ["--help"]:

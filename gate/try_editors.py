@@ -118,7 +118,7 @@ def by_vim(text):
         return [it for line, row in zip(text.split("\n")[:-1], lines) for it in [*(row.split(" ") if line else []), ""]]
 
 
-def main():
+def main() -> int:
     if sys.argv[1:]:
         print(__doc__, file=sys.stderr)
         return 2

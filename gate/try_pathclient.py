@@ -38,12 +38,12 @@ OBJECTS = TOP / "examples" / "objects"
 SECONDS = 20
 
 
-def check(found, wanted):
+def check(found, wanted) -> None:
     if found != wanted or type(found) is not type(wanted):
         raise AssertionError(f"{found!r}, not {wanted!r}")
 
 
-def raised(kind, word, function, *arguments, **options):
+def raised(kind, word, function, *arguments, **options) -> None:
     """Whether calling this raises exactly this kind, with this word."""
     try:
         found = function(*arguments, **options)
@@ -61,7 +61,7 @@ def server_of(objects, sessions, folder, port=None):
     return Server("serve", objects, folder, "--sessions", sessions, place=port)
 
 
-def ends(server, said):
+def ends(server, said) -> None:
     """A server ends, as it has to now, and says this."""
     check(server.ended(SECONDS).said, said)
 
@@ -88,7 +88,7 @@ end;
 """
 
 
-def calls(folder):
+def calls(folder) -> None:
     with server_of(OBJECTS / "phone_book.pp", 1, folder) as server:
         with Object(server.port, "phone_book") as book:
             check(book.enter("ada", "12 34"), None)
@@ -108,7 +108,7 @@ def calls(folder):
         ends(server, "phone_book entries 14\n")
 
 
-def integers(folder):
+def integers(folder) -> None:
     with server_of(OBJECTS / "cell.pp", 1, folder) as server:
         with Object(server.port, "CELL") as cell:
             check(cell.put(4294967295), None)
@@ -118,7 +118,7 @@ def integers(folder):
             check(cell.get(), 0)
 
 
-def not_taken(folder):
+def not_taken(folder) -> None:
     """What the server does not take, and what is no argument: the session goes on."""
     with server_of(OBJECTS / "cell.pp", 2, folder) as server:
         with Object(server.port, "cell") as cell:
@@ -135,7 +135,7 @@ def not_taken(folder):
         ends(server, "cell entries 1\n")
 
 
-def waits(folder):
+def waits(folder) -> None:
     """A call that waits for another session, and one that is cancelled where it waits too long."""
     with server_of(OBJECTS / "bounded_buffer.pp", 2, folder) as server:
         with Object(server.port, "bounded_buffer") as consumer, Object(server.port, "bounded_buffer") as producer:
@@ -156,13 +156,13 @@ def waits(folder):
         ends(server, "bounded_buffer entries 4\n")
 
 
-def shared(folder):
+def shared(folder) -> None:
     """Threads that share a session: each has its own replies."""
     with server_of(OBJECTS / "phone_book.pp", 1, folder) as server:
         with Object(server.port, "phone_book") as book:
             wrong = []
 
-            def work(number):
+            def work(number) -> None:
                 for turn in range(40):
                     book.enter(f"{number} {turn}", f"{turn} of {number}")
                     if book.number_of(f"{number} {turn}") != f"{turn} of {number}":
@@ -177,7 +177,7 @@ def shared(folder):
             check(book.size(), 320)
 
 
-def killed(folder):
+def killed(folder) -> None:
     """A server that is killed while a call waits, and another one that takes its place."""
     with server_of(OBJECTS / "bounded_buffer.pp", 1, folder) as server:
         buffer = Object(server.port, "bounded_buffer", wait=0.5)
@@ -190,7 +190,7 @@ def killed(folder):
         ends(server, "bounded_buffer entries 1\n")
 
 
-def no_server(folder):
+def no_server(folder) -> None:
     raised(NoServer, None, Object, free_port(), "cell", wait=0)
     with server_of(OBJECTS / "cell.pp", 1, folder) as server:
         with Object(server.port, "cell") as cell:
@@ -202,7 +202,7 @@ def no_server(folder):
 def said(answers, kind, word, **options):
     """What a call gives, where these are the answers behind `opened cell`."""
 
-    def attempt(_):
+    def attempt(_: object) -> None:
         listener = answering([OPENED, *answers])
         cell = Object(listener.port, "cell", wait=0.3)
         if kind is None:
@@ -213,7 +213,7 @@ def said(answers, kind, word, **options):
     return attempt
 
 
-def after_lost(_):
+def after_lost(_: object) -> None:
     """A lost call is not sent again; the next call makes a new connection."""
     again = [OPENED, ("call put 2", b"accepted 1\ndone 1\n"), ("quit", b"bye\n")]
     listener = answering([OPENED, ("call put 1", b"accepted 9\n")], again)
@@ -224,7 +224,7 @@ def after_lost(_):
     check(listener.heard, ["open cell\n", "call put 1\n", "open cell\n", "call put 2\n", "quit\n"])
 
 
-def by_name(folder):
+def by_name(folder) -> None:
     """A session with a name goes on where the one before it ended; nobody else has its keys."""
     with server_of(OBJECTS / "cell.pp", 4, folder) as server:
         for turn in (1, 2, 3):
@@ -239,7 +239,7 @@ def by_name(folder):
         ends(server, "cell entries 13\n")
 
 
-def one_name_twice(folder):
+def one_name_twice(folder) -> None:
     """A name is in use until its session has ended."""
     with server_of(OBJECTS / "cell.pp", 3, folder) as server:
         cell = Object(server.port, "cell", client="ann")
@@ -250,7 +250,7 @@ def one_name_twice(folder):
         ends(server, "cell entries 1\n")
 
 
-def names_that_are_none(folder):
+def names_that_are_none(folder) -> None:
     with server_of(OBJECTS / "cell.pp", 2, folder) as server:
         for it in ("", "9", "a b", "a" * 65, "ann\nquit"):
             raised(ValueError, None, Object, server.port, "cell", client=it)
@@ -262,7 +262,7 @@ def names_that_are_none(folder):
 def cut_at_each_byte(way, size, resets):
     """A client with a name whose connection breaks at each byte of a call, or of its answer: each call is done once, and replied."""
 
-    def attempt(folder):
+    def attempt(folder) -> None:
         (folder / "meter.pp").write_text(METER)
         with server_of(folder / "meter.pp", size + 3, folder) as server:
             cutter = Cutter(server.port)
@@ -285,7 +285,7 @@ def comes_back(kind, word, *connections, key=5, heard=None, **options):
     """What a call of a client with a name gives, where the connection breaks behind the call of this key, and these are the answers on
     the connections that it makes then."""
 
-    def attempt(_):
+    def attempt(_: object) -> None:
         listener = answering([opened(key), (f"call #{key} get", b"")], *connections)
         cell = Object(listener.port, "cell", client="ann", wait=0.3)
         if kind is None:
@@ -298,7 +298,7 @@ def comes_back(kind, word, *connections, key=5, heard=None, **options):
     return attempt
 
 
-def after_the_return(_):
+def after_the_return(_: object) -> None:
     """The next call has the next key, also where a call was lost."""
     listener = answering([opened(5), ("call #5 put 1", b"accepted 9\n")], [opened(6), ("call #5 put 1", b"repeat done 9\n"),
                         ("call #6 put 2", b"no BadArgs\n"), ("call #6 put 3", b"accepted 10\n")],
@@ -310,12 +310,12 @@ def after_the_return(_):
     check(cell.put(4), None)
 
 
-def unopened(_):
+def unopened(_: object) -> None:
     listener = answering(*[[("open cell", b"")]] * 9)
     raised(NoServer, None, Object, listener.port, "cell", wait=0.3)
 
 
-def full(_):
+def full(_: object) -> None:
     """A server that takes no further client is told apart from one that is not there."""
     listener = answering([("open cell", b""), NEVER])
     try:
@@ -327,7 +327,7 @@ def full(_):
 def in_time(answers, kind, word):
     """A call with `within` ends in time, whatever the server does not say."""
 
-    def attempt(folder):
+    def attempt(folder) -> None:
         begun = time.monotonic()
         said([*answers, NEVER], kind, word, within=0.2)(folder)
         if not 0.2 <= time.monotonic() - begun < 5:
@@ -339,7 +339,7 @@ def in_time(answers, kind, word):
 def in_time_where(server, begun, kind, word, *arguments):
     """A call with `within` ends in time, where the server holds before it has heard the call."""
 
-    def attempt(_):
+    def attempt(_: object) -> None:
         answering = closing.Answering(*server)
         try:
             cell, _ = begun(answering)
@@ -353,7 +353,7 @@ def in_time_where(server, begun, kind, word, *arguments):
     return attempt
 
 
-def behind_another(_):
+def behind_another(_: object) -> None:
     """A call with `within` that only waits for the call of another thread is given up, and was not sent."""
     listener = answering([OPENED, ("call get", b"accepted 1\n"), NEVER])
     cell = Object(listener.port, "cell")
@@ -366,7 +366,7 @@ def behind_another(_):
     check(listener.heard, ["open cell\n", "call get\n", ""])
 
 
-def told_of_which(folder):
+def told_of_which(folder) -> None:
     """What is raised says of which call."""
     with server_of(OBJECTS / "cell.pp", 1, folder) as server, Object(server.port, "cell") as cell:
         for error, operation, arguments in (("BadArgs: put 'it''s' 2", "put", ("it's", 2)), ("UnknownOp: pop", "pop", ())):
@@ -378,7 +378,7 @@ def told_of_which(folder):
             raise AssertionError(f"nothing was raised, not {error}")
 
 
-def interrupted(_):
+def interrupted(_: object) -> None:
     """A reply that is none leaves no line for the next call."""
     again = [OPENED, ("call put 2", b"accepted 1\ndone 1\n")]
     listener = answering([OPENED, ("call get", b"accepted 1\ndone 1 x\n")], again)
@@ -387,7 +387,7 @@ def interrupted(_):
     check(cell.put(2), None)
 
 
-def by_word(_):
+def by_word(_: object) -> None:
     """A refusal is caught by its word, and as any other; it can be handed to another process."""
     listener = answering([OPENED, ("call get", b"accepted 1\nrefused 1 empty\n"), ("call get", b"accepted 2\nrefused 2 full\n")])
     cell, told = Object(listener.port, "cell"), []
@@ -403,7 +403,7 @@ def by_word(_):
     check(told, ["empty: empty: get", "full: get"])
 
 
-def sent_ahead(folder):
+def sent_ahead(folder) -> None:
     """Calls that are sent ahead: what came of each stands in its place."""
     with server_of(OBJECTS / "cell.pp", 2, folder) as server:
         for client in (None, "ann"):
@@ -414,7 +414,7 @@ def sent_ahead(folder):
         ends(server, "cell entries 88\n")
 
 
-def late_ahead(folder):
+def late_ahead(folder) -> None:
     """Calls that are sent ahead, and wait too long: each is cancelled."""
     with server_of(OBJECTS / "bounded_buffer.pp", 1, folder) as server, Object(server.port, "bounded_buffer", client="ann") as buffer:
         came = buffer.ahead(("put", "a"), ("get",), ("get",), ("put", "b"), within=0.5)
@@ -422,7 +422,7 @@ def late_ahead(folder):
         check(buffer.waiting(), 1 if came[3] is None else 0)
 
 
-def again_by_key(folder):
+def again_by_key(folder) -> None:
     """A program that was killed asks for its call by the key that it has written down."""
     with server_of(OBJECTS / "cell.pp", 3, folder) as server:
         with Object(server.port, "cell", client="ann") as cell:
@@ -458,10 +458,10 @@ end;
 class Kept(kept.Server):
     """A server of a lot, or of a source, at one port, that is killed and started again."""
 
-    def __init__(self, folder, source=LOT, *words):
+    def __init__(self, folder, source=LOT, *words) -> None:
         super().__init__(folder, source, *words, port=free_port())
 
-    def kill_for(self, seconds):
+    def kill_for(self, seconds) -> None:
         """Kills it, and starts it again after so many seconds."""
         self.kill()
         threading.Timer(seconds, self.start).start()
@@ -487,7 +487,7 @@ end;
 """
 
 
-def late(folder):
+def late(folder) -> None:
     """A name that was away for too long: what it held was given back under its keys. Its next call says so, whatever it calls, and the
     one behind it goes on."""
     with Kept(folder, SLOTS, "--away", "0") as server, Object(server.port, "lot", client="eve", wait=SECONDS) as other:
@@ -512,7 +512,7 @@ def late(folder):
         asyncio.run(late_tasks(server, other))
 
 
-def broken_off(server, other, lot):
+def broken_off(server, other, lot) -> None:
     """A block in which the server is killed, and gives back what the block holds."""
     with lot.holding("enter", "leave"):
         server.kill()
@@ -521,7 +521,7 @@ def broken_off(server, other, lot):
             time.sleep(0.01)
 
 
-async def late_tasks(server, other):
+async def late_tasks(server, other) -> None:
     async with aio.connect(server.port, "lot", client="bob", wait=SECONDS) as lot:
         await lot.enter()
         server.kill()
@@ -542,7 +542,7 @@ def not_as_it_was(kind):
     but for calls that were given up themselves."""
     first = [opened(5), ("call #5 get", b"accepted 9\ndone 9 1\n")]
 
-    def attempt(_):
+    def attempt(_: object) -> None:
         for key, back in ((6, [opened(6)]), (7, [opened(7), NEVER]), (30, [opened(20), NEVER]), (1, [opened(1)])):
             calls = (f"call #{key} get", b"accepted 10\ndone 10 2\n")
             if NEVER in back:
@@ -591,11 +591,11 @@ class Boom(Exception):
     pass
 
 
-def interrupt(*_):
+def interrupt(*_) -> None:
     raise Boom
 
 
-def holds(folder):
+def holds(folder) -> None:
     """A block holds what it has begun, and gives it back, however it ends, over a server that is killed and gone for a while."""
     with Kept(folder) as server:
         for name in NAMES:
@@ -625,7 +625,7 @@ def holds(folder):
             check(server.counts(), (0, 2))
 
 
-def holds_nothing(folder):
+def holds_nothing(folder) -> None:
     """Where the first call is not done the second one is not called; where the second one cannot be done it is said why."""
     with Kept(folder) as server, Object(server.port, "lot") as lot, Object(server.port, "lot", client="ann", wait=0.1) as late:
         raised(Rejected, "UnknownOp", held, lot, "come", "leave")
@@ -659,7 +659,7 @@ def held(it, *words, **options):
 def holds_over_cuts(way, size, resets):
     """A holder with a name whose connection breaks at each byte of a call or of its answer, at the beginning or at the end: it holds once."""
 
-    def attempt(folder):
+    def attempt(folder) -> None:
         with Kept(folder) as server, Object(server.port, "lot") as other:
             cutter = Cutter(server.port)
             with Object(cutter.port, "lot", client="ann") as lot:
@@ -709,7 +709,7 @@ def holds_in_doubt(kind):
     # (tasks come back by themselves where a connection ends, so theirs stays; and they ask again for what is nobody's any more)
     silent, times = ([*DOUBT, NEVER], 2) if kind == "tasks" else (DOUBT, 1)
 
-    def attempt(_):
+    def attempt(_: object) -> None:
         listener = answering(silent, [opened(6), *[("call #5 take", b"repeat done 9\n")] * times, ("call #6 give", GIVEN)])
         raised(Lost, None, held_by, kind, listener.port, "take", "give", within=0.1)
         check(heard_by(listener)[-1], "call #6 give\n")
@@ -728,7 +728,7 @@ def holds_in_doubt(kind):
     return attempt
 
 
-def interrupted_holding(_):
+def interrupted_holding(_: object) -> None:
     """An interrupt, as of Ctrl-C, while the first call waits."""
     listener = answering([*DOUBT[:2], NEVER], [opened(6), ("call #5 take", b"repeat done 9\n"), ("call #6 give", GIVEN)])
     cell, before = Object(listener.port, "cell", client="ann"), signal.signal(signal.SIGALRM, interrupt)
@@ -742,14 +742,14 @@ def interrupted_holding(_):
         signal.signal(signal.SIGALRM, before)
 
 
-def cancelled_holding(_):
+def cancelled_holding(_: object) -> None:
     """A task that is cancelled while its first call waits, which is then done all the same: it is ended."""
 
-    async def work(port, client):
+    async def work(port, client) -> None:
         cell = aio.connect(port, "cell", client=client)
         await cell.open()
 
-        async def hold():
+        async def hold() -> None:
             async with cell.holding("take", "give"):
                 raise AssertionError("there is a block")
 
@@ -767,13 +767,13 @@ def cancelled_holding(_):
         check(heard_by(listener)[-1], f"call {keys[1]}give\n")
 
 
-def late_cancel(folder):
+def late_cancel(folder) -> None:
     """A task that is cancelled while it gives back: it ends when that is done, and is cancelled then."""
 
-    async def work(server):
+    async def work(server) -> None:
         async with aio.connect(server.port, "lot") as lot:
 
-            async def hold():
+            async def hold() -> None:
                 async with lot.holding("enter", "leave"):
                     server.child.send_signal(signal.SIGSTOP)
 
@@ -793,7 +793,7 @@ def late_cancel(folder):
 def ends_in_doubt(kind):
     """The second call is asked again under its key, and called anew where it was not done."""
 
-    def attempt(_):
+    def attempt(_: object) -> None:
         for answer, key in ((b"no Memory\n", 6), (b"accepted 10\ncancelled 10\n", 7), (b"no Gone\n", 6)):
             again = (f"call #{key} give", b"accepted 11\ndone 11\n")
             listener = answering([opened(5), TAKEN, ("call #6 give", answer), again, ("quit", b"bye\n")])
@@ -812,7 +812,7 @@ def ends_later(kind):
     """A second call that is in doubt, of a server that is gone for longer than one is tried for, is asked for under its key; and where
     its end was that it was cancelled, as a new one."""
 
-    def attempt(_):
+    def attempt(_: object) -> None:
         for answers in ([(b"repeat done 10\n", 6)], [(b"repeat cancelled 10\n", 6), (b"accepted 11\ndone 11\n", 7)]):
             first = answering([opened(5), TAKEN, ("call #6 give", b"accepted 10\n")])
             calls, later = [(f"call #{key} give", answer) for answer, key in answers], []
@@ -824,7 +824,7 @@ def ends_later(kind):
     return attempt
 
 
-def again_after_lost(_):
+def again_after_lost(_: object) -> None:
     """A call that was lost is asked for again by its key in the same Object: a server that has it does it once."""
     listener = answering([opened(5), ("call #5 put 1", b"")],
                         [opened(6), ("call #5 put 1", b"repeat done 9\n"), ("call #6 get", b"accepted 10\ndone 10 1\n")])
@@ -833,14 +833,14 @@ def again_after_lost(_):
     check((cell.key, cell.call("put", 1, key=5), cell.get()), (5, None, 1))
 
 
-def holds_in_tasks(folder):
+def holds_in_tasks(folder) -> None:
     """A task that is cancelled within its block, before it, or behind it gives back what it holds."""
 
-    async def work(server):
+    async def work(server) -> None:
         for name in NAMES:
             async with aio.connect(server.port, "lot", client=name) as lot, aio.connect(server.port, "lot") as other:
 
-                async def hold(ends=None):
+                async def hold(ends=None) -> None:
                     async with lot.holding("enter", "leave"):
                         check(await other.held(), 1)
                         if ends is not None:
@@ -877,7 +877,7 @@ def holds_in_tasks(folder):
                     await asyncio.sleep(0.2)
                 check(server.counts()[0], 0)
 
-    async def held_in_task(lot):
+    async def held_in_task(lot) -> None:
         async with lot.holding("enter", "leave"):
             pass
 
@@ -885,7 +885,7 @@ def holds_in_tasks(folder):
         asyncio.run(work(server))
 
 
-def pool(folder):
+def pool(folder) -> None:
     """Calls of threads overlap over a pool; what waits for a session in vain is cancelled; a closed pool ends calls."""
     with server_of(OBJECTS / "bounded_buffer.pp", 8, folder) as server, Pool(server.port, "bounded_buffer", 3) as buffers:
         got = []
@@ -903,7 +903,7 @@ def pool(folder):
         check(buffers.waiting(within=SECONDS), 0)
         lost = []
 
-        def waits():
+        def waits() -> None:
             try:
                 buffers.get()
             except Lost as error:
@@ -918,10 +918,10 @@ def pool(folder):
         raised(Lost, "closed", buffers.waiting)
 
 
-def tasks(folder):
+def tasks(folder) -> None:
     """Calls of tasks: in order, beside each other over two objects, and cancelled with their tasks."""
 
-    async def work(port):
+    async def work(port) -> None:
         async with aio.connect(port, "bounded_buffer") as first, aio.connect(port, "bounded_buffer", client="ann") as second:
             got = asyncio.create_task(first.get())
             await asyncio.sleep(0.2)
@@ -958,7 +958,7 @@ def placed(code):
     return code.replace("from pathclient", "from clients.python.pathclient")
 
 
-def written_stubs(folder):
+def written_stubs(folder) -> None:
     """The classes that are written for each example can be called."""
     for source in OBJECTS.glob("*.pp"):
         for is_aio in (False, True):
@@ -991,7 +991,7 @@ def written_stubs(folder):
         check((rules, re.findall(r"def holding_(\w+)", stubs.stubs(text, False, "o"))), (rules, wanted))
 
 
-def judged(folder):
+def judged(folder) -> None:
     """What mypy says of the library, of what stubs writes, and of a program that calls by it."""
     for is_aio in (False, True):
         names = ("job_queue", "leader", "ledger", "phone_book", "print_spooler")
@@ -1026,7 +1026,7 @@ def client_of(folder, name):
 def gone(name, answers, output, error):
     """A client whose server is gone: what was answered is told, and what was not is told apart."""
 
-    def attempt(folder):
+    def attempt(folder) -> None:
         listener = answering(answers)
         words = [*client_of(folder, name), str(listener.port), "cell", "put 7", "get"]
         ran = subprocess.run(words, capture_output=True, text=True, timeout=SECONDS, check=False)
@@ -1038,7 +1038,7 @@ def gone(name, answers, output, error):
 def resuming(answers, status, output, error="", calls=("put 7", "get")):
     """What the client that resumes prints, where these are the answers on the connections that it makes."""
 
-    def attempt(folder):
+    def attempt(folder) -> None:
         listener = answering(*answers)
         words = [*client_of(folder, "resuming.py"), str(listener.port), "cell", "ann", *calls]
         ran = subprocess.run(words, capture_output=True, text=True, timeout=SECONDS, check=False)
@@ -1047,7 +1047,7 @@ def resuming(answers, status, output, error="", calls=("put 7", "get")):
     return attempt
 
 
-def cut_resuming(folder):
+def cut_resuming(folder) -> None:
     """The client that resumes, over a connection that breaks at each byte of its calls and of their answers."""
     (folder / "meter.pp").write_text(METER)
     with server_of(folder / "meter.pp", 64, folder) as server:
@@ -1070,7 +1070,7 @@ def cut_resuming(folder):
 
 
 def none_there(name):
-    def attempt(folder):
+    def attempt(folder) -> None:
         words = [*client_of(folder, name), str(free_port()), "cell", "get"]
         ran = subprocess.run(words, capture_output=True, text=True, timeout=SECONDS, check=False)
         check((ran.returncode, ran.stdout, ran.stderr.startswith("client: there is no server: ")), (3, "", True))
@@ -1078,7 +1078,7 @@ def none_there(name):
     return attempt
 
 
-def guide(folder):
+def guide(folder) -> None:
     """The last step of the guide: its object, its server, its calls."""
     text = (TOP / "docs" / "LANGUAGE.md").read_text(encoding="utf-8")
     blocks = re.findall(r"^```(\w*)\n(.*?)^```$", text, re.S | re.M)
@@ -1236,7 +1236,7 @@ def trials():
     return [Trial(title, in_folder("pathclient", attempt)) for title, attempt in TRIES]
 
 
-def main():
+def main() -> int:
     if given_words():
         print(__doc__, file=sys.stderr)
         return 2

@@ -574,7 +574,7 @@ def trials(folder):
     return (Trial(title, attempt) for title, attempt in tries(folder))
 
 
-def main():
+def main() -> int:
     with tempfile.TemporaryDirectory() as folder:
         return run("try_status", trials(pathlib.Path(folder)), given_words())
 
