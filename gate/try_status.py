@@ -211,7 +211,7 @@ def ran(folder, *words):
     told, error, before, sys.argv = io.StringIO(), io.StringIO(), sys.argv, [str(TOOL), str(folder), *words]
     with contextlib.redirect_stdout(told), contextlib.redirect_stderr(error):
         try:
-            found = status.main()
+            found: object = status.main()
         except SystemExit as it:
             found = it.code
         finally:
