@@ -294,8 +294,8 @@ def is_by_its_clause(rt, crate, file, edit, said, how) -> bool:
     holder = holder_of(sources[edit.source].split("\n"), edit.functions[0]) if edit else ""
     edited = "\n".join(sources.get(it, "") for it in texts)
     below = (text for one in crate.below() for text in texts_in(one).values())
-    offers = sorted(found, key=lambda it: (it.kind == "loop", it.kind != "ensures"))
-    offers = list(dict.fromkeys(clauses.spelled(clauses.offered(it, holder, edited)) for it in offers))
+    likely = sorted(found, key=lambda it: (it.kind == "loop", it.kind != "ensures"))
+    offers = list(dict.fromkeys(clauses.spelled(clauses.offered(it, holder, edited)) for it in likely))
     label, named = f"{crate.name}/{os.path.basename(file)[: -len('.edit')]}", clause_of(file)
     told = ", ".join(f"`{it.goal}`" for it in found) or " ".join([it for it in said if ": error" in it][:1])[:200] or "nothing that it names"
     if not named and offers and NAMING:
