@@ -14,11 +14,12 @@ import pathlib
 import statistics
 import subprocess
 import tempfile
+from collections.abc import Callable, Iterable
 
 from bench import keys
 
 
-def said(found, more, best):
+def said(found: list[list[float]], more: Callable[[float, float], float], best: Callable[[Iterable[float]], float]) -> str:
     """What two programs took, and how much more the second one did: `more` says what of two figures is their ratio, and
     `best` which of many is the best one."""
     before, after = (statistics.median(it[at] for it in found) for at in (0, 1))
@@ -29,7 +30,7 @@ def said(found, more, best):
     return f"{before:,.2f} before, {after:,.2f} after: {more(before, after):.3f} times; {by_pairs}; {by_best}"
 
 
-def compare(options, load):
+def compare(options: argparse.Namespace, load: pathlib.Path) -> None:
     for title, connections, call in keys.LOADS:
         found = []
         for turn in range(options.runs):
@@ -43,13 +44,13 @@ def compare(options, load):
         print(f"{title}, calls a second: {said(rates, lambda a, b: a / b, max)}", flush=True)
 
 
-def measured(program, load, connections, group):
+def measured(program: pathlib.Path, load: pathlib.Path, connections: int, group: str) -> tuple[float, float]:
     """Calls a second, and microseconds of the server's processor time for each."""
     with keys.served(program, connections) as it:
         return it.load(load, group)[:2]
 
 
-def main():
+def main() -> None:
     asks = argparse.ArgumentParser(description=__doc__, formatter_class=argparse.RawDescriptionHelpFormatter)
     asks.add_argument("before", type=pathlib.Path)
     asks.add_argument("after", type=pathlib.Path)

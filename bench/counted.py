@@ -12,11 +12,12 @@ import argparse
 import pathlib
 import re
 import signal
-import socket
-import subprocess
 import tempfile
+from collections.abc import Iterator
 
 from bench import keys
+from gate.served import Server
+from gate.tried import there
 from tools.ready import given_words, program
 
 # So many calls are made before those that are counted, and so many are sent at once.
@@ -25,16 +26,16 @@ FIRST, LOT = 1_000, 50
 WAYS = {"keep": ["--sync", "1000"], "serve": ["--sessions", "1"]}
 
 
-def lots(call, named, count):
+def lots(call: str, named: bool, count: int) -> Iterator[bytes]:
     """Lines with so many calls, in lots."""
     for first in range(1, count + 1, LOT):
         marks = [(f"#{it} " if named else "", str(it)) for it in range(first, first + LOT)]
         yield "".join(f"call {key}{call.replace('#', number)}\n" for key, number in marks).encode()
 
 
-def talk(port, call, named, count):
+def talk(server: Server, call: str, named: bool, count: int) -> None:
     """Makes so many calls, each of which has to be done."""
-    with socket.create_connection(("127.0.0.1", port)) as wire, wire.makefile("rb") as said:
+    with server.connect() as wire, wire.makefile("rb") as said:
         wire.sendall(b"open cell as c1\n" if named else b"open cell\n")
         said.readline()
         for lot in lots(call, named, count):
@@ -47,28 +48,21 @@ def talk(port, call, named, count):
                 done += line.startswith(b"done ")
 
 
-def counted(binary, way, call, named, count):
+def counted(binary: object, way: str, call: str, named: bool, count: int) -> int:
     """The instructions of a server from its start to its end."""
     with tempfile.TemporaryDirectory(prefix="counted-") as made:
-        folder, port = pathlib.Path(made), keys.free_port()
+        folder = pathlib.Path(made)
         (folder / "objects").write_text(keys.CELL, encoding="ascii")
         (folder / "place").mkdir()
-        words = ["valgrind", "--tool=callgrind", f"--callgrind-out-file={folder / 'counts'}", binary]
-        words += [way, folder / "objects", folder / "place", port, *WAYS[way]]
-        with (folder / "notes").open("wb") as notes:
-            with subprocess.Popen([str(it) for it in words], stdout=subprocess.PIPE, stderr=notes) as ran:
-                try:
-                    if not ran.stdout.readline().startswith(b"listening"):
-                        raise SystemExit(f"{binary} does not serve")
-                    talk(port, call, named, count)
-                    ran.send_signal(signal.SIGTERM)
-                    ran.wait(60)
-                finally:
-                    ran.kill()
-        return int(re.search(rb"Collected : (\d+)", (folder / "notes").read_bytes())[1])
+        by = ["valgrind", "--tool=callgrind", f"--callgrind-out-file={folder / 'counts'}", binary]
+        with Server(way, folder / "objects", folder / "place", *WAYS[way], by=by, errors=folder / "notes") as server:
+            talk(server, call, named, count)
+            server.child.send_signal(signal.SIGTERM)
+            server.awaited(60)
+        return int(there(re.search(rb"Collected : (\d+)", (folder / "notes").read_bytes()))[1])
 
 
-def main():
+def main() -> None:
     words = given_words()
     parser = argparse.ArgumentParser(usage=__doc__.split("\n\n")[1].removeprefix("usage: "))
     parser.add_argument("--before")

@@ -16,7 +16,6 @@ import argparse
 import contextlib
 import os
 import pathlib
-import re
 import resource
 import statistics
 import subprocess
@@ -24,6 +23,8 @@ import tempfile
 import time
 
 from bench import keys
+from bench.peer import Redis
+from gate.served import Server
 from tools.ready import program
 
 BUFFER = """object buffer;
@@ -51,39 +52,6 @@ ROWS = (
 )
 
 
-class Server:
-    """A server that runs, by the number of its process and its port."""
-
-    def __init__(self, pid, port):
-        self.pid, self.port = pid, port
-
-    def resident(self):
-        """The memory that is resident, in KiB."""
-        status = pathlib.Path(f"/proc/{self.pid}/status").read_text(encoding="ascii")
-        return int(re.search(r"VmRSS:\s+(\d+) kB", status)[1])
-
-    def processor(self):
-        """The processor time of its threads so far, in microseconds."""
-        tasks = pathlib.Path(f"/proc/{self.pid}/task").glob("*/schedstat")
-        return sum(int(it.read_text(encoding="ascii").split()[0]) for it in tasks) / 1000
-
-
-@contextlib.contextmanager
-def running(words, port, folder, ready):
-    """A server, from when it says that it is ready, until the end of the block."""
-    said = folder / "said"
-    with said.open("w") as out, subprocess.Popen([str(it) for it in words], cwd=folder, stdout=out, stderr=out) as ran:
-        try:
-            until = time.monotonic() + 60
-            while ready not in said.read_text():
-                if time.monotonic() > until or ran.poll() is not None:
-                    raise SystemExit(f"{words[0]} does not serve: {said.read_text()}")
-                time.sleep(0.01)
-            yield Server(ran.pid, port)
-        finally:
-            ran.kill()
-
-
 @contextlib.contextmanager
 def folder():
     with tempfile.TemporaryDirectory(prefix="bench-keep-") as name:
@@ -94,33 +62,30 @@ def folder():
 def kept(binary, sync, most, way="keep"):
     """A server of the objects that are measured."""
     with folder() as where:
-        place, port = where / "place", keys.free_port()
-        place.mkdir()
+        (where / "place").mkdir()
         (where / "objects").write_text(keys.CELL + BUFFER, encoding="ascii")
-        more = ["--sync", sync, "--at-once", str(most)] if way == "keep" else ["--sessions", str(most)]
-        with running([binary, way, where / "objects", place, str(port), *more], port, where, "listening ") as it:
+        more = ["--sync", sync, "--at-once", most] if way == "keep" else ["--sessions", most]
+        with Server(way, where / "objects", where / "place", *more, by=[binary], errors=where / "said") as it:
             yield it
 
 
 @contextlib.contextmanager
 def redis(sync):
     with folder() as where:
-        port = keys.free_port()
-        words = ["redis-server", "--port", port, "--bind", "127.0.0.1", "--dir", where, "--appendonly", "yes", "--save", ""]
-        words += ["--appendfsync", "always" if sync == "always" else "everysec", "--maxclients", MANY + 1_000]
-        with running(words, port, where, "Ready to accept connections") as it:
+        words = ["--appendonly", "yes", "--appendfsync", "always" if sync == "always" else "everysec"]
+        with Redis(where, *words, "--maxclients", MANY + 1_000) as it:
             yield it
 
 
 def load(options, server, connections, seconds, ahead, lines, request, first=None):
     """Calls a second, the microseconds in which half and 99 of 100 are answered, and those of the server for a call."""
-    used = server.processor()
+    used = server.microseconds()
     words = [options.lines, server.port, connections, seconds, ahead, lines, request, *([first] if first else [])]
     ran = subprocess.run([str(it) for it in words], stdout=subprocess.PIPE, text=True)
     said = ran.stdout.split()
     if ran.returncode or not said or said[1] == "0":
         raise SystemExit("a call was not answered")
-    return int(said[1]) / float(said[3]), int(said[5]), int(said[7]), (server.processor() - used) / int(said[1])
+    return int(said[1]) / float(said[3]), int(said[5]), int(said[7]), (server.microseconds() - used) / int(said[1])
 
 
 def figures(name, found):
@@ -128,7 +93,7 @@ def figures(name, found):
     return f"{name} {rate:,.0f} calls/s, half in {half:,.0f}, 99 % in {late:,.0f}, processor {used:.2f}"
 
 
-def say(title, names, found):
+def say(title, names, found) -> None:
     """Prints a row: of each server its medians, and how much more calls the first one answers."""
     first, second = ([pair[at] for pair in found] for at in (0, 1))
     ratios = sorted(one[0] / two[0] for one, two in found)
@@ -137,7 +102,7 @@ def say(title, names, found):
     print(f"{title}: {ratio:.2f} ({ratios[0]:.2f} to {ratios[-1]:.2f}); {figure}", flush=True)
 
 
-def rounds(options, title, names, one, two):
+def rounds(options, title, names, one, two) -> None:
     """Measures two servers in turn."""
     if options.only not in title:
         return
@@ -149,7 +114,7 @@ def rounds(options, title, names, one, two):
     say(title, names, found)
 
 
-def compare(options, title, sync, connections, ahead, calls):
+def compare(options, title, sync, connections, ahead, calls) -> None:
     first, own, other = calls
 
     def one():
@@ -163,7 +128,7 @@ def compare(options, title, sync, connections, ahead, calls):
     rounds(options, title, ("kept", "Redis"), one, two)
 
 
-def beside_serve(options):
+def beside_serve(options) -> None:
     first, own, _ = GET
 
     def measure(sync, way):
@@ -174,7 +139,7 @@ def beside_serve(options):
     rounds(options, "get, --sync 1000, 16", names, lambda: measure("1000", "keep"), lambda: measure("", "serve"))
 
 
-def in_a_row(options):
+def in_a_row(options) -> None:
     for sync in ("1000", "always"):
 
         def one():
@@ -189,7 +154,7 @@ def in_a_row(options):
         rounds(options, title, ("kept", "Redis"), one, two)
 
 
-def idle(options):
+def idle(options) -> None:
     """The memory of a server over its idle connections, each with an object that is open, and one call made."""
     title = f"idle, {MANY:,}"
     if options.only not in title:
@@ -198,15 +163,15 @@ def idle(options):
         words = [options.lines, it.port, MANY, 0, 0, 2, PUT[1], PUT[0]]
         with subprocess.Popen([str(word) for word in words], stdin=subprocess.PIPE, stdout=subprocess.PIPE, text=True) as ran:
             ran.stdout.readline()
-            each = it.resident() / MANY
-            used = it.processor()
+            each = it.memory() / MANY
+            used = it.microseconds()
             time.sleep(5)
-            used = (it.processor() - used) / 5
+            used = (it.microseconds() - used) / 5
             ran.stdin.close()
         print(f"{title}: {each:.2f} KiB each, with all that the server has; processor {used / 1e4:.2f} % while idle", flush=True)
 
 
-def raise_priority():
+def raise_priority() -> None:
     """All that is started from now on comes before other work of the machine, where this may be."""
     with contextlib.suppress(OSError):
         os.setsid()
@@ -216,7 +181,7 @@ def raise_priority():
         print("at the priority of other work", flush=True)
 
 
-def main():
+def main() -> None:
     asks = argparse.ArgumentParser(description=__doc__, formatter_class=argparse.RawDescriptionHelpFormatter)
     asks.add_argument("--program", type=pathlib.Path, metavar="FILE")
     asks.add_argument("--rounds", type=int, default=5, metavar="N")

@@ -14,13 +14,13 @@ gate.
 import argparse
 import contextlib
 import pathlib
-import re
 import socket
 import statistics
 import subprocess
 import tempfile
 import time
 
+from gate.served import Server
 from tools.ready import given_words, program
 
 CELL = """object cell;
@@ -37,37 +37,18 @@ LOADS = (("get, 1 connection", 1, "get"), ("put, 1 connection", 1, "put #"), ("g
 MOST = 3_000
 
 
-def free_port():
-    with socket.socket() as it:
-        it.bind(("127.0.0.1", 0))
-        return it.getsockname()[1]
-
-
-class Served:
-    """A server of the cell that runs, by the number of its process and its port, and a load on it."""
-
-    def __init__(self, pid, port):
-        self.pid, self.port = pid, port
-
-    def resident(self):
-        """The memory that is resident, in MiB."""
-        status = pathlib.Path(f"/proc/{self.pid}/status").read_text(encoding="ascii")
-        return int(re.search(r"VmRSS:\s+(\d+) kB", status)[1]) / 1024
-
-    def processor(self):
-        """The processor time of its threads so far, in microseconds."""
-        tasks = pathlib.Path(f"/proc/{self.pid}/task").glob("*/schedstat")
-        return sum(int(it.read_text(encoding="ascii").split()[0]) for it in tasks) / 1000
+class Served(Server):
+    """A server of the cell, and a load on it."""
 
     def load(self, load, group):
-        """Calls a second of a load, the processor time of the server for each, in microseconds, and what is resident when its last
-        call is done."""
-        used = self.processor()
+        """Calls a second of a load, the processor time of the server for each, in microseconds, and the MiB that are
+        resident when its last call is done."""
+        used = self.microseconds()
         with subprocess.Popen([load, str(self.port), group], stdin=subprocess.PIPE, stdout=subprocess.PIPE, text=True) as it:
             words = it.stdout.readline().split()
             if not words:
                 raise SystemExit("a call was not done")
-            used, resident = self.processor() - used, self.resident()
+            used, resident = self.microseconds() - used, self.memory() / 1024
             it.stdin.close()
         return int(words[1]) / float(words[3]), used / int(words[1]), resident
 
@@ -76,23 +57,17 @@ class Served:
 def served(program, sessions):
     """A server of the cell for so many connections, which ends with the block, as does its folder."""
     with tempfile.TemporaryDirectory(prefix="keys-") as folder:
-        objects, place, port = pathlib.Path(folder) / "objects", pathlib.Path(folder) / "place", free_port()
+        objects, place = pathlib.Path(folder) / "objects", pathlib.Path(folder) / "place"
         place.mkdir()
         objects.write_text(CELL, encoding="ascii")
-        words = [program, "serve", objects, place, str(port), "--sessions", str(sessions)]
-        with subprocess.Popen(words, stdout=subprocess.PIPE, text=True) as ran:
-            try:
-                if not ran.stdout.readline().startswith("listening"):
-                    raise SystemExit("the server does not listen")
-                yield Served(ran.pid, port)
-            finally:
-                ran.kill()
+        with Served("serve", objects, place, "--sessions", sessions, by=[program]) as it:
+            yield it
 
 
 class Pairs:
     """Two figures of each of some runs that followed each other."""
 
-    def __init__(self, found):
+    def __init__(self, found) -> None:
         self.found = found
 
     def said(self, over):
@@ -109,7 +84,7 @@ def measured(program, load, connections, kinds, calls, name="cell"):
         return it.load(load, f"{name}:{connections}:{min(calls // connections, MOST)}:{kinds}")[:2]
 
 
-def compare(options, load):
+def compare(options, load) -> None:
     for title, connections, call in LOADS:
         calls = min(options.calls, MOST * connections)
         runs, again = [], []
@@ -127,7 +102,7 @@ def compare(options, load):
             print(f"{title}, asked for again: {rate:,.1f} a second, processor time {used:.1f}", flush=True)
 
 
-def memory(options, load):
+def memory(options, load) -> None:
     """The memory of 48,000 calls of 16 connections."""
     kinds = [("plain", options.program, "cell", ""), ("under keys", options.program, "!cell", "!")]
     kinds += [("before", options.before, "cell", "")] if options.before else []
@@ -141,7 +116,7 @@ def memory(options, load):
                   f"({min(found):.2f} to {max(found):.2f})", flush=True)
 
 
-def opening(options):
+def opening(options) -> None:
     """How long the last of 64 connections waits for the answer to its `open`, with 62 names there."""
     found = []
     for _ in range(options.runs):
@@ -162,7 +137,7 @@ def opening(options):
     print(f"`open cell as last` beside 63 names: {statistics.median(found):.0f} microseconds ({min(found):.0f} to {max(found):.0f})")
 
 
-def main():
+def main() -> None:
     asks = argparse.ArgumentParser(description=__doc__, formatter_class=argparse.RawDescriptionHelpFormatter)
     asks.add_argument("--before", metavar="FILE")
     asks.add_argument("--runs", type=int, default=7, metavar="N")

@@ -36,13 +36,13 @@ def text_of(numbers):
 class Script:
     """The program on a script that is sent bit by bit."""
 
-    def __init__(self):
+    def __init__(self) -> None:
         words = [program(), "run", OBJECTS, "/dev/stdin"]
         self.process = subprocess.Popen(words, stdin=subprocess.PIPE, stdout=subprocess.PIPE, bufsize=0)
         self.process.stdin.write(b"object cell\n")
         self.next = 1
 
-    def ask(self, text, answer):
+    def ask(self, text, answer) -> None:
         """Sends a text and reads its answer, which has to be this one."""
         sender = threading.Thread(target=self.process.stdin.write, args=(text,)) if len(text) > 4096 else None
         sender.start() if sender else self.process.stdin.write(text)
@@ -74,7 +74,7 @@ class Script:
         self.next += count
         return time.perf_counter() - began
 
-    def reach(self, number):
+    def reach(self, number) -> None:
         """Makes calls until so many were made."""
         while self.next <= number:
             self.call(min(AT_ONCE, number + 1 - self.next))
@@ -105,7 +105,7 @@ def measure():
     return [*figures, seconds, resident]
 
 
-def main():
+def main() -> None:
     words = given_words()
     runs = int(words[0]) if words else 3
     heads = [f"{way} at {history}" for history in HISTORIES for way in ("bulk", "turn")]

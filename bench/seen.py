@@ -32,12 +32,6 @@ end;
 CALLS, LOT = 20_000, 50
 
 
-def processor(server):
-    """The processor time of its threads so far, in microseconds."""
-    tasks = pathlib.Path(f"/proc/{server.child.pid}/task").glob("*/schedstat")
-    return sum(int(it.read_text(encoding="ascii").split()[0]) for it in tasks) / 1000
-
-
 @contextlib.contextmanager
 def served(*words):
     """A server that runs, over a folder that ends with it."""
@@ -72,7 +66,7 @@ def ask(talk, question):
     return [first, *(talk.hear() for _ in range(count))]
 
 
-def questions(options):
+def questions(options) -> None:
     """What one question costs, by its word."""
     with served() as server, waiting(server, options.waiting) as numbers, Talk(server, "open buffer", "opened buffer") as one:
         check(ask(one, f"why {numbers[0]}")[0], f"why {numbers[0]} Waiting 1", "an answer")
@@ -81,39 +75,39 @@ def questions(options):
         for word, asked in kinds.items():
             found = []
             for _ in range(options.runs):
-                used = processor(server)
+                used = server.microseconds()
                 for n in range(options.asked):
                     ask(one, asked(n))
-                found.append((processor(server) - used) / options.asked)
+                found.append((server.microseconds() - used) / options.asked)
             size = sum(len(it) + 1 for it in ask(one, asked(0)))
             print(f"{word}, {options.waiting} wait, {size:,} bytes: {statistics.median(found):.1f} microseconds ({min(found):.1f} to {max(found):.1f})", flush=True)
 
 
-def idle(options):
+def idle(options) -> None:
     """What a status costs a second, of a server in which many wait and nobody asks."""
     found = ([], [])
     for turn in range(options.runs):
         for at in (0, 1) if turn % 2 else (1, 0):
             with served(*("--status", "1") * at) as server, waiting(server, options.waiting):
                 time.sleep(1)
-                used, begun = processor(server), time.monotonic()
+                used, begun = server.microseconds(), time.monotonic()
                 time.sleep(options.seconds)
-                found[at].append((processor(server) - used) / (time.monotonic() - begun))
+                found[at].append((server.microseconds() - used) / (time.monotonic() - begun))
     said = ", ".join(f"{statistics.median(it):,.0f} ({min(it):,.0f} to {max(it):,.0f})" for it in found)
     more = statistics.median(found[1]) - statistics.median(found[0])
     print(f"idle, {options.waiting} wait, microseconds a second without and with --status 1: {said}; {more / 10_000:.3f} of 100 parts of a processor more", flush=True)
 
 
-def calls(options):
+def calls(options) -> None:
     """What a call costs without and with a status."""
     found = ([], [])
     for turn in range(2 * options.runs):
         for at in (0, 1) if turn % 2 else (1, 0):
             with served(*("--status", "1") * at) as server, waiting(server, options.waiting), Talk(server, "open buffer", "opened buffer") as one:
-                used, begun = processor(server), time.monotonic()
+                used, begun = server.microseconds(), time.monotonic()
                 for _ in range(CALLS // LOT):
                     one.calls(*["seen"] * LOT)
-                found[at].append(((processor(server) - used) / CALLS, time.monotonic() - begun))
+                found[at].append(((server.microseconds() - used) / CALLS, time.monotonic() - begun))
     said = ", ".join(f"{statistics.median(used for used, _ in it):.2f} (at best {min(it)[0]:.2f})" for it in found)
     ratios = sorted(b[0] / a[0] for a, b in zip(*found))
     spent = statistics.median(seconds for _, seconds in found[1])
@@ -121,7 +115,7 @@ def calls(options):
           f"{CALLS:,} calls in {spent:.1f} s", flush=True)
 
 
-def main():
+def main() -> None:
     asks = argparse.ArgumentParser(description=__doc__, formatter_class=argparse.RawDescriptionHelpFormatter)
     for name, count in (("runs", 5), ("asked", 2_000), ("waiting", 256), ("seconds", 20)):
         asks.add_argument(f"--{name}", type=int, default=count, metavar="N")

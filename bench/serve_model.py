@@ -19,11 +19,11 @@ both. --rows prints the rows as bench/README.md has them. It is no part of the g
 import argparse
 import os
 import pathlib
-import socket
 import statistics
 import subprocess
 import tempfile
 
+from gate.served import Server
 from tools.ready import TOP, given_words, program
 
 CELL = """object {name};
@@ -44,7 +44,7 @@ GETS, MIXED = "get", ",".join(["get"] * 9 + ["put #"])
 class Case:
     """A title, a source of objects, the groups of the load, and what the model says: a function of the numbers."""
 
-    def __init__(self, title, source, groups, rate):
+    def __init__(self, title, source, groups, rate) -> None:
         self.title, self.source, self.groups, self.rate = title, source, groups, rate
 
     def words(self, calls):
@@ -101,7 +101,7 @@ CASES = [
 class Numbers:
     """The numbers of the model, in seconds, from the cases that are measured for them."""
 
-    def __init__(self, found):
+    def __init__(self, found) -> None:
         self.latency = {name: 1 / found[it].rate for name, it in ALONE.items()}
         self.overlap, self.turn = 1 / found[OVERLAP].rate, 1 / found[TURNS].rate
 
@@ -115,30 +115,18 @@ class Numbers:
 class Measured:
     """Calls a second, and the processor seconds of a call, of the server and of the load."""
 
-    def __init__(self, runs):
+    def __init__(self, runs) -> None:
         self.rates = sorted(calls / seconds for calls, seconds, _, _ in runs)
         self.rate = statistics.median(self.rates)
         self.server, self.load = (statistics.median(it[at] / it[0] for it in runs) for at in (2, 3))
 
 
-def free_port():
-    with socket.socket() as it:
-        it.bind(("127.0.0.1", 0))
-        return it.getsockname()[1]
-
-
-def processor_time(process):
-    """The processor seconds of a process that runs, its threads included."""
-    fields = pathlib.Path(f"/proc/{process}/stat").read_text(encoding="ascii").rpartition(")")[2].split()
-    return (int(fields[11]) + int(fields[12])) / os.sysconf("SC_CLK_TCK")
-
-
-def loaded(load, port, server, words):
+def loaded(load, server, words):
     """Loads a server: calls, seconds, the processor seconds of the server and of the load."""
-    used = processor_time(server)
-    with subprocess.Popen([load, port, *words], stdin=subprocess.PIPE, stdout=subprocess.PIPE, text=True) as it:
+    used = server.processor()
+    with subprocess.Popen([load, server.place, *words], stdin=subprocess.PIPE, stdout=subprocess.PIPE, text=True) as it:
         told = it.stdout.readline().split()
-        used = processor_time(server) - used
+        used = server.processor() - used
         it.stdin.close()
         if it.wait():
             raise SystemExit("the load failed")
@@ -149,23 +137,17 @@ def ran(program, load, case, calls):
     """One run of a case."""
     connections = sum(it[1] for it in case.groups)
     with tempfile.TemporaryDirectory() as folder:
-        source, port = pathlib.Path(folder) / "source.pp", str(free_port())
+        source = pathlib.Path(folder) / "source.pp"
         source.write_text(case.source, encoding="ascii")
-        words = [program, "serve", source, folder, port, "--sessions", str(connections)]
-        with subprocess.Popen(words, stdout=subprocess.PIPE, text=True) as server:
-            try:
-                if not server.stdout.readline().startswith("listening"):
-                    raise SystemExit(f"{case.title}: the server does not listen")
-                found = loaded(load, port, server.pid, case.words(calls))
-                server.communicate(timeout=300)
-            finally:
-                server.kill()
-    if server.returncode:
-        raise SystemExit(f"{case.title}: the server ended with status {server.returncode}")
+        with Server("serve", source, pathlib.Path(folder), "--sessions", connections, by=[program]) as server:
+            found = loaded(load, server, case.words(calls))
+            status = server.ended(300).status
+    if status:
+        raise SystemExit(f"{case.title}: the server ended with status {status}")
     return found
 
 
-def print_table(found, numbers, taken):
+def print_table(found, numbers, taken) -> None:
     print(f"{'case':51} {'calls a second':>14} {'least':>8} {'most':>8} {'model':>8} {'ratio':>6}  processor us of server, load")
     for case, it in found.items():
         said = case.rate(numbers)
@@ -173,14 +155,14 @@ def print_table(found, numbers, taken):
               f"{it.server * 1e6:.1f}, {it.load * 1e6:.1f}{' *' if case in taken else ''}")
 
 
-def print_rows(found, numbers, taken):
+def print_rows(found, numbers, taken) -> None:
     for case, it in found.items():
         said = case.rate(numbers)
         model = "taken from it | " if case in taken else f"{said:,.0f} | {it.rate / said:.2f} "
         print(f"| {case.title} | {it.rate:,.0f} | {it.rates[0]:,.0f} to {it.rates[-1]:,.0f} | {model}|")
 
 
-def main():
+def main() -> None:
     parser = argparse.ArgumentParser(description=__doc__, formatter_class=argparse.RawDescriptionHelpFormatter)
     parser.add_argument("--calls", type=int, default=16_000)
     parser.add_argument("--runs", type=int, default=9)

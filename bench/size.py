@@ -17,7 +17,6 @@ counted is instructions of the program, by valgrind's callgrind: on a busy machi
 part of the gate.
 """
 import argparse
-import contextlib
 import os
 import pathlib
 import re
@@ -26,7 +25,8 @@ import socket
 import subprocess
 import tempfile
 
-from bench import keys
+from bench.peer import Redis
+from gate.served import Server
 from tools.ready import given_words, program
 
 OBJECTS = """object line;
@@ -83,7 +83,7 @@ class Row:
     """A form of body on an object: its title, call N (from 0) with its answer, the calls that fill the part, and the like request of
     Redis with its answer, and those that fill it, where there is one."""
 
-    def __init__(self, name, title, call, fill, request=None, filling=None):
+    def __init__(self, name, title, call, fill, request=None, filling=None) -> None:
         self.name, self.title, self.call, self.fill, self.request, self.filling = name, title, call, fill, request, filling
 
 
@@ -154,7 +154,7 @@ def rows(size, length):
 class Running:
     """The program on scripts."""
 
-    def __init__(self, folder, options):
+    def __init__(self, folder, options) -> None:
         self.folder, self.options, self.steps, self.filling = folder, options, {}, {}
 
     def used(self, row, count):
@@ -205,7 +205,7 @@ def opening(name, size, length):
 class Auditing:
     """The program on traces."""
 
-    def __init__(self, folder, size, length):
+    def __init__(self, folder, size, length) -> None:
         self.folder, self.size, self.length = folder, size, length
 
     def used(self, row, count):
@@ -229,17 +229,17 @@ class Auditing:
         return tuple(self.used(row, it) / calls * 1e6 for it in (calls, 0))
 
 
-class Server:
-    """A server over a connection, which sends requests in lots."""
+class Lots:
+    """A connection to a server, which sends requests in lots."""
 
-    def __init__(self, process, port):
-        self.process, self.wire = process, socket.create_connection(("127.0.0.1", port))
-        self.held = b""
+    def __init__(self, port) -> None:
+        self.wire, self.held = socket.create_connection(("127.0.0.1", port)), b""
 
-    def used(self):
-        """The processor time of its threads so far, in microseconds."""
-        tasks = pathlib.Path(f"/proc/{self.process}/task").glob("*/schedstat")
-        return sum(int(it.read_text(encoding="ascii").split()[0]) for it in tasks) / 1000
+    def __enter__(self):
+        return self
+
+    def __exit__(self, *_) -> None:
+        self.wire.close()
 
     def line(self):
         while b"\n" not in self.held:
@@ -261,7 +261,7 @@ class Server:
                     found.append(end[1].decode())
         return found
 
-    def ask(self, pairs):
+    def ask(self, pairs) -> None:
         """Sends requests of Redis, each of which has this answer."""
         for at in range(0, len(pairs), LOT):
             lot = pairs[at : at + LOT]
@@ -273,57 +273,40 @@ class Server:
                 raise SystemExit(f"another answer: {said!r}")
 
 
-@contextlib.contextmanager
-def begun(words, port, ready):
-    """A server, from when it says that it is ready, to the end of the block."""
-    with subprocess.Popen([os.fspath(it) for it in words], stdout=subprocess.PIPE, stderr=subprocess.STDOUT) as ran:
-        try:
-            for line in ran.stdout:
-                if ready in line:
-                    break
-            else:
-                raise SystemExit(f"{words[0]} does not serve")
-            yield Server(ran.pid, port)
-        finally:
-            ran.kill()
-
-
 class Serving:
     """The program as a server of one session, by the way `serve` or `keep`."""
 
-    def __init__(self, folder, way):
+    def __init__(self, folder, way) -> None:
         self.folder, self.way = folder, way
 
     def measure(self, row, calls):
         with tempfile.TemporaryDirectory(dir=self.folder) as place:
-            port = keys.free_port()
             more = ["--sync", "1000"] if self.way == "keep" else ["--sessions", "1"]
-            with begun([program(), self.way, self.folder / "objects", place, str(port), *more], port, b"listening ") as it:
+            notes = self.folder / "notes"
+            with Server(self.way, self.folder / "objects", pathlib.Path(place), *more, errors=notes) as server, Lots(server.port) as it:
                 it.wire.sendall(f"open {row.name}\n".encode())
                 it.line()
                 it.call(row.fill)
-                used = it.used()
+                used = server.microseconds()
                 if it.call([row.call(n)[0] for n in range(calls)]) != [row.call(n)[1] for n in range(calls)]:
                     raise SystemExit(f"another answer to {row.title}")
-                return (it.used() - used) / calls, 0
+                return (server.microseconds() - used) / calls, 0
 
 
 class Beside:
     """Redis, which keeps nothing."""
 
-    def __init__(self, folder):
+    def __init__(self, folder) -> None:
         self.folder = folder
 
     def measure(self, row, calls):
         if not row.request:
             return None
-        port = keys.free_port()
-        words = ["redis-server", "--port", str(port), "--save", "", "--appendonly", "no", "--dir", self.folder]
-        with begun(words, port, b"eady to accept connections") as it:
+        with Redis(self.folder, "--appendonly", "no") as server, Lots(server.port) as it:
             it.ask(row.filling)
-            used = it.used()
+            used = server.microseconds()
             it.ask([row.request(n) for n in range(calls)])
-            return (it.used() - used) / calls, 0
+            return (server.microseconds() - used) / calls, 0
 
 
 def once(way, size, length, options):
@@ -364,7 +347,7 @@ def shown(figure):
     return f"{figure:,.1f}" if figure < 1_000 else f"{figure:,.0f}"
 
 
-def main():
+def main() -> None:
     words = given_words()
     numbers = lambda text: tuple(int(it) for it in text.split(","))
     parser = argparse.ArgumentParser(usage=__doc__.split("\n\n")[1].removeprefix("usage: "))

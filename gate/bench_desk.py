@@ -185,7 +185,7 @@ const ONLY_FILES: bool = false;
 '''
 
 
-def main():
+def main() -> int:
     os.chdir(TOP)
     with new_folder() as top:
         copy_crates(top, USES)

@@ -210,7 +210,7 @@ fn main(rt: HostRuntime) -> ExitCode {
 '''
 
 
-def main():
+def main() -> int:
     os.chdir(TOP)
     where = pathlib.Path(sys.argv[1] if len(sys.argv) > 1 else ".").absolute()
     with new_folder(room=where) as folder:

@@ -192,7 +192,7 @@ fn main(rt: HostRuntime) -> ExitCode {
 '''
 
 
-def main():
+def main() -> int:
     os.chdir(TOP)
     with new_folder() as top:
         copy_crates(top, USES)

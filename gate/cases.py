@@ -2,11 +2,16 @@
 import dataclasses
 import pathlib
 import re
+from collections.abc import Callable, Iterable, Iterator, Sequence
+from typing import Any, TypeVar
 
 from gate.tried import TOP
 
 # Cases of a server, which `gate/run_sessions` runs.
 SERVED = TOP / "cases" / "serve"
+C = TypeVar("C", bound="Case")
+# A section of a case: the line at which it stands, and its lines.
+Section = tuple[int, list[str]]
 ESCAPES = {"n": b"\n", "r": b"\r", "t": b"\t", "\\": b"\\", "^": b"^", "|": b"|", "#": b"#", "*": b"*"}
 PIECE = re.compile(r"(\d+)(\+?)\*")
 # A count that stands where none counts: not at the beginning of a piece, and its sign not escaped.
@@ -37,8 +42,8 @@ class Case:
     file: str
     line: int
     title: str
-    words: list
-    inputs: dict
+    words: list[str]
+    inputs: dict[str, bytes]
     output: "bytes | None"
     error: bytes
     status: "int | None"
@@ -46,10 +51,10 @@ class Case:
     piece: int = 0
     growths: bool = False
 
-    def name(self):
+    def name(self) -> str:
         return f"{self.file}:{self.line}: {self.title}"
 
-    def fault(self, status, output, error):
+    def fault(self, status: int, output: bytes, error: bytes) -> "str | None":
         """What is wrong with an answer: the name of what differs, or none."""
         if not is_like(self.error, error):
             return "error"
@@ -58,12 +63,12 @@ class Case:
             return None if told and status == (1 if int(told[1]) else 0) else "output"
         if self.kind == "faults":
             return None if FAULT.match(output) and status == 1 else "output"
-        if not is_like(self.output, output):
+        if not is_like(self.output or b"", output):
             return "output"
         return None if status == self.status else "status"
 
 
-def is_like(wanted, found):
+def is_like(wanted: bytes, found: bytes) -> bool:
     """Whether a text is the wanted one, in which a line `...` stands for any lines."""
     if b"..." not in wanted:
         return wanted == found
@@ -73,7 +78,7 @@ def is_like(wanted, found):
     return re.fullmatch(b"".join(parts), found) is not None
 
 
-def unescaped(piece, at):
+def unescaped(piece: str, at: int) -> tuple[bytes, int]:
     """The byte of the escape that begins at a place, and the place behind it."""
     sign = piece[at + 1 : at + 2]
     if sign == "x" and re.fullmatch(r"[0-9A-Fa-f]{2}", piece[at + 2 : at + 4]):
@@ -83,7 +88,7 @@ def unescaped(piece, at):
     raise BadCase(f"no such escape: {piece[at:at + 4]!r}")
 
 
-def pieces_of(line):
+def pieces_of(line: str) -> list[str]:
     """The pieces of a line, parted by each `|` that is not escaped."""
     pieces, piece, at = [], "", 0
     while at < len(line):
@@ -99,7 +104,7 @@ def pieces_of(line):
     return [*pieces, piece]
 
 
-def read_text(raw, place=None, more=0):
+def read_text(raw: Iterable[str], place: "str | None" = None, more: int = 0) -> Text:
     """The text of lines in the notation. With a place, `^` stands for it; else it is a mark."""
     out, mark = bytearray(), None
     for line in raw:
@@ -121,12 +126,12 @@ def read_text(raw, place=None, more=0):
     return Text(bytes(out), mark)
 
 
-def ends_open(line):
+def ends_open(line: str) -> bool:
     """Whether a line ends with a `\\` that leaves its line feed out."""
     return (len(line) - len(line.rstrip("\\"))) % 2 == 1
 
 
-def add_piece(out, body, number, place, mark):
+def add_piece(out: bytearray, body: str, number: "int | None", place: "str | None", mark: "int | None") -> "int | None":
     at = 0
     while at < len(body):
         if plain := PLAIN.match(body, at):
@@ -138,10 +143,11 @@ def add_piece(out, body, number, place, mark):
             byte, at = unescaped(body, at)
             out += byte
             continue
-        if sign == "^" and place is None:
-            mark = len(out)
-        elif sign == "^":
-            out += place.encode()
+        if sign == "^":
+            if place is None:
+                mark = len(out)
+            else:
+                out += place.encode()
         elif sign == "#" and number is not None:
             out += b"%02d" % (number % 100)
         else:
@@ -156,12 +162,14 @@ class Block:
 
     title: str
     line: int
-    sections: dict
+    sections: dict[str, Section]
 
 
-def blocks(path):
+def blocks(path: pathlib.Path) -> tuple[dict[str, str], list[Block]]:
     """The header of a file and its cases as they stand there."""
-    header, found, section = {}, [], None
+    header: dict[str, str] = {}
+    found: list[Block] = []
+    section: "list[str] | None" = None
     for number, line in enumerate(path.read_bytes().decode("utf-8").split("\n"), 1):
         line = line[:-1] if line.endswith("\r") else line
         if line.startswith("=== "):
@@ -189,7 +197,7 @@ def blocks(path):
     return header, found
 
 
-def lines_of(section):
+def lines_of(section: Section) -> list[str]:
     """The lines of a section: what is empty at its end only parts it from what follows."""
     lines = list(section[1])
     while lines and not lines[-1]:
@@ -197,12 +205,12 @@ def lines_of(section):
     return lines
 
 
-def fenced(word, page):
+def fenced(word: str, page: str) -> list[bytes]:
     """The blocks of a page that are fenced by this word."""
     return re.findall(rb"(?m)^```%s\n((?:(?!```).*\n)*)```$" % word.encode(), (TOP / page).read_bytes())
 
 
-def stored(source):
+def stored(source: str) -> bytes:
     """The text that a source names: a file, or a block of a page."""
     block = BLOCK.fullmatch(source)
     if not block:
@@ -213,7 +221,7 @@ def stored(source):
     return found[int(block[2]) - 1]
 
 
-def named_by(each):
+def named_by(each: str) -> list[str]:
     """The sources that stand behind the word `each`: the blocks of a page, or the files of a pattern."""
     word, _, page = each.partition(" block of ")
     if page:
@@ -221,7 +229,7 @@ def named_by(each):
     return sorted(str(it.relative_to(TOP)) for it in TOP.glob(each.removeprefix("of ")))
 
 
-def with_each(block):
+def with_each(block: Block) -> list[Block]:
     """The block, or where an input is `each` of several, a block for each of them."""
     for name, section in block.sections.items():
         head, _, each = name.partition(": each ")
@@ -235,7 +243,7 @@ def with_each(block):
     return [block]
 
 
-def escaped(lines):
+def escaped(lines: Iterable[str]) -> list[str]:
     """The lines of the notation whose text these lines are."""
     return [re.sub(r"[\\^|*]", r"\\\g<0>", it) for it in lines]
 
@@ -247,11 +255,11 @@ class Reader:
     NAMES: tuple[str, ...] = ("rows", "output", "error", "reads", "faults", "output, one more", "fronts", "growths")
     KINDS: tuple[str, ...] = ("output", "reads", "faults")
 
-    def __init__(self, file, header, block):
+    def __init__(self, file: str, header: dict[str, str], block: Block) -> None:
         self.file, self.block = file, block
         self.in_lines = header.get("marks") == "in lines"
-        self.sections = {}
-        self.files = {}
+        self.sections: dict[str, list[str]] = {}
+        self.files: dict[str, str] = {}
         self.words = header["command"].split()
         for name, section in block.sections.items():
             head, _, rest = name.partition(" ")
@@ -277,7 +285,7 @@ class Reader:
             raise BadCase(f"line {block.line}: one of {', '.join(self.KINDS)} has to be there")
         self.kind = kinds[0]
 
-    def rows(self):
+    def rows(self) -> Iterator[tuple[int, dict[str, str]]]:
         """The line of each row, and the words that it puts in."""
         if "rows" not in self.sections:
             yield self.block.line, {}
@@ -291,14 +299,14 @@ class Reader:
                 self.refuse_unused(number, puts)
                 yield number, puts
 
-    def refuse_unused(self, number, puts):
+    def refuse_unused(self, number: int, puts: dict[str, str]) -> None:
         """Refuses a row of which a part is put nowhere: it would say less than it seems to."""
         lines = [line for name, section in self.sections.items() if name != "rows" for line in section]
         for word in puts:
             if not any(word in it for it in [*lines, *self.words]):
                 raise BadCase(f"line {number}: nothing takes the {word} of this row")
 
-    def lines(self, name, puts):
+    def lines(self, name: str, puts: dict[str, str]) -> list[str]:
         """The lines of a section, with the words of a row put in."""
         lines = self.sections.get(name, [])
         for word, text in puts.items():
@@ -308,16 +316,17 @@ class Reader:
                 raise BadCase(f"line {self.block.line}: a row has nothing for {line!r}")
         return lines
 
-    def command(self, puts):
+    def command(self, puts: dict[str, str]) -> list[str]:
         """The words of the command, with the words of a row put in."""
         words = " ".join(self.words)
         for name, text in puts.items():
             words = words.replace(name, text.strip("|"))
         return words.split()
 
-    def inputs(self, puts, more):
+    def inputs(self, puts: dict[str, str], more: int) -> tuple[dict[str, bytes], "int | None"]:
         """The inputs, and the place of the mark in them as it is told."""
-        found, place = {}, None
+        found: dict[str, bytes] = {}
+        place: "int | None" = None
         for name in {*self.files} | {it for it in self.sections if it.isupper()}:
             if name in self.files:
                 text = Text(stored(self.files[name]), None)
@@ -329,11 +338,11 @@ class Reader:
                 place = len(front) - (front.rfind(b"\n") + 1 if self.in_lines else 0)
         return found, place
 
-    def has_more(self, puts):
+    def has_more(self, puts: dict[str, str]) -> bool:
         lines = [line for name in self.sections if name.isupper() for line in self.lines(name, puts)]
-        return any(PIECE.match(it) and PIECE.match(it)[2] for line in lines for it in pieces_of(line))
+        return any((found := PIECE.match(it)) and found[2] for line in lines for it in pieces_of(line))
 
-    def case(self, line, puts, more):
+    def case(self, line: int, puts: dict[str, str], more: int) -> Case:
         tail = ", one more" if more else ""
         kind = "output" if more else self.kind
         if more and "output, one more" not in self.sections:
@@ -352,7 +361,7 @@ class Reader:
         made.growths = "growths" in self.sections and not more
         return made
 
-    def cases(self):
+    def cases(self) -> "Iterator[Any]":
         for line, puts in self.rows():
             first = self.case(line, puts, 0)
             if "fronts" in self.sections:
@@ -366,14 +375,14 @@ class Reader:
                 yield dataclasses.replace(first, title=title, piece=int(piece), growths=False)
 
 
-def fronts(case):
+def fronts(case: Case) -> "Iterator[Any]":
     """A case for each front of its input."""
     [(name, whole)] = case.inputs.items()
     for cut in range(1, len(whole)):
         yield dataclasses.replace(case, title=f"{case.title}, front of {cut}", inputs={name: whole[:cut]})
 
 
-def cases_of(path, reader=Reader):
+def cases_of(path: pathlib.Path, reader: Any = Reader) -> "Iterator[Any]":
     """The cases of a file, as this reader makes them of a block."""
     file = str(path.relative_to(TOP))
     header, found = blocks(path)
@@ -382,7 +391,7 @@ def cases_of(path, reader=Reader):
             yield from reader(file, header, one).cases()
 
 
-def files(chosen, served=False):
+def files(chosen: Sequence[pathlib.Path], served: bool = False) -> list[pathlib.Path]:
     """The files of cases at or below these paths, or all: those of a server, or the others."""
     found = []
     for path in chosen or [TOP / "cases"]:
@@ -390,11 +399,12 @@ def files(chosen, served=False):
     return [it for it in found if it.is_relative_to(SERVED) == served]
 
 
-def chosen_cases(words, read, served=False):
+def chosen_cases(words: Iterable[str], read: Callable[[pathlib.Path], Iterable[C]], served: bool = False) -> tuple[list[C], list[str]]:
     """The cases that the words name, each file read so, and the files that are not in the notation."""
     paths = [pathlib.Path(it).resolve() for it in words if pathlib.Path(it).exists()]
     titles = [it for it in words if not pathlib.Path(it).exists()]
-    found, bad = [], []
+    found: list[C] = []
+    bad: list[str] = []
     for path in files(paths, served):
         try:
             found += read(path)
@@ -407,8 +417,10 @@ class Placed:
     """A case as a command: its words, its standard input (a text, or a file), and where its standard output goes. What is
     written for it lies in a folder."""
 
-    def __init__(self, case, program, folder):
-        words, self.input, self.file, self.output = [str(program)], b"", None, None
+    def __init__(self, case: Case, program: pathlib.Path, folder: "str | pathlib.Path") -> None:
+        words, self.input = [str(program)], b""
+        self.file: "pathlib.Path | None" = None
+        self.output: "str | None" = None
         rest = iter(case.words)
         for word in rest:
             if word == "<":

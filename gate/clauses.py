@@ -1,6 +1,7 @@
 """The clauses that refuse wrong bodies: which one an edit names, and which the prover names where it refuses it."""
 import collections
 import re
+from collections.abc import Iterable, Mapping, Sequence
 
 # A clause: what sort it is, its label, the type and the name of whose clause it is, and the loop by whose invariant it
 # refuses; each empty where there is none.
@@ -30,7 +31,7 @@ SAID = re.compile(r"(?:note: )?(?:\./)?(\S+?):(\d+):\d+: (.*)")
 OPEN = re.compile(r"it is not proved that .*?\(`([^`]+)`\)|error: `([^`]+)`: ")
 
 
-def spelled(clause):
+def spelled(clause: Clause) -> str:
     """A clause as an edit names it."""
     return "".join(
         (
@@ -42,7 +43,7 @@ def spelled(clause):
     )
 
 
-def named_by(edit):
+def named_by(edit: str) -> "Clause | None":
     """The clause that the text of an edit names, or None where it names none, or another thing, or several."""
     lines = [it[len("clause:") :].strip() for it in edit.splitlines() if it.startswith("clause:")]
     found = LINE.fullmatch(lines[0]) if len(lines) == 1 else None
@@ -54,7 +55,7 @@ def named_by(edit):
     return clause
 
 
-def labels(source, name):
+def labels(source: str, name: str) -> list[str]:
     """The labels of what the functions of this name ensure in a source, empty for a clause without one."""
     found, at, lines = [], 0, source.split("\n")
     while at < len(lines):
@@ -69,7 +70,7 @@ def labels(source, name):
     return found
 
 
-def function_before(source, line):
+def function_before(source: str, line: int) -> str:
     """The name of the function in which a line of a source stands, counted from 1, or above whose head it has an attribute."""
     lines = source.split("\n")
     if lines[line - 1 :] and lines[line - 1].lstrip().startswith("#["):
@@ -78,7 +79,7 @@ def function_before(source, line):
     return heads[-1] if heads else ""
 
 
-def goals(said, sources):
+def goals(said: Iterable[str], sources: Mapping[str, str]) -> list[Goal]:
     """The goals that these lines of a check leave open. The sources are texts by their paths in the crate."""
     found = []
     for line in said:
@@ -103,7 +104,7 @@ def goals(said, sources):
     return found
 
 
-def is_named(clause, found, source, contracts):
+def is_named(clause: Clause, found: Goal, source: str, contracts: Sequence[str]) -> bool:
     """Whether a goal is the one of this clause, as far as its name tells it. The source is the text of the edited files,
     and the contracts are the sources among which those of the function are."""
     if clause.holder and not re.search(rf"\b{clause.holder}\b", source):
@@ -121,7 +122,7 @@ def is_named(clause, found, source, contracts):
     return is_there and (not clause.loop or clause.loop in found.names)
 
 
-def offered(found, holder, source):
+def offered(found: Goal, holder: str, source: str) -> Clause:
     """How an edit may name the clause of a goal, as far as its name tells it."""
     function = min(found.functions, key=len)
     if found.kind == "ensures":

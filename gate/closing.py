@@ -14,20 +14,22 @@ import socket
 import sys
 import threading
 import time
+from collections.abc import Mapping
+from typing import Union
 
 from clients.python import pathclient
 from clients.python.pathclient import Cancelled, Lost, Object
+from gate.fakes import CLOSES, HOLDS, Fake, Mark
+from gate.tried import Wrong
 
 # How long anything may take, in seconds, and how long a closing that does not end is waited for while a call is held.
 SECONDS, HELD = 30, 0.2
 # The numbers that Linux gives to calls that wait for the other side (poll, connect, sendto, recvfrom, epoll_wait), and
 # to those that wait for a time, or for a thread of the program (clock_nanosleep, futex).
 WAITS, SLEEPS = {"7", "42", "44", "45", "232"}, {"230", "202"}
-# What a server does in place of an answer.
-CLOSES, HOLDS = object(), object()
 
 
-def awaited(what, holds):
+def awaited(what, holds) -> None:
     """Waits until this holds."""
     end = time.monotonic() + SECONDS
     while not holds():
@@ -36,39 +38,43 @@ def awaited(what, holds):
         time.sleep(0.001)
 
 
-class Answering:
-    """A server that answers a line by what its connection has for how the line begins, and else by nothing. Where that
+Answers = Union[Mapping[str, Union[bytes, Mark]], Mark]
+
+
+class Answering(Fake):
+    """A fake that answers a line by what its connection has for how the line begins, and else by nothing. Where that
     is CLOSES, it closes the connection; where a connection has `then`, it reads nothing behind its first line until
     `goes_on` is set. The last of `connections` stands for all after it; where that is HOLDS, no more are taken."""
 
-    def __init__(self, *connections):
-        self.connections, self.heard, self.taken, self.ends = connections, [], 0, 0
-        self.goes_on, self.kept = threading.Event(), []
-        self.socket = socket.create_server(("127.0.0.1", 0))
+    def __init__(self, *connections: Answers) -> None:
+        self.connections, self.ends, self.goes_on = connections, 0, threading.Event()
+        self.kept: list[socket.socket] = []
+        super().__init__(most=len(connections) - 1 if connections[-1] is HOLDS else 1000)
         self.socket.setsockopt(socket.SOL_SOCKET, socket.SO_RCVBUF, 4096)
-        self.port = self.socket.getsockname()[1]
-        threading.Thread(target=self.serve, daemon=True).start()
 
-    def serve(self):
-        with contextlib.suppress(OSError):
-            while (answers := self.connections[min(self.taken, len(self.connections) - 1)]) is not HOLDS:
-                connection = self.socket.accept()[0]
-                self.taken += 1
-                threading.Thread(target=self.answer, args=(connection, answers), daemon=True).start()
+    @property
+    def taken(self) -> int:
+        return len(self.open)
 
-    def answer(self, connection, answers):
-        with connection, contextlib.suppress(OSError), connection.makefile("rb") as lines:
+    def served(self, it: socket.socket, number: int) -> None:
+        super().served(it, number)
+        self.ends += 1
+
+    def serve(self, it: socket.socket, number: int) -> None:
+        answers = self.connections[min(number, len(self.connections) - 1)]
+        if isinstance(answers, Mark):
+            raise Wrong("a connection was taken where none is to be")
+        with it.makefile("rb") as lines:
             for line in lines:
                 self.heard.append(line.decode("ascii"))
                 sent = next((it for begin, it in answers.items() if self.heard[-1].startswith(begin)), b"")
-                if sent is CLOSES:
+                if isinstance(sent, Mark):
                     break
-                connection.sendall(sent)
+                it.sendall(sent)
                 if "then" in answers:
                     self.goes_on.wait()
-        self.ends += 1
 
-    def has_heard(self, word):
+    def has_heard(self, word) -> bool:
         return any(it.split()[0] == word for it in list(self.heard))
 
     def caught_up(self, place):
@@ -83,26 +89,24 @@ class Answering:
         awaited(f"the end of the connections, closed at {place}", lambda: self.ends == self.taken)
         return [it for it in self.heard if not it.startswith("mark ")]
 
-    def stop(self):
+    def stop(self) -> None:
         self.goes_on.set()
-        # (this wakes the thread that waits in it)
-        with contextlib.suppress(OSError):
-            self.socket.shutdown(socket.SHUT_RDWR)
-        self.socket.close()
+        self.close()
 
 
 class Call:
     """A call of `get` in a thread of its own. Where `held` is given, its lines are counted, and at the one of number
     `moment` it is held, and `held` called."""
 
-    def __init__(self, cell, *arguments, moment=0, held=None, **options):
+    def __init__(self, cell, *arguments, moment=0, held=None, **options) -> None:
         self.cell, self.arguments, self.options = cell, arguments, options
-        self.moment, self.held, self.lines, self.place, self.came = moment, held, 0, "", None
+        self.moment, self.held, self.lines, self.place = moment, held, 0, ""
+        self.came: object = None
         self.begun = time.monotonic()
         self.thread = threading.Thread(target=self.run, daemon=True)
         self.thread.start()
 
-    def run(self):
+    def run(self) -> None:
         if self.held is not None:
             sys.settrace(self.watch)
         try:
@@ -112,7 +116,7 @@ class Call:
         finally:
             sys.settrace(None)
 
-    def watch(self, frame, event, _):
+    def watch(self, frame, event, _: object):
         if frame.f_code.co_filename != pathclient.__file__:
             return None
         if event == "line":
@@ -122,7 +126,7 @@ class Call:
                 self.place = f"{frame.f_code.co_name}, line {frame.f_lineno}"
         return self.watch
 
-    def has_ended(self):
+    def has_ended(self) -> bool:
         return not self.thread.is_alive()
 
     def waits(self, kinds=WAITS):
@@ -134,17 +138,17 @@ class Call:
             return time.monotonic() > self.begun + 5 * HELD
         return said.split()[0] in kinds
 
-    def is_lost(self, place, *others):
+    def is_lost(self, place, *others) -> None:
         """Complains where the call does not end by Lost, with its word and the call, or in one of these other ways."""
         awaited(f"the end of a call closed at {place}", self.has_ended)
         came = self.came
-        if type(came) is Lost and came.word == "closed" and str(came).startswith("closed: get"):
+        if isinstance(came, Lost) and type(came) is Lost and came.word == "closed" and str(came).startswith("closed: get"):
             return
         if type(came) not in others and came not in others:
             raise AssertionError(f"closed at {place}: {type(came).__name__}({came})")
 
 
-def left(server, cell, place):
+def left(server, cell, place) -> None:
     """Complains where an object that was closed still calls, or holds a connection."""
     heard = server.caught_up(place)
     Call(cell).is_lost(f"{place}: the call after it")
@@ -159,7 +163,7 @@ class Scene:
     `begun` gives the object, and the calls that are under way, each of which is Lost too. Where the call waits for
     ever, it does behind the server's line number `last`; where it goes on for ever, `most` of its lines are tried."""
 
-    def __init__(self, begun, *connections, others=(), last=None, most=None, **options):
+    def __init__(self, begun, *connections, others=(), last=None, most=None, **options) -> None:
         self.begun, self.connections, self.others, self.options = begun, connections, others, options
         self.last, self.most = last, most
 
@@ -189,12 +193,12 @@ class Scene:
             awaited("the end of a call", lambda: call.has_ended() or self.last and stays())
             return call.lines
 
-    def closed_at(self, moment):
+    def closed_at(self, moment) -> None:
         """Closes the object at this line of the call."""
         with self.played() as (server, cell, before):
             closer, others = threading.Thread(target=cell.close, daemon=True), []
 
-            def close():
+            def close() -> None:
                 closer.start()
                 # (one that waits for the call that is held is not waited for)
                 closer.join(HELD)
@@ -218,7 +222,7 @@ class Scene:
             except AssertionError as error:
                 yield f"line {moment} of {count}: {error}"
 
-    def __call__(self, _):
+    def __call__(self, _: object) -> None:
         for fault in self.faults():
             raise AssertionError(fault)
 
@@ -226,11 +230,11 @@ class Scene:
 class Wait:
     """A call that waits in the system at a server that holds at that step, behind its line number `last`."""
 
-    def __init__(self, begun, *connections, last, kinds=WAITS, arguments=(), **options):
+    def __init__(self, begun, *connections, last, kinds=WAITS, arguments=(), **options) -> None:
         self.begun, self.connections, self.last, self.kinds = begun, connections, last, kinds
         self.arguments, self.options = arguments, options
 
-    def __call__(self, _):
+    def __call__(self, _: object) -> None:
         server = Answering(*self.connections)
         try:
             cell, before = self.begun(server)
@@ -282,11 +286,11 @@ def behind(server):
     return cell, [call]
 
 
-OPEN = {"open": b"opened cell\n", "quit": b"bye\n"}
-WAITING = {**OPEN, "call get": b"accepted 1\n"}
-BREAKS = {**OPEN, "call": CLOSES}
-NAMED = {"open": b"opened cell next 5\n", "quit": b"bye\n"}
-NAMED_BREAKS = {**NAMED, "call": CLOSES}
+OPEN: "dict[str, bytes | Mark]" = {"open": b"opened cell\n", "quit": b"bye\n"}
+WAITING: "dict[str, bytes | Mark]" = {**OPEN, "call get": b"accepted 1\n"}
+BREAKS: "dict[str, bytes | Mark]" = {**OPEN, "call": CLOSES}
+NAMED: "dict[str, bytes | Mark]" = {"open": b"opened cell next 5\n", "quit": b"bye\n"}
+NAMED_BREAKS: "dict[str, bytes | Mark]" = {**NAMED, "call": CLOSES}
 TRIES = [
     ("closed at each line of a call", Scene(opened, WAITING, last=1)),
     ("closed at each line of a call that is replied",

@@ -277,7 +277,7 @@ def kept():
     return faults, printed
 
 
-def main():
+def main() -> int:
     words = sys.argv[1:]
     if not words:
         return told([("the scenario of the gate", kept())])

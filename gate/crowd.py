@@ -3,11 +3,15 @@ what their answers come to. Nothing here knows how the server works: what is loo
 """
 import collections
 import errno
+import random
 import selectors
 import socket
 import time
+from collections.abc import Callable
+from typing import Any, NamedTuple
 
-from gate.tried import check, holds
+from gate.kept import Server
+from gate.tried import check, holds, there
 
 ACCOUNTS, FUNDS = 8, 100
 NAMES = ("counter", "ledger", "buffer", "echo")
@@ -44,7 +48,17 @@ end;
 AHEAD = (1, 1, 2, 5, 16)
 LONG = "n" * 1000
 
-Done = collections.namedtuple("Done", "key call ending number said heard life")
+
+class Done(NamedTuple):
+    """A call that has ended: when it was said and its end heard, and in which life of the server."""
+
+    key: int
+    call: str
+    ending: str
+    number: int
+    said: float
+    heard: float
+    life: int
 
 
 class Client:
@@ -54,27 +68,32 @@ class Client:
     # The object that it calls.
     object: str
 
-    def __init__(self, name, draw, numbers, may_lose, kills):
+    def __init__(self, name: str, draw: random.Random, numbers: "Numbers", may_lose: "float | None", kills: list[float]) -> None:
         self.name, self.draw, self.ahead = name, draw, draw.choice(AHEAD)
         # The calls that have no last line yet, the first of which has this key; how many of them were said on this
         # connection; and when each key was first said.
-        self.key, self.calls, self.said, self.since = 1, [], 0, {}
-        self.done, self.number, self.cancelled = [], None, 0
-        self.it, self.rest, self.owes, self.is_open = None, b"", b"", False
+        self.key, self.said = 1, 0
+        self.calls: list[str] = []
+        self.since: dict[int, float] = {}
+        self.done: list[Done] = []
+        self.number: "int | None" = None
+        self.it: "socket.socket | None" = None
+        self.cancelled, self.rest, self.owes, self.is_open = 0, b"", b"", False
         # The numbers that all were told. The server may lose what was answered so late, in seconds, before it was
         # killed; and it makes so many calls at most, where that is said.
-        self.numbers, self.may_lose, self.kills, self.most, self.lacked = numbers, may_lose, kills, None, 0
+        self.numbers, self.may_lose, self.kills, self.lacked = numbers, may_lose, kills, 0
+        self.most: "int | None" = None
 
-    def next_call(self):
+    def next_call(self) -> str:
         raise NotImplementedError
 
-    def fill(self):
+    def fill(self) -> None:
         """Thinks of more calls, and says them."""
         while len(self.calls) < self.ahead and (self.most is None or self.key + len(self.calls) <= self.most):
             self.calls.append(self.next_call())
         self.say_all()
 
-    def say_all(self):
+    def say_all(self) -> None:
         now, keys = time.monotonic(), range(self.key + self.said, self.key + len(self.calls))
         lines = [f"call #{key} {self.calls[key - self.key]}\n" for key in keys]
         for key in keys:
@@ -82,16 +101,16 @@ class Client:
         self.said = len(self.calls)
         self.owes += "".join(lines).encode()
 
-    def connected(self, it):
+    def connected(self, it: socket.socket) -> None:
         self.it, self.rest, self.said, self.number = it, b"", 0, None
         self.is_open, self.owes = False, f"open {self.object} as {self.name}\n".encode()
 
-    def broken(self):
+    def broken(self) -> None:
         if self.it:
             self.it.close()
         self.it, self.is_open = None, False
 
-    def hear(self, line, goes_on):
+    def hear(self, line: str, goes_on: bool) -> None:
         """A line came."""
         words = line.split(" ")
         if not self.is_open:
@@ -115,7 +134,7 @@ class Client:
             if goes_on and not self.said < len(self.calls):
                 self.fill()
 
-    def opened(self, words, goes_on):
+    def opened(self, words: list[str], goes_on: bool) -> None:
         if words in (["no", "InUse"], ["no", "Memory"]):
             self.owes += f"open {self.object} as {self.name}\n".encode()
             return
@@ -130,7 +149,7 @@ class Client:
         else:
             self.say_all()
 
-    def forget(self, key):
+    def forget(self, key: int) -> None:
         """Calls may be lost that were answered late, where a server may lose them."""
         if self.may_lose is None or key >= self.key:
             return
@@ -141,7 +160,7 @@ class Client:
         self.done = [it for it in self.done if it.key < key]
         self.key, self.calls, self.since = key, [], {}
 
-    def ended(self, words):
+    def ended(self, words: list[str]) -> None:
         call, said = self.calls.pop(0), self.since.pop(self.key)
         self.said -= 1
         if words[0] == "cancelled":
@@ -155,10 +174,10 @@ class Client:
 class Numbers:
     """The numbers that were told of calls of each object: none is told twice of two calls."""
 
-    def __init__(self):
-        self.told = collections.defaultdict(set)
+    def __init__(self) -> None:
+        self.told: dict[str, set[int]] = collections.defaultdict(set)
 
-    def note(self, name, number):
+    def note(self, name: str, number: int) -> None:
         holds(number not in self.told[name], f"{name}: the number {number} was told twice")
         self.told[name].add(number)
 
@@ -166,14 +185,14 @@ class Numbers:
 class Counting(Client):
     object = "counter"
 
-    def next_call(self):
+    def next_call(self) -> str:
         return "pick"
 
 
 class Moving(Client):
     object = "ledger"
 
-    def next_call(self):
+    def next_call(self) -> str:
         # (of an account that has nothing left nothing can be moved; long notes make epochs short)
         note = LONG if self.draw.random() < 0.2 else f"{self.name}.{self.draw.randrange(1000)}"
         return f"move {self.draw.randrange(ACCOUNTS)} {self.draw.randrange(ACCOUNTS)} '{note}'"
@@ -182,7 +201,7 @@ class Moving(Client):
 class Filling(Client):
     object, turn = "buffer", 0
 
-    def next_call(self):
+    def next_call(self) -> str:
         self.turn += 1
         return f"put '{self.name}.{self.turn:09}'"
 
@@ -190,7 +209,7 @@ class Filling(Client):
 class Taking(Client):
     object = "buffer"
 
-    def next_call(self):
+    def next_call(self) -> str:
         return "get"
 
 
@@ -200,16 +219,17 @@ KINDS = (Counting, Moving, Filling, Taking, Moving, Taking, Filling)
 class Crowd:
     """All clients, and the moments at which something comes."""
 
-    def __init__(self, server, count, draw, may_lose=None):
-        self.server, self.draw, self.goes_on, self.kills = server, draw, True, []
+    def __init__(self, server: Server, count: int, draw: random.Random, may_lose: "float | None" = None) -> None:
+        self.server, self.draw, self.goes_on = server, draw, True
+        self.kills: list[float] = []
         self.selector, numbers = selectors.DefaultSelector(), Numbers()
-        self.clients = [KINDS[at % len(KINDS)](f"c{at}", draw, numbers, may_lose, self.kills) for at in range(count)]
+        self.clients: list[Client] = [KINDS[at % len(KINDS)](f"c{at}", draw, numbers, may_lose, self.kills) for at in range(count)]
 
-    def connect(self, client):
+    def connect(self, client: Client) -> None:
         """A connection that is not waited for."""
         made = socket.socket(socket.AF_UNIX if self.server.at_path else socket.AF_INET)
         made.setblocking(False)
-        where = self.server.place if self.server.at_path else ("127.0.0.1", int(self.server.place))
+        where: Any = self.server.place if self.server.at_path else ("127.0.0.1", int(self.server.place))
         state = made.connect_ex(where)
         if state not in (0, errno.EINPROGRESS):
             made.close()
@@ -217,11 +237,11 @@ class Crowd:
         client.connected(made)
         self.selector.register(made, selectors.EVENT_READ | selectors.EVENT_WRITE, client)
 
-    def drop(self, client):
-        self.selector.unregister(client.it)
+    def drop(self, client: Client) -> None:
+        self.selector.unregister(there(client.it))
         client.broken()
 
-    def run(self, seconds, hangs_up=0.0):
+    def run(self, seconds: float, hangs_up: float = 0.0) -> None:
         """Has all talk for so long. Clients hang up now and then, so many times a second in all."""
         end = time.monotonic() + seconds
         while (now := time.monotonic()) < end:
@@ -234,24 +254,24 @@ class Crowd:
                 if it.it is not None:
                     self.drop(it)
 
-    def turn(self, seconds):
+    def turn(self, seconds: float) -> None:
         for key, mask in self.selector.select(seconds):
-            client = key.data
+            client: Client = key.data
             try:
                 if mask & selectors.EVENT_READ:
                     self.read(client)
                 if client.owes:
-                    client.owes = client.owes[client.it.send(client.owes) :]
+                    client.owes = client.owes[there(client.it).send(client.owes) :]
                 wanted = selectors.EVENT_READ | (selectors.EVENT_WRITE if client.owes else 0)
                 if key.events != wanted:
-                    self.selector.modify(client.it, wanted, client)
+                    self.selector.modify(there(client.it), wanted, client)
             except (BlockingIOError, InterruptedError):
                 pass
             except (OSError, EOFError):
                 self.drop(client)
 
-    def read(self, client):
-        piece = client.it.recv(1 << 16)
+    def read(self, client: Client) -> None:
+        piece = there(client.it).recv(1 << 16)
         if not piece:
             raise EOFError
         client.rest += piece
@@ -259,7 +279,7 @@ class Crowd:
         for line in lines:
             client.hear(line.decode("ascii"), self.goes_on)
 
-    def killed(self):
+    def killed(self) -> None:
         """The server was killed now. What stands in a connection is read: it was answered."""
         now = time.monotonic()
         for it in self.clients:
@@ -272,10 +292,10 @@ class Crowd:
                     self.drop(it)
         self.kills.append(now)
 
-    def is_done(self):
+    def is_done(self) -> bool:
         return all(it.most is not None and it.key > it.most for it in self.clients)
 
-    def settle(self, seconds=30):
+    def settle(self, seconds: float = 30) -> None:
         """Has each client learn what became of its calls, and makes no more; calls that wait are cancelled."""
         self.goes_on = False
         end = time.monotonic() + seconds
@@ -295,7 +315,7 @@ class Crowd:
             if it.it is not None:
                 self.drop(it)
 
-    def close(self):
+    def close(self) -> None:
         for it in self.clients:
             if it.it is not None:
                 self.drop(it)
@@ -305,7 +325,7 @@ class Crowd:
 # What the answers come to.
 
 
-def in_order_of_numbers(clients, name):
+def in_order_of_numbers(clients: list[Client], name: str) -> list[Done]:
     done = sorted((it for client in clients if client.object == name for it in client.done), key=lambda it: it.number)
     failed = {it.ending for it in done if it.ending.startswith("failed")}
     holds(failed <= {"failed memory", "failed device"}, f"calls ended as {failed}")
@@ -314,13 +334,14 @@ def in_order_of_numbers(clients, name):
     return done
 
 
-def number_of(done):
+def number_of(done: Done) -> int:
     return int(done.ending.removeprefix("done "))
 
 
-def follows_the_clock(name, done, place_of):
+def follows_the_clock(name: str, done: list[Done], place_of: Callable[[Done], Any]) -> None:
     """A call that was said when another one had been answered comes behind it."""
-    latest, heard = None, sorted(done, key=lambda it: it.heard)
+    latest: Any = None
+    heard = sorted(done, key=lambda it: it.heard)
     at = 0
     for it in sorted(done, key=lambda it: it.said):
         while at < len(heard) and heard[at].heard < it.said:
@@ -330,7 +351,7 @@ def follows_the_clock(name, done, place_of):
         holds(latest is None or latest < place_of(it), why)
 
 
-def tickets_are_right(server, clients):
+def tickets_are_right(server: Server, clients: list[Client]) -> int:
     """Each number was taken once, and none is missing."""
     done = in_order_of_numbers(clients, "counter")
     done = [it for it in done if it.ending.startswith("done")]
@@ -341,7 +362,7 @@ def tickets_are_right(server, clients):
     return len(taken)
 
 
-def ledger_is_right(server, clients):
+def ledger_is_right(server: Server, clients: list[Client]) -> int:
     """Each transfer was done once, in the order of the numbers of calls."""
     accounts, done = [FUNDS] * ACCOUNTS, in_order_of_numbers(clients, "ledger")
     for it in [it for it in done if not it.ending.startswith("failed")]:
@@ -357,10 +378,10 @@ def ledger_is_right(server, clients):
     return len(done)
 
 
-def buffer_is_right(server, clients):
+def buffer_is_right(server: Server, clients: list[Client]) -> int:
     """What was put is got once, or is there; and what one client put is got in its order."""
-    puts = [it for client in clients if isinstance(client, Filling) for it in client.done if it.ending == "done"]
-    puts = [it.call.split("'")[1] for it in puts]
+    fillers = [it for it in clients if isinstance(it, Filling)]
+    puts = [it.call.split("'")[1] for client in fillers for it in client.done if it.ending == "done"]
     gets = [it for client in clients if isinstance(client, Taking) for it in client.done]
     gets = [it for it in gets if it.ending.startswith("done ")]
     got = [it.ending.split("'")[1] for it in gets]
@@ -369,12 +390,12 @@ def buffer_is_right(server, clients):
     twice = [item for item, count in collections.Counter(got + left).items() if count > 1]
     holds(not twice, f"{twice[:5]} were got twice")
     check(sorted(got + left), sorted(puts), "what was got and is left")
-    by_client = collections.defaultdict(list)
+    by_client: dict[str, list[tuple[Done, str]]] = collections.defaultdict(list)
     for it, item in zip(gets, got):
         by_client[item.split(".")[0]].append((it, item))
     for name, pairs in by_client.items():
-        places = {id(it): item for it, item in pairs}
-        follows_the_clock(f"buffer, {name}", [it for it, _ in pairs], lambda it, places=places: places[id(it)])
+        places = {it: item for it, item in pairs}
+        follows_the_clock(f"buffer, {name}", [it for it, _ in pairs], places.__getitem__)
     for client in clients:
         if isinstance(client, Filling):
             found = [it.split(".")[1] for it in left if it.startswith(f"{client.name}.")]
@@ -382,7 +403,7 @@ def buffer_is_right(server, clients):
     return len(puts) + len(gets)
 
 
-def are_right(server, crowd):
+def are_right(server: Server, crowd: Crowd) -> int:
     """Judges all answers, and what the objects hold then. It answers how many calls were answered."""
     clients = crowd.clients
     for it in clients:
@@ -398,7 +419,7 @@ def are_right(server, crowd):
     return tickets_are_right(server, clients) + ledger_is_right(server, clients) + buffer_is_right(server, clients)
 
 
-def fill_ledger(server):
+def fill_ledger(server: Server) -> None:
     found = server.replies("ledger", *(f"fill {it} {FUNDS}" for it in range(ACCOUNTS)))
     check(found, ["done"] * ACCOUNTS, "the filled ledger")
 

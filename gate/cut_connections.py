@@ -15,14 +15,13 @@ where M is 0 and N is not.
 import random
 import select
 import socket
-import struct
 import sys
 import threading
 import time
 
 from gate import returning
 from gate.drawn_objects import OBJECTS
-from gate.served import Server, Told, traced_wrongly
+from gate.served import Server, Told, resets, traced_wrongly
 from gate.slow_world import written
 from gate.tried import Wrong, given_words, new_folder, whole
 
@@ -109,7 +108,7 @@ class Connection(threading.Thread):
         """It ends with a reset in place of an end."""
         self.open()
         self.calls()
-        self.it.setsockopt(socket.SOL_SOCKET, socket.SO_LINGER, struct.pack("ii", 1, 0))
+        resets(self.it)
         self.send(self.call())
 
     def slow(self):
@@ -156,7 +155,7 @@ class Connection(threading.Thread):
         if self.random.randrange(2):
             self.line()
         if self.random.randrange(2):
-            self.it.setsockopt(socket.SOL_SOCKET, socket.SO_LINGER, struct.pack("ii", 1, 0))
+            resets(self.it)
 
     def loud(self):
         """Lines that mean nothing, and at last one that is too long."""
@@ -238,7 +237,7 @@ def names_failed(words):
     return len(chosen), failed
 
 
-def main():
+def main() -> int:
     words = given_words()
     names = words[1:] if words[:1] == ["--names"] else None
     if names is None and not all(it.isdigit() for it in words):

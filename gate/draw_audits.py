@@ -44,7 +44,7 @@ def ended_in(events):
     return sum(it[0] == "end" for it in events)
 
 
-def has_sequence(node):
+def has_sequence(node) -> bool:
     """Whether a sequence stands in a path: it counts what was before, too."""
     inner = [*getattr(node, "members", ()), *([node.inner] if hasattr(node, "inner") else ())]
     return isinstance(node, Sequence) or any(map(has_sequence, inner))
@@ -53,7 +53,7 @@ def has_sequence(node):
 class Trace:
     """The trace that the drawn script of a seed leaves: its lines, and how many calls have ended."""
 
-    def __init__(self, seed):
+    def __init__(self, seed) -> None:
         self.seed, self.draw = seed, Drawer(seed)
         self.script = Script(seed)
         self.script.draw_lines()
@@ -222,7 +222,7 @@ def shown_trace(seed):
     return "".join(f"{it}\n" for it in lines)
 
 
-def main():
+def main() -> int:
     named = seeds.asked(__doc__, "--trace", shown_trace)
     found = seeds.each(tried, named or SEEDS, 1)
     traces = [] if named else seeds.each(left, scripts(), 8)

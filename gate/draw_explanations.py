@@ -120,7 +120,7 @@ def tried(seed):
     return len(sources) - len(said), said
 
 
-def main():
+def main() -> int:
     found = seeds.each(tried, seeds.asked(__doc__) or SEEDS)
     failed = [line for _, said in found for line in said]
     for line in failed[:8]:

@@ -45,11 +45,11 @@ BAD_LINES = ("dance", "", " ", "open", "open 7", "open cell as end", "open cell 
 class Voice:
     """A connection to the server, and the speaker that it is to the slow one."""
 
-    def __init__(self, server, name="observer"):
+    def __init__(self, server, name="observer") -> None:
         self.it, self.speaker, self.name = server.connect(LATE), Speaker(), name
         self.rest, self.heard, self.is_over, self.is_shut = b"", 0, False, False
 
-    def read(self):
+    def read(self) -> None:
         try:
             piece = self.it.recv(1 << 16)
         except ConnectionResetError:
@@ -65,7 +65,7 @@ class Voice:
         line, _, self.rest = self.rest.partition(b"\n")
         return line.decode("ascii")
 
-    def catch_up(self):
+    def catch_up(self) -> None:
         """All that the slow server told it came, and, where it has left, the end; and nothing else."""
         while self.heard < len(self.speaker.told):
             words = self.speaker.told[self.heard]
@@ -77,7 +77,7 @@ class Voice:
             check(self.line(), "", "what comes behind all lines")
             holds(self.is_over, "the connection does not end")
 
-    def is_silent(self):
+    def is_silent(self) -> None:
         """Nothing came that the slow server did not tell."""
         if not self.is_over and not self.is_shut:
             self.it.settimeout(0)
@@ -90,7 +90,7 @@ class Voice:
         check(self.rest, b"", "what comes that nobody expects")
 
 
-def learn(words, line):
+def learn(words, line) -> None:
     """Learns the numbers of a life from the first one that is told, and which of several words came."""
     for at, word in enumerate(words):
         if isinstance(word, OneOf) and line.split(" ")[at : at + 1] and line.split(" ")[at] in word.words:
@@ -112,7 +112,7 @@ def text_of(words):
 class World:
     """A server over a folder, and the slow one."""
 
-    def __init__(self, room, seed):
+    def __init__(self, room, seed) -> None:
         self.draw = Drawer(seed)
         count = 1 + self.draw.below(3)
         self.objects = [OBJECTS[it] for it in sorted({self.draw.below(len(OBJECTS)) for _ in range(count)})]
@@ -122,20 +122,20 @@ class World:
         self.slow, self.voices, self.said, self.steps, self.come = Slow(self.objects), [], 0, [], 0
         self.start()
 
-    def start(self):
+    def start(self) -> None:
         self.server.start()
         self.observer = Voice(self.server)
 
     # Steps.
 
-    def await_round(self):
+    def await_round(self) -> None:
         """Waits until the server has heard all that was said."""
         for _ in range(2 + self.said // PIECE):
             self.observer.it.sendall(b"\n")
             check(self.observer.line(), "no BadLine", "the answer to an empty line")
         self.said = 0
 
-    def settle(self):
+    def settle(self) -> None:
         self.await_round()
         for it in self.voices:
             if not it.is_shut:
@@ -226,7 +226,7 @@ class World:
             return self.keyed(speaker)
         return self.spaced(["cancel", self.number(self.cancelled(speaker))])
 
-    def say(self, voice, *lines, is_whole=True):
+    def say(self, voice, *lines, is_whole=True) -> None:
         """Says lines at once, or in pieces."""
         ends = ["\r\n" if self.draw.one_in(12) else "\n" for _ in lines]
         if not is_whole:
@@ -245,7 +245,7 @@ class World:
             # (behind its end the server takes nothing)
             holds(voice.speaker.has_left, f"the connection broke: {error}")
 
-    def talk(self, voice):
+    def talk(self, voice) -> None:
         count = 1 if self.draw.below(4) else 1 + self.draw.below(6)
         for _ in range(count):
             lines = [self.line(voice.speaker)]
@@ -255,7 +255,7 @@ class World:
             if voice.speaker.has_left:
                 break
 
-    def part(self, voice):
+    def part(self, voice) -> None:
         """A client leaves in another way than by `quit`."""
         how = self.draw.weighted({"hangs up": 4, "sends no more": 3, "is cut off": 3, "too long": 1})
         if how == "too long":
@@ -275,7 +275,7 @@ class World:
             voice.it.shutdown(socket.SHUT_WR)
             self.slow.leave(voice.speaker)
 
-    def converse(self):
+    def converse(self) -> None:
         """One conversation."""
         for _ in range(10 + self.draw.below(60)):
             what = self.draw.weighted({"comes": 8, "talks": 60, "parts": 4})
@@ -293,7 +293,7 @@ class World:
 
     # Ends.
 
-    def restart(self, is_killed):
+    def restart(self, is_killed) -> None:
         self.steps.append("the server is killed" if is_killed else "the server ends")
         if is_killed:
             self.server.kill()
@@ -309,7 +309,7 @@ class World:
         self.slow.start()
         self.start()
 
-    def end(self):
+    def end(self) -> None:
         """The server ends in order."""
         for it in self.voices:
             self.slow.leave(it.speaker)
@@ -317,7 +317,7 @@ class World:
         check(self.server.end(), (counts, 0), "what the server said at its end")
         check(self.server.error(), "", "standard error")
 
-    def compare(self):
+    def compare(self) -> None:
         """What the journals hold is what the slow server does."""
         self.server.is_whole(*(it.name for it in self.objects))
         self.restart(False)
@@ -325,7 +325,7 @@ class World:
             self.compare_one(hall)
         self.server.kill()
 
-    def compare_one(self, hall):
+    def compare_one(self, hall) -> None:
         text = (self.server.folder / f"{hall.made.name}.journal").read_bytes().partition(b"\0")[0].decode()
         lines = [it.split(" ", 2) for it in text.splitlines()]
         values = {it[1]: it[2] for it in lines if it[0] == "part"}
@@ -340,10 +340,10 @@ class World:
         wanted = sorted((name, str(key), *kept_words(call, ending)) for name, key, call, ending in known)
         check(kept, wanted, f"the last calls of the clients of {hall.made.name}")
 
-    def close(self):
+    def close(self) -> None:
         for it in [*self.voices, self.observer]:
             it.it.close()
-        if self.server.child.poll() is None:
+        if self.server.runs():
             self.server.kill()
 
 
@@ -372,7 +372,7 @@ def tried(seed, count, tells):
         shutil.rmtree(room)
 
 
-def main():
+def main() -> int:
     given, words = options(given_words(), cases=200, jobs=len(os.sched_getaffinity(0)), tell=12, **{"from": 1})
     if words:
         print(__doc__, file=sys.stderr)

@@ -90,7 +90,7 @@ def path_of(draw, names):
 class Body:
     """The text of an operation, whose parts are noted while it is drawn."""
 
-    def __init__(self, draw, name, parts):
+    def __init__(self, draw, name, parts) -> None:
         self.draw, self.name, self.parts = draw, name, parts
         self.replies, self.may_change = draw.one_in(2), draw.one_in(2)
         self.names, self.changes = set(), set()
@@ -217,7 +217,7 @@ def shown_source(seed):
     return f"{text}\n{report}"
 
 
-def main():
+def main() -> int:
     return seeds.run("draw_objects", seeds.asked(__doc__, "--source", shown_source), tried, SEEDS, KINDS, OFTEN)
 
 

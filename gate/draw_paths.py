@@ -32,7 +32,7 @@ KINDS = ("list", "sequence", "bound", "burst", "burst in a burst", "started", "b
 class Paths:
     """The paths of a seed, as texts and as what they say."""
 
-    def __init__(self, draw):
+    def __init__(self, draw) -> None:
         self.draw, self.tally, self.texts, self.nodes = draw, collections.Counter(), [], []
         for _ in range(1 + draw.below(3)):
             text, node = self.node(self.some_of(OPERATIONS), 0, "alone", False)
@@ -118,7 +118,7 @@ def shown_lines(seed):
     return f"{lines}\n{answers}"
 
 
-def main():
+def main() -> int:
     return seeds.run("draw_paths", seeds.asked(__doc__, "--lines", shown_lines), tried, SEEDS, KINDS, OFTEN)
 
 

@@ -59,14 +59,14 @@ def counts(node):
 class Voice:
     """A connection, as the one who draws sees it."""
 
-    def __init__(self, place):
+    def __init__(self, place) -> None:
         self.place, self.speaker, self.says, self.takes, self.is_over = place, Speaker(), 0, 0, False
 
 
 class Schedule(World):
     """A schedule, as long as it grows. What is said is drawn by a slow server that hears it at once."""
 
-    def __init__(self, objects, seed):
+    def __init__(self, objects, seed) -> None:
         self.draw, self.objects, self.slow = Drawer(seed), objects, Slow(objects)
         self.steps, self.voices, self.second = [], [], 0
         self.places, self.waits = self.draw.of((1, 2, 3, 8, 64, 64)), 0 if self.draw.one_in(5) else 1
@@ -80,10 +80,10 @@ class Schedule(World):
             self.step()
         self.end()
 
-    def add(self, word, place=0, number=0, behind=b""):
+    def add(self, word, place=0, number=0, behind=b"") -> None:
         self.steps.append(f"{word} {place} {number}\n".encode() + behind)
 
-    def step(self):
+    def step(self) -> None:
         what = self.draw.weighted({"come": 10, "talk": 50, "part": 4, "wait": 30, "take": 8, "tick": 3, "short": 2, "due": 3,
                                    "cut": 1, "refuse": 1})
         here = [it for it in self.voices if not it.is_over]
@@ -117,7 +117,7 @@ class Schedule(World):
         self.add("come")
         return voice
 
-    def say(self, voice, *lines, is_whole=True):
+    def say(self, voice, *lines, is_whole=True) -> None:
         """Says lines in pieces, between which the loop may wait."""
         ends = ["\r\n" if self.draw.one_in(12) else "\n" for _ in lines]
         if not is_whole:
@@ -133,7 +133,7 @@ class Schedule(World):
             if self.draw.one_in(4):
                 self.add("wait")
 
-    def part(self, voice):
+    def part(self, voice) -> None:
         how = self.draw.weighted({"end": 4, "break": 3, "cut off": 3, "too long": 1})
         voice.is_over = True
         if how == "too long":
@@ -145,7 +145,7 @@ class Schedule(World):
         self.add("break" if how == "break" else "end", voice.place)
         self.slow.leave(voice.speaker)
 
-    def end(self):
+    def end(self) -> None:
         """All is heard, the server ends, mostly, and all is taken."""
         if self.draw.below(4):
             for _ in range(10 + 2 * sum(it.says for it in self.voices)):
@@ -166,16 +166,16 @@ class Schedule(World):
 class Found(Hall):
     """A kept object that counts the lines of its journal, and knows in which order calls ended."""
 
-    def __init__(self, made):
+    def __init__(self, made) -> None:
         super().__init__(made)
         self.lines, self.order = 0, []
 
-    def do(self, call):
+    def do(self, call) -> None:
         super().do(call)
         self.lines += 2
         self.order.append(call.number.place)
 
-    def cancel(self, call):
+    def cancel(self, call) -> None:
         super().cancel(call)
         self.lines += 1 if call.guest else 0
 
@@ -185,11 +185,11 @@ class Heard(Slow):
 
     halls: Mapping[str, Found]
 
-    def __init__(self, objects):
+    def __init__(self, objects) -> None:
         super().__init__(objects)
         self.halls = {it.name: Found(it) for it in objects}
 
-    def open(self, speaker, name, client):
+    def open(self, speaker, name, client) -> None:
         names = {it: len(hall.guests) for it, hall in self.halls.items()}
         super().open(speaker, name, client)
         for it, hall in self.halls.items():
@@ -200,7 +200,7 @@ class Wire:
     """A connection, as it was seen: what was said of it, and of each line that it is told how many lines of each journal
     were added before."""
 
-    def __init__(self):
+    def __init__(self) -> None:
         self.speaker, self.said, self.rest, self.is_deaf, self.written = Speaker(), b"", b"", False, b""
         self.told, self.needs = b"", []
 
@@ -209,20 +209,20 @@ class Journal:
     """What was handed to a journal since its last front, how many lines were handed to it in all and stored, and the epochs
     before."""
 
-    def __init__(self, front):
+    def __init__(self, front) -> None:
         self.front, self.text, self.handed, self.stored, self.is_new = front, b"", 0, 0, True
 
 
 class Judge:
     """All that was seen of a schedule, beside the slow server."""
 
-    def __init__(self, objects, schedule, seen):
+    def __init__(self, objects, schedule, seen) -> None:
         self.objects, self.slow, self.wires, self.order = objects, Heard(objects), {}, []
         self.steps, (self.places, self.waits) = steps_of(schedule)
         self.journals = [Journal(text) for word, _, text in seen if word == "front"]
         self.seen = [it for it in seen if it[0] != "front"]
 
-    def judge(self):
+    def judge(self) -> None:
         for at, (word, number, text) in enumerate(self.seen[:-1]):
             try:
                 getattr(self, f"hear_{word}")(number, text)
@@ -241,13 +241,13 @@ class Judge:
 
     # Turns.
 
-    def hear_joins(self, who, _):
+    def hear_joins(self, who, _: object) -> None:
         if len([it for it in self.wires.values() if not it.speaker.has_left]) >= self.places or who in self.wires:
             raise Wrong("a connection is taken for which there is no place")
         self.wires[who] = Wire()
         self.order.append(who)
 
-    def hear_came(self, who, text):
+    def hear_came(self, who, text) -> None:
         wire = self.wires[who]
         if wire.is_deaf or wire.speaker.has_left:
             raise Wrong("a connection is read that is over")
@@ -260,7 +260,7 @@ class Judge:
         if not wire.is_deaf and not wire.speaker.has_left and len(wire.rest) > LONGEST:
             self.say(wire, wire.rest, False)
 
-    def say(self, wire, line, is_whole):
+    def say(self, wire, line, is_whole) -> None:
         if len(line) > LONGEST:
             # (it leaves once all are heard)
             wire.is_deaf = True
@@ -268,28 +268,28 @@ class Judge:
         else:
             self.slow.say(wire.speaker, line.decode("ascii"), is_whole)
 
-    def hear_end(self, who, _):
+    def hear_end(self, who, _: object) -> None:
         wire = self.wires[who]
         if wire.rest:
             self.say(wire, wire.rest, False)
         wire.is_deaf = True
 
-    def hear_broke(self, who, _):
+    def hear_broke(self, who, _: object) -> None:
         self.wires[who].is_deaf = True
 
-    def hear_leaves(self, who, _):
+    def hear_leaves(self, who, _: object) -> None:
         self.slow.leave(self.wires[who].speaker)
         self.slow.go_on()
 
-    def hear_ends(self, _, __):
+    def hear_ends(self, _: object, __: object) -> None:
         for who in sorted(self.wires, key=lambda it: it % self.places):
             self.slow.leave(self.wires[who].speaker)
         self.slow.go_on()
 
-    def hear_ticks(self, *_):
+    def hear_ticks(self, *_) -> None:
         pass
 
-    def turn_ends(self):
+    def turn_ends(self) -> None:
         """Of each line that was told in this turn it is known what has to be kept before it is written."""
         needs = [self.slow.halls[it.name].lines for it in self.objects]
         for wire in self.wires.values():
@@ -301,7 +301,7 @@ class Judge:
 
     # What is written and kept.
 
-    def hear_wrote(self, who, text):
+    def hear_wrote(self, who, text) -> None:
         wire = self.wires[who]
         wire.written += text
         if not wire.told.startswith(wire.written):
@@ -311,15 +311,15 @@ class Judge:
             if start < len(wire.written) and any(it > has for it, has in zip(needs, kept)):
                 raise Wrong(f"{who} was written what needs {needs} lines, and {kept} are kept")
 
-    def hear_added(self, at, text):
+    def hear_added(self, at, text) -> None:
         journal = self.journals[at]
         journal.text += text
         journal.handed += text.count(b"\n")
 
-    def hear_stored(self, at, _):
+    def hear_stored(self, at, _: object) -> None:
         self.journals[at].stored = self.journals[at].handed
 
-    def hear_changed(self, at, text):
+    def hear_changed(self, at, text) -> None:
         """A new front says what the slow server holds."""
         journal, hall = self.journals[at], self.slow.halls[self.objects[at].name]
         front = Epoch(hall.made, text.split(b"\n")[:-1])
@@ -331,7 +331,7 @@ class Judge:
 
     # Ends.
 
-    def judge_fault(self, at):
+    def judge_fault(self, at) -> None:
         """A journal failed: where answers wait for it, that it was handed lines, or began anew, was the last that happened."""
         word, number, _ = self.seen[-2]
         if self.waits and (word not in ("added", "changed") or number != at):
@@ -339,7 +339,7 @@ class Judge:
         if not any(step[0] in ("unadded", "unstored", "unbegun") and step[1] == at for step in self.steps):
             raise Wrong(f"journal {at} failed, and no step says so")
 
-    def judge_end(self):
+    def judge_end(self) -> None:
         """In order all was heard, all written, but for those that are over, and all stored."""
         for made, journal in zip(self.objects, self.journals):
             if journal.stored != journal.handed:
@@ -356,14 +356,14 @@ class Judge:
             if self.is_settled() and not is_over and wire.said != says:
                 raise Wrong(f"{who} was not heard to say {says[len(wire.said):][:200]!r}")
 
-    def is_settled(self):
+    def is_settled(self) -> bool:
         """Whether the end comes once all can be heard."""
         words = [it[0] for it in self.steps]
         before = words[: words.index("stop")]
         tail = len(before) - len("".join("w" if it == "wait" else "x" for it in before).rstrip("w"))
         return tail >= 10 and words.count("come") <= self.places
 
-    def judge_journal(self, hall, journal, is_whole):
+    def judge_journal(self, hall, journal, is_whole) -> None:
         """What a journal was handed is the history of its object."""
         text = (journal.front + journal.text).decode("ascii").encode()
         stood = Epoch(hall.made, text.split(b"\n")[:-1])
@@ -514,7 +514,7 @@ def told(counts):
     return 0 if passed and not failed else 1
 
 
-def main():
+def main() -> int:
     words = sys.argv[1:]
     if not words:
         schedules, printed = (TRIAL / "stdin").read_bytes(), (TRIAL / "stdout").read_bytes()

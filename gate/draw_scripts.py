@@ -90,7 +90,7 @@ def shown_script(seed):
     return f"{text}\n==== {title(script)}: status {script.status}, and\n{script.wanted()}"
 
 
-def main():
+def main() -> int:
     if given_words() == ["--objects"]:
         print(source_of(FIRST_HOLD), end="")
         return 0

@@ -42,13 +42,13 @@ KEYED = {"past": "no BadKey", "reused": "no KeyReused", "unknown": "no UnknownOp
 class Client(threading.Thread):
     """A connection, and all lines that came."""
 
-    def __init__(self, port, end):
+    def __init__(self, port, end) -> None:
         super().__init__(daemon=True)
         self.it, self.end = socket.create_connection(("127.0.0.1", port), LASTS), end
         self.it.setsockopt(socket.IPPROTO_TCP, socket.TCP_NODELAY, 1)
         self.told, self.heard, self.is_over = Told(), [], False
 
-    def run(self):
+    def run(self) -> None:
         self.it.settimeout(max(self.end - time.monotonic(), 0.01))
         try:
             with self.it.makefile("r", encoding="ascii", newline="\n") as lines:
@@ -63,14 +63,14 @@ class Client(threading.Thread):
 class Line:
     """A line of a client: its kind, and for a call that is asked for again its key."""
 
-    def __init__(self, text, kind, key=None):
+    def __init__(self, text, kind, key=None) -> None:
         self.text, self.kind, self.key = text, kind, key
 
 
 class Speaker(Client):
     """A client that says drawn lines."""
 
-    def __init__(self, seed, number, port, end):
+    def __init__(self, seed, number, port, end) -> None:
         super().__init__(port, end)
         self.random = random.Random(seed * 1000 + number)
         self.made, self.client = self.random.choice(OBJECTS), f"c{number}" if number % 2 else None
@@ -114,7 +114,7 @@ class Speaker(Client):
         text = self.random.choice(("nothing", f"{said} 7", f"{said} ''")) if kind == "reused" else said
         return Line(f"call #{key} {text}", kind, key)
 
-    def speak(self):
+    def speak(self) -> None:
         """Says all lines, in pieces of drawn lengths, and rests between them."""
         text = "".join(f"{line.text}\n" for line in self.lines).encode("ascii")
         longest = max(self.random.choice((6, 30, 300, 3000)), 2 * len(text) // PIECES)
@@ -147,7 +147,7 @@ class Speaker(Client):
                     return [f"{line.text!r} was answered {found!r}, among {heard[-6:]}"]
         return []
 
-    def is_right(self, line, found, rest):
+    def is_right(self, line, found, rest) -> bool:
         """Whether a line is answered by this one, and by what comes behind it."""
         if line.kind == "open":
             return found == f"opened {self.made.name}" + (f" next {len(self.lasts) + 1}" if self.client else "")
@@ -165,13 +165,13 @@ class Speaker(Client):
 class Returned(Speaker):
     """A client that comes back by the name of one that has ended, and asks again for each of its calls, and for one more."""
 
-    def __init__(self, first, port, end):
+    def __init__(self, first, port, end) -> None:
         Client.__init__(self, port, end)
         self.random, self.made, self.client, self.lasts = first.random, first.made, first.client, list(first.lasts)
         again = [Line(f"call #{key} {it}", "again", key) for key, it in enumerate(first.calls, 1)]
         self.lines = [Line(self.opening(), "open"), *again, Line(f"call #{len(again) + 1} nothing", "unknown"), Line("quit", "quit")]
 
-    def speak(self):
+    def speak(self) -> None:
         """Opens the object, which may take a while: the name is out until all of the first session has ended."""
         try:
             is_open = False
@@ -189,7 +189,7 @@ class Returned(Speaker):
         return super().disorder([it for it in heard if it != "no InUse"])
 
 
-def cancel_all(client, name, speakers):
+def cancel_all(client, name, speakers) -> None:
     """Cancels the calls that wait or run in an object, until all speakers are done."""
     try:
         client.it.sendall(f"open {name}\n".encode())
@@ -202,13 +202,13 @@ def cancel_all(client, name, speakers):
         pass
 
 
-def begin(clients, works):
+def begin(clients, works) -> None:
     """Starts clients, and what they say."""
     for it in [*clients, *works]:
         it.start()
 
 
-def await_end(clients, works, end):
+def await_end(clients, works, end) -> None:
     for it in [*clients, *works]:
         it.join(max(end - time.monotonic(), 0) + 1)
     for it in clients:
@@ -256,7 +256,7 @@ def tried(seed):
         return said, sum(len(it.heard) for it in speakers), kinds
 
 
-def main():
+def main() -> int:
     words = given_words()
     if not all(it.isdigit() for it in words):
         print(__doc__, file=sys.stderr)

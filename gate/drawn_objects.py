@@ -37,7 +37,7 @@ def example(name):
     return (EXAMPLES / f"{name}.pp").read_text(encoding="ascii")
 
 
-def cell_bump(c, x):
+def cell_bump(c, x) -> None:
     c["v"][0] = whole(c["v"][0] + x)
 
 
@@ -47,36 +47,36 @@ def buffer_remove(c):
     return oldest
 
 
-def book_write(c, k, x):
+def book_write(c, k, x) -> None:
     if k in c["t"]:
         raise Refusal("taken")
     c["t"][k] = x
 
 
-def book_wipe(c, k):
+def book_wipe(c, k) -> None:
     lookup(c["t"], k)
     del c["t"][k]
 
 
-def one_more(c):
+def one_more(c) -> None:
     c["v"][0] = whole(c["v"][0] + 1)
 
 
-def ledger_add(c, i, x):
+def ledger_add(c, i, x) -> None:
     set_element(c["tally"], i, whole(element(c["tally"], i) + x))
 
 
-def ledger_fill(c, x, y):
+def ledger_fill(c, x, y) -> None:
     c["page"] = [x] + [y] * 32
 
 
-def ledger_move(c, i, j):
+def ledger_move(c, i, j) -> None:
     set_element(c["tally"], i, whole(element(c["tally"], i) - 1))
     set_element(c["tally"], j, whole(element(c["tally"], j) + 1))
     set_element(c["page"], j, element(c["page"], i))
 
 
-def ledger_idle(_, x):
+def ledger_idle(_: object, x):
     if x < 3:
         raise Refusal("small")
     return whole(x - 3)
@@ -87,12 +87,12 @@ def wide_pick(c, i, j):
     return element(c["v"], first_one if first_one else j)
 
 
-def wide_copy(c, i, j):
+def wide_copy(c, i, j) -> None:
     set_element(c["v"], i, element(c["v"], j))
     set_element(c["v"], j, whole(element(c["v"], i) + 1))
 
 
-def wide_both(c, x, y):
+def wide_both(c, x, y) -> None:
     set_element(c["v"], 0, x)
     set_element(c["v"], 1023, y)
 
@@ -101,12 +101,12 @@ def spans_get(c, i, j):
     return whole(element(c["b"], i) + element(c["e"], j))
 
 
-def spans_put(c, i, x):
+def spans_put(c, i, x) -> None:
     set_element(c["c"], i, x)
     set_element(c["e"], i, x)
 
 
-def spans_move(c, i, j):
+def spans_move(c, i, j) -> None:
     set_element(c["d"], i, element(c["a"], j))
     set_element(c["a"], j, whole(element(c["e"], i) + 1))
     set_element(c["e"], j, element(c["d"], i))
@@ -150,44 +150,44 @@ end;
     )
 
 
-def shelves_pour(c, x):
+def shelves_pour(c, x) -> None:
     for _ in range(16):
         append(c["line"], x)
 
 
-def shelves_drain(c):
+def shelves_drain(c) -> None:
     for _ in range(16):
         first(c["line"])
         del c["line"][0]
 
 
-def shelves_fill(c, x):
+def shelves_fill(c, x) -> None:
     c["held"].update({f"k{at:02}": x for at in range(32)})
 
 
-def shelves_drop(c, k):
+def shelves_drop(c, k) -> None:
     lookup(c["held"], k)
     del c["held"][k]
 
 
-def shelves_move(c, k):
+def shelves_move(c, k) -> None:
     c["held"][k] = first(c["line"])
     del c["line"][0]
 
 
-def hall_come(c, x):
+def hall_come(c, x) -> None:
     c["seats"][0] = whole(c["seats"][0] + x)
 
 
-def hall_leave(c):
+def hall_leave(c) -> None:
     c["seats"][0] = whole(c["seats"][0] - 1)
 
 
-def hall_never(_):
+def hall_never(_: object) -> None:
     raise Refusal("never")
 
 
-def hall_clear(c):
+def hall_clear(c) -> None:
     first(c["log"])
     del c["log"][0]
 
@@ -198,19 +198,19 @@ def jobs_claim(c):
     return oldest
 
 
-def jobs_finish(c, x):
+def jobs_finish(c, x) -> None:
     if x == "it's":
         raise Refusal("never")
     c["tally"][0] = whole(c["tally"][0] + 1)
 
 
-def seats_book(c, i, x):
+def seats_book(c, i, x) -> None:
     if element(c["who"], i) != "":
         raise Refusal("taken")
     set_element(c["who"], i, x)
 
 
-def seats_free(c, i, x):
+def seats_free(c, i, x) -> None:
     if element(c["who"], i) != x:
         raise Refusal("other")
     set_element(c["who"], i, "")

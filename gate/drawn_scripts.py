@@ -34,7 +34,7 @@ class Script:
     # Lines that say nothing, of which one ends a script of so many.
     bad_lines, bad_in = BAD_LINES, 12
 
-    def __init__(self, seed):
+    def __init__(self, seed) -> None:
         self.seed, self.draw = seed, Drawer(seed)
         self.made = self.objects[seed % len(self.objects)]
         self.world = self.world_of(self.made)
@@ -58,7 +58,7 @@ class Script:
         blanks = [" " * self.draw.below(3), *(" " * (1 + self.draw.below(3)) for _ in words[1:]), " " * self.draw.below(3)]
         return "".join(blank + word for blank, word in zip(blanks, words)) + blanks[-1]
 
-    def add(self, words, answer):
+    def add(self, words, answer) -> None:
         self.lines.append(self.spaced(words))
         self.answers += answer
 
@@ -70,7 +70,7 @@ class Script:
             ends[-1] = b""
         return b"".join(line.encode("ascii") + end for line, end in zip(self.lines, ends))
 
-    def open(self):
+    def open(self) -> None:
         self.add(["object", self.cased(self.made.name)], [])
 
     def session(self):
@@ -110,12 +110,12 @@ class Script:
             op = self.draw.of(UNKNOWN)
         return session, op, arguments
 
-    def add_call(self, session, op, arguments):
+    def add_call(self, session, op, arguments) -> None:
         texts = self.texts(arguments)
         answer = self.world.call(session, op, arguments)
         self.add(["call", "s" + self.number(session), op, *texts], answer)
 
-    def draw_call(self):
+    def draw_call(self) -> None:
         op = self.operation(self.made.operations)
         arguments = self.arguments(op)
         if self.draw.one_in(20):
@@ -146,7 +146,7 @@ class Script:
         found = self.world.numbered("waiting")
         return self.draw.of(found) if found and not self.draw.one_in(3) else self.any_number()
 
-    def draw_line(self):
+    def draw_line(self) -> None:
         runs = self.world.numbered("running")
         weights = {"call": 24, "step": 24, "fail": 3, "steps": 14, "finish": 20, "cancel": 4}
         if not runs:
@@ -181,7 +181,7 @@ class Script:
         else:
             self.lines.append(self.draw.of(BLANKS))
 
-    def draw_lines(self):
+    def draw_lines(self) -> None:
         self.open()
         count = self.draw.of((self.draw.below(12), self.draw.below(60), 40 + self.draw.below(160)))
         bad = self.draw.below(count + 1) if self.draw.one_in(self.bad_in) else None
@@ -210,7 +210,7 @@ class InTurn(Script):
     """A drawn script in which each call is stepped to its end and finished before the next one. Its lines on finishes and
     contents follow from the sequential object alone."""
 
-    def draw_lines(self):
+    def draw_lines(self) -> None:
         self.open()
         contents, trace, number = self.made.opening(), [], 0
         for _ in range(1 + self.draw.below(45)):
@@ -226,13 +226,13 @@ class InTurn(Script):
                 self.add(["show"], shown_lines(self.made, contents))
         self.add(["show"], shown_lines(self.made, contents))
 
-    def add_turn(self, number, op, arguments, ending):
+    def add_turn(self, number, op, arguments, ending) -> None:
         """A call from its beginning to its end."""
         texts = self.texts(arguments)
         self.add(["call", f"s{1 + self.draw.below(6)}", self.cased(op), *texts], [])
         self.add_end(number, ending)
 
-    def add_end(self, number, ending):
+    def add_end(self, number, ending) -> None:
         self.add(["steps", str(number)], [])
         self.add(["finish", str(number)], [finish_line(number, ending)])
 
@@ -247,7 +247,7 @@ class Returning(Script):
 
     bad_lines, bad_in = BAD_RETURNS, 4
 
-    def draw_line(self):
+    def draw_line(self) -> None:
         kind = self.draw.weighted({"other": 24, "new": 12, "again": 11, "wrong": 3, "fail": 3, "drop": 4, "resume": 4})
         if kind == "other":
             super().draw_line()
@@ -268,7 +268,7 @@ class Returning(Script):
             session = self.draw.of(gone if gone and not self.draw.one_in(4) else SESSIONS)
             self.add(["resume", "s" + self.number(session)], self.world.resume(session))
 
-    def add_keyed(self, session, key, op, arguments):
+    def add_keyed(self, session, key, op, arguments) -> None:
         answer = self.world.keyed_call(session, key, op, arguments)
         words = ["call", "s" + self.number(session), "#" + self.number(key), self.cased(op)]
         self.add([*words, *self.texts(arguments)], answer)
@@ -280,12 +280,12 @@ class Returning(Script):
     def next_key(self, session):
         return self.key_of(session, len(self.world.calls) + 1)
 
-    def draw_new(self):
+    def draw_new(self) -> None:
         """A call under the next key of its session."""
         session, op, arguments = self.wished()
         self.add_keyed(session, self.next_key(session), op, arguments)
 
-    def draw_again(self):
+    def draw_again(self) -> None:
         """An accepted call once more, mostly as it was: one of those that stand alike."""
         if not self.world.calls:
             self.draw_new()
@@ -301,7 +301,7 @@ class Returning(Script):
                                           (self.operation(self.made.operations), arguments)))
         self.add_keyed(call.session, self.key_of(call.session, number), op, arguments)
 
-    def draw_wrong_key(self):
+    def draw_wrong_key(self) -> None:
         """A key that no call of the session has, and that is not the next one."""
         op, session = self.operation(self.made.operations), self.session()
         after = self.next_key(session) + 1
@@ -313,11 +313,11 @@ class InTurnAgain(InTurn):
     """A script in turn in which calls have keys, sessions come back, and calls that were done are asked for again: each
     answer to that is their finish line, which follows from the sequential object alone."""
 
-    def __init__(self, seed):
+    def __init__(self, seed) -> None:
         super().__init__(seed)
         self.done = {}
 
-    def add_turn(self, number, op, arguments, ending):
+    def add_turn(self, number, op, arguments, ending) -> None:
         session = 1 + self.draw.below(6)
         done = self.done.setdefault(session, [])
         if self.draw.one_in(3):
@@ -340,13 +340,13 @@ class Doing(Returning):
 
     bad_lines = BAD_DOS
 
-    def draw_line(self):
+    def draw_line(self) -> None:
         if not self.draw.one_in(3):
             super().draw_line()
             return
         self.add_done(*self.wished())
 
-    def add_done(self, session, op, arguments):
+    def add_done(self, session, op, arguments) -> None:
         texts = self.texts(arguments)
         answer = self.world.do(session, op, arguments)
         told = [it for it in answer if not it.startswith("started ")]
@@ -357,7 +357,7 @@ class Doing(Returning):
 class DoingInTurn(InTurn):
     """A script in turn in which a call is done in one line, or in three."""
 
-    def add_turn(self, number, op, arguments, ending):
+    def add_turn(self, number, op, arguments, ending) -> None:
         if self.draw.one_in(3):
             super().add_turn(number, op, arguments, ending)
             return
@@ -375,7 +375,7 @@ class Asking(Doing):
         found = self.world.numbered("waiting")
         return self.draw.of(found) if found and not self.draw.one_in(3) else self.any_number()
 
-    def draw_line(self):
+    def draw_line(self) -> None:
         if not self.draw.one_in(4):
             super().draw_line()
         elif self.draw.one_in(3):
@@ -393,7 +393,7 @@ class Holding(Asking):
     objects, world_of = HOLDING, HeldWorld
     world: HeldWorld
 
-    def draw_line(self):
+    def draw_line(self) -> None:
         held = self.world.held()
         if not held or not self.draw.one_in(4):
             super().draw_line()

@@ -17,12 +17,14 @@ Self = TypeVar("Self", bound="Talk")
 
 
 class Server(served.Server):
-    """`pathserve keep` over a folder `kept` in this one, at a port, or at the socket `place` where `at_path` is set."""
+    """`pathserve keep` over a folder `kept` in this one, at a port, each time that it is started at the same one where
+    it is given, or at the socket `place` where `at_path` is set."""
 
-    def __init__(self, room: pathlib.Path, source: str, *words: str, at_path: bool = False, kept: str = "kept",
-                 env: Mapping[str, str] | None = None, files: int | None = None, survives: bool = False) -> None:
+    def __init__(self, room: pathlib.Path, source: str, *words: str, at_path: bool = False, port: int | None = None,
+                 kept: str = "kept", env: Mapping[str, str] | None = None, files: int | None = None,
+                 survives: bool = False) -> None:
         super().__init__("keep", room / "objects.pp", room / kept, "--stop-with-input", *words, env=env, files=files,
-                         place=room / "place" if at_path else None, errors=room / "error", survives=survives)
+                         place=room / "place" if at_path else port, errors=room / "error", survives=survives)
         self.room = room
         self.file.write_text(source, encoding="ascii")
         self.folder.mkdir(exist_ok=True)

@@ -5,16 +5,20 @@ of the names that were made or changed since the folder went to the disk the fir
 """
 import os
 import pathlib
+import random
 import struct
 import subprocess
+from collections.abc import Iterable, Iterator, Sequence
 
 from gate.tried import TOP
 
 HEAD = struct.Struct("=5Q")
 SECTOR = 512
+# A change of a file: its letter, the place, and the bytes.
+Change = tuple[str, int, bytes]
 
 
-def build(folder):
+def build(folder: "str | pathlib.Path") -> pathlib.Path:
     """The library that fails and notes, built in a folder."""
     library = pathlib.Path(folder) / "libfail.so"
     words = ["cc", "-O2", "-shared", "-fPIC", "-o", str(library), str(TOP / "gate" / "fail.c"), ]
@@ -22,7 +26,7 @@ def build(folder):
     return library
 
 
-def records(log):
+def records(log: pathlib.Path) -> Iterator[tuple[str, int, int, bytes]]:
     """The changes that a log tells: letter, file, place, bytes. The last one may have been cut off."""
     text, at = (log.read_bytes() if log.exists() else b""), 0
     while at + HEAD.size <= len(text):
@@ -35,10 +39,11 @@ def records(log):
 
 
 class File:
-    def __init__(self, stored=b""):
-        self.stored, self.loose = bytearray(stored), []
+    def __init__(self, stored: bytes = b"") -> None:
+        self.stored = bytearray(stored)
+        self.loose: list[Change] = []
 
-    def changed(self, changes):
+    def changed(self, changes: Iterable[Change]) -> bytearray:
         text = bytearray(self.stored)
         for letter, at, piece in changes:
             if letter == "T":
@@ -48,20 +53,20 @@ class File:
                 text[at : at + len(piece)] = piece
         return text
 
-    def sync(self):
+    def sync(self) -> None:
         self.stored, self.loose = self.changed(self.loose), []
 
 
 class Disk:
     """A folder, and what of it is stored for certain."""
 
-    def __init__(self, folder):
+    def __init__(self, folder: pathlib.Path) -> None:
         self.folder = folder
         self.files = {it.stat().st_ino: File(it.read_bytes()) for it in folder.iterdir() if it.is_file()}
         self.names = {it.name: it.stat().st_ino for it in folder.iterdir() if it.is_file()}
-        self.loose = []
+        self.loose: list[tuple[str, int, str]] = []
 
-    def hear(self, log):
+    def hear(self, log: pathlib.Path) -> None:
         for letter, file, at, piece in records(log):
             if letter in "WT":
                 self.files.setdefault(file, File()).loose.append((letter, at, piece))
@@ -74,7 +79,7 @@ class Disk:
                 self.loose.append((letter, file, piece.decode()))
 
     @staticmethod
-    def name_all(names, changes):
+    def name_all(names: dict[str, int], changes: Iterable[tuple[str, int, str]]) -> None:
         for letter, file, text in changes:
             if letter == "O":
                 names[text] = file
@@ -87,24 +92,25 @@ class Disk:
                 elif old in names and names.get(new) != names[old]:
                     names[new] = names.pop(old)
 
-    def left(self, draw):
+    def left(self, draw: random.Random) -> tuple[dict[str, int], dict[int, bytes]]:
         """What a loss of power leaves: the numbers of files by their names, and the bytes of each file."""
         how = draw.choice(("none", "none", "all", "some", "some", "front"))
-        names, texts = dict(self.names), {}
+        names = dict(self.names)
+        texts: dict[int, bytes] = {}
         self.name_all(names, self.loose[: draw.randrange(len(self.loose) + 1)])
         for number in names.values():
             file = self.files.get(number, File())
             texts[number] = bytes(file.changed(list(chosen(file.loose, how, draw))))
         return names, texts
 
-    def lose(self, log, draw):
+    def lose(self, log: pathlib.Path, draw: random.Random) -> None:
         """Has the folder hold what a loss of power leaves of it, behind the changes that were noted."""
         self.hear(log)
         names, texts = self.left(draw)
         for it in list(self.folder.iterdir()):
             if it.is_file():
                 it.unlink()
-        made = {}
+        made: dict[int, pathlib.Path] = {}
         for name, number in names.items():
             if number in made:
                 os.link(made[number], self.folder / name)
@@ -114,7 +120,7 @@ class Disk:
         log.unlink(missing_ok=True)
 
 
-def chosen(changes, how, draw):
+def chosen(changes: Sequence[Change], how: str, draw: random.Random) -> Iterator[Change]:
     """Some of the changes that no sync has stored."""
     if how == "none":
         return

@@ -62,12 +62,12 @@ def entries(lines):
         yield word.strip(), text.strip()
 
 
-def put_list(page, lines):
+def put_list(page, lines) -> None:
     for word, text in entries(lines):
         page += [".TP", rf"\fB{escaped(word)}\fR", escaped(text)]
 
 
-def put_text(page, lines):
+def put_text(page, lines) -> None:
     """Paragraphs, and lines that are indented as they stand."""
     text = "\n".join(lines)
     for block in re.split(r"\n\s*\n", text):
@@ -133,7 +133,7 @@ def page_of(program):
     return "\n".join(page) + "\n"
 
 
-def main():
+def main() -> int:
     words = argparse.ArgumentParser(usage=__doc__, add_help=False)
     words.add_argument("--check", action="store_true")
     said = words.parse_args(given_words())

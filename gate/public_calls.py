@@ -231,7 +231,7 @@ def opens(calls):
     return {it: "is open, and the program stands on it" if it in below else None for it, told in calls.items() if told == "open"}
 
 
-def main():
+def main() -> int:
     words = argparse.ArgumentParser(prog="public_calls", usage="gate/public_calls [--count [--list]]")
     words.add_argument("--count", action="store_true")
     words.add_argument("--list", action="store_true")

@@ -110,25 +110,25 @@ class Run:
             self.play(folder, server, clients)
         finally:
             clients.close()
-            if server.child.poll() is None:
+            if server.runs():
                 server.kill()
 
     def play(self, folder, server, clients):
         server.env = self.env(folder)
         server.begin()
-        line = server.child.stdout.readline()
+        line = server.line()
         eve = None
         if line:
             check(line, f"listening {server.place}\n", "the first line")
             eve = Pumping(server) if self.kind.play == "epochs" else None
             for _ in range(ROUNDS):
                 clients.run(0.05)
-                if server.child.poll() is not None or clients.is_done() and (eve is None or not eve.is_alive()):
+                if not server.runs() or clients.is_done() and (eve is None or not eve.is_alive()):
                     break
             if eve:
                 eve.join()
         self.was_refused = (folder / "note").exists()
-        if server.child.poll() is None:
+        if server.runs():
             out, status = server.end()
         else:
             status = server.awaited()
@@ -244,7 +244,7 @@ def each_of(pool, libraries, kind, numbers, jobs):
     return passed, failed
 
 
-def main():
+def main() -> int:
     given, words = options(given_words(), runs=150, jobs=len(os.sched_getaffinity(0)), first=1)
     if lacks("cc"):
         return 0

@@ -72,7 +72,7 @@ def each_growth(pool, ahead, library, folder, tried):
     return passed, failed
 
 
-def has_failed_call(whole, found):
+def has_failed_call(whole, found) -> bool:
     """Whether a run is the whole one up to a line `failed N memory`, but for the answers to lines `step N` and `steps N`."""
     was, now = whole.splitlines(), found.splitlines()
     at = next((at for at, (first, second) in enumerate(zip(was, now)) if first != second), len(now))
@@ -103,7 +103,7 @@ def program_runs(folder):
     for name, words, stdin in runs(folder):
         whole = subprocess.run(words, input=stdin, capture_output=True, timeout=SECONDS)
 
-        def is_right(ran, was_refused, whole=whole, explains="--no-explain" not in words):
+        def is_right(ran, was_refused, whole=whole, explains="--no-explain" not in words) -> bool:
             same = (ran.returncode, ran.stdout, ran.stderr) == (whole.returncode, whole.stdout, whole.stderr)
             before = ran.stderr.removesuffix(b"out of memory\n")
             is_front = not before or (explains and whole.stderr.startswith(before))
@@ -115,7 +115,7 @@ def program_runs(folder):
         yield Tried(name, words, stdin, is_right)
 
 
-def main():
+def main() -> int:
     words = argparse.ArgumentParser(prog="refuse_memory", usage=__doc__.split("\n\n")[1].removeprefix("usage: "))
     words.add_argument("--jobs", type=int, default=len(os.sched_getaffinity(0)))
     words.add_argument("names", nargs="*")

@@ -37,7 +37,7 @@ MOST_FAILED = 5
 class Ran:
     """A run of a play that has ended: its status, what it wrote, what its clients were told, and whether a growth was refused."""
 
-    def __init__(self, library, folder, play, number):
+    def __init__(self, library, folder, play, number) -> None:
         self.name, self.is_whole = play.name, number == NONE
         self.folder, self.lines, self.clients = pathlib.Path(folder), [], []
         self.objects = self.folder / "objects.pp"
@@ -49,7 +49,7 @@ class Ran:
         server = Server("serve", self.objects, self.folder / "place", "--sessions", play.clients, env=env)
         server.begin()
         try:
-            self.port, self.output = server.port, server.child.stdout.readline()
+            self.port, self.output = server.port, server.line()
             if self.output:
                 self.clients = [it for _ in range(play.clients) if (it := self.connection())]
                 play.talk(self, *self.clients)
@@ -109,7 +109,7 @@ def hear(client):
         return None
 
 
-def hear_on(client, seconds):
+def hear_on(client, seconds) -> None:
     """Hears so long, or until no more comes."""
     last, client.end = client.end, min(client.end, time.monotonic() + seconds)
     try:
@@ -120,13 +120,13 @@ def hear_on(client, seconds):
     client.end = last
 
 
-def hear_until(client, ends):
+def hear_until(client, ends) -> None:
     """Hears until the client was told these ends of its calls, or no more comes."""
     while client.told.ends != ends and hear(client):
         pass
 
 
-def send_no_more(client):
+def send_no_more(client) -> None:
     try:
         client.it.shutdown(socket.SHUT_WR)
     except OSError:
@@ -149,7 +149,7 @@ end;
     ends = [{1: "done", 2: "done 7", 3: "done", 4: "done 12"}]
 
     @staticmethod
-    def talk(run, client=None):
+    def talk(run, client=None) -> None:
         for line in LINES if client else ():
             if not say(client, line) or not (answer := hear(client)):
                 return
@@ -167,7 +167,7 @@ end;
         return {"put": int(number or 0), "bump": value + int(number or 0), "get": value}[name]
 
     @staticmethod
-    def is_cut_off(lines):
+    def is_cut_off(lines) -> bool:
         """Whether the client was not told all."""
         return lines[-1:] != ["bye"]
 
@@ -195,7 +195,7 @@ class Two:
     ends = [{1: "done", 3: "done"}, {2: "done"}]
 
     @classmethod
-    def talk(cls, run, waits=None, other=None):
+    def talk(cls, run, waits=None, other=None) -> None:
         for client, *lines in (waits, "open two", "call b", "cancel 9", "call a"), (other, "open two", "call a", "quit"):
             if client and say(client, *lines):
                 hear_on(client, SHORT)
@@ -214,16 +214,16 @@ class Two:
         return f"02010001{value:08x}"
 
     @staticmethod
-    def value(value, _):
+    def value(value, _: object):
         """Both operations add one."""
         return value + 1
 
     @staticmethod
-    def is_cut_off(_):
+    def is_cut_off(_: object) -> bool:
         return False
 
     @staticmethod
-    def answered_wrongly(_):
+    def answered_wrongly(_: object):
         return []
 
 
@@ -235,7 +235,7 @@ class Again(One):
     calls = ("put 7", "bump 5", "get")
 
     @classmethod
-    def talk(cls, run, *clients):
+    def talk(cls, run, *clients) -> None:
         known = {}
         for client in clients:
             run.lines += cls.visited(client, known)
@@ -269,7 +269,7 @@ class Again(One):
         return [*said, "bye"]
 
     @staticmethod
-    def is_cut_off(lines):
+    def is_cut_off(lines) -> bool:
         return lines.count("bye") != 2
 
     @classmethod
@@ -321,7 +321,7 @@ def each_growth(pool, ahead, library, play, given):
     return passed, failed
 
 
-def main():
+def main() -> int:
     words = argparse.ArgumentParser(prog="refuse_server", usage="gate/refuse_server [--program FILE] [--jobs N] [FROM [TO]]")
     words.add_argument("--jobs", type=int, default=len(os.sched_getaffinity(0)))
     words.add_argument("numbers", nargs="*", type=int)

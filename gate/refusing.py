@@ -5,7 +5,7 @@ import subprocess
 from gate.tried import TOP
 
 
-def build(folder):
+def build(folder: "str | pathlib.Path") -> pathlib.Path:
     """The preload library, built in a folder."""
     library = pathlib.Path(folder) / "librefuse.so"
     words = ["cc", "-O2", "-shared", "-fPIC", "-o", str(library), str(TOP / "gate" / "refuse.c")]

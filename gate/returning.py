@@ -5,20 +5,18 @@ import pathlib
 import random
 import select
 import socket
-import struct
 import tempfile
 import threading
 import time
 from collections.abc import Callable
 
 from gate.drawn_objects import OBJECTS
-from gate.served import Server, Told, traced_wrongly
+from gate.served import Server, Told, resets, traced_wrongly
 from gate.slow_world import written
 from gate.tried import TOP, Wrong
 
 # How long an answer, and the end of a server, may take, in seconds.
 SECONDS = 20
-RESET = struct.pack("ii", 1, 0)
 # How a connection breaks: its input and output are closed, or by a reset, or its input alone, and what comes is read to the end.
 CUTS = ("hangs up", "resets", "sends no more")
 # Of each reply follows how often the calls before it were done.
@@ -31,7 +29,7 @@ end;
 BUFFER = (TOP / "examples" / "objects" / "bounded_buffer.pp").read_text(encoding="ascii")
 
 
-def check(found, *wanted):
+def check(found: object, *wanted: object) -> None:
     if found not in wanted:
         raise Wrong(f"{found!r}, not {' or '.join(map(repr, wanted))}")
 
@@ -39,22 +37,22 @@ def check(found, *wanted):
 class Served(Server):
     """A server of a source in a folder of its own, for so many connections."""
 
-    def __init__(self, source, sessions, *more):
+    def __init__(self, source: str, sessions: int, *more: object) -> None:
         self.room = tempfile.TemporaryDirectory(prefix="return-")
         objects, folder = pathlib.Path(self.room.name) / "objects", pathlib.Path(self.room.name) / "place"
         super().__init__("serve", objects, folder, "--sessions", sessions, *more)
         folder.mkdir()
         objects.write_text(source, encoding="ascii")
-        self.all_told = []
+        self.all_told: list[Told] = []
 
-    def client(self):
+    def client(self) -> "Named":
         return Named(self.port, self.all_told)
 
-    def __exit__(self, *_):
+    def __exit__(self, *_: object) -> None:
         self.kill()
         self.room.cleanup()
 
-    def end(self):
+    def end(self) -> dict[str, int]:
         """Waits for its end, which has to be in order, with whole traces. It answers how many entries each object has."""
         out, status, error = self.ended(SECONDS)
         check((status, error), (0, ""))
@@ -62,7 +60,7 @@ class Served(Server):
         wrong = [fault for told in self.all_told for fault in told.wrong]
         for name, count in counts.items():
             wrong += traced_wrongly(self.file, self.folder, name, self.all_told, count)
-        if wrong or list(self.folder.glob("*.val")):
+        if wrong or any(self.folder.glob("*.val")):
             raise Wrong("; ".join(wrong) or "a value file is left")
         return counts
 
@@ -70,21 +68,21 @@ class Served(Server):
 class Named:
     """A connection of a client that has a name."""
 
-    def __init__(self, port, all_told):
+    def __init__(self, port: int, all_told: list[Told]) -> None:
         self.it = socket.create_connection(("127.0.0.1", port), SECONDS)
         self.it.setsockopt(socket.IPPROTO_TCP, socket.TCP_NODELAY, 1)
         self.rest, self.told = b"", Told()
         all_told.append(self.told)
 
-    def send(self, text):
+    def send(self, text: "str | bytes") -> None:
         self.it.sendall(text if isinstance(text, bytes) else f"{text}\n".encode("ascii"))
 
-    def more(self):
+    def more(self) -> bytes:
         piece = self.it.recv(1 << 16)
         self.rest += piece
         return piece
 
-    def line(self):
+    def line(self) -> str:
         """The next line; at the end, or where the connection is broken, EOFError."""
         while b"\n" not in self.rest:
             try:
@@ -98,11 +96,11 @@ class Named:
         self.told.hear(line.decode("ascii"))
         return line.decode("ascii")
 
-    def ask(self, text):
+    def ask(self, text: str) -> str:
         self.send(text)
         return self.line()
 
-    def open(self, name, client):
+    def open(self, name: str, client: str) -> int:
         """Opens an object by a name, and answers its next key. The name is out until the session before it has ended."""
         end = time.monotonic() + SECONDS
         while (line := self.ask(f"open {name} as {client}")) == "no InUse" and time.monotonic() < end:
@@ -111,7 +109,7 @@ class Named:
         check(line.startswith(front), True)
         return int(line.removeprefix(front))
 
-    def call(self, key, text):
+    def call(self, key: int, text: str) -> tuple[bool, str]:
         """Calls under a key: whether the call is a new one, and its last line."""
         line = self.ask(f"call #{key} {text}")
         if line.startswith("accepted "):
@@ -119,11 +117,11 @@ class Named:
         check(line.startswith("repeat "), True)
         return False, line.removeprefix("repeat ")
 
-    def again(self, key, text, last):
+    def again(self, key: int, text: str, last: str) -> None:
         """Asks again for a call, which has to be answered by its last line."""
         check(self.ask(f"call #{key} {text}"), f"repeat {last}")
 
-    def take(self, count):
+    def take(self, count: int) -> None:
         """Takes so many bytes of what comes, and no more. What they tell is kept."""
         taken = b""
         while len(taken) < count:
@@ -135,7 +133,7 @@ class Named:
         while b"\n" in self.rest:
             self.line()
 
-    def cut(self, how):
+    def cut(self, how: str) -> None:
         """Breaks the connection."""
         if how == "sends no more":
             self.it.shutdown(socket.SHUT_WR)
@@ -145,16 +143,16 @@ class Named:
             except EOFError:
                 pass
         if how == "resets":
-            self.it.setsockopt(socket.SOL_SOCKET, socket.SO_LINGER, RESET)
+            resets(self.it)
         self.it.close()
 
-    def quit(self):
+    def quit(self) -> None:
         self.send("quit")
         check(self.line(), "bye")
         self.it.close()
 
 
-def ask_again(server, key, place, may_be_new):
+def ask_again(server: Served, key: int, place: str, may_be_new: bool) -> None:
     """Comes back after a cut, and asks under the key of that call: it is done once, and each answer is the same. (Calls add 5, so
     the reply says how many were done.)"""
     it, last = server.client(), f"done {key} {5 * key}"
@@ -170,7 +168,7 @@ def ask_again(server, key, place, may_be_new):
         raise Wrong(f"cut at {place} of call {key}, next key {found}: {error}") from None
 
 
-def cut_line(how):
+def cut_line(how: str) -> None:
     """A client that is cut at each byte of the line of its call. A line that did not come whole is not done."""
     size = len("call #99 add 5\n")
     with Served(METER, 2 * (size + 1)) as server:
@@ -185,7 +183,7 @@ def cut_line(how):
         check(server.end(), {"meter": size + 1})
 
 
-def cut_open(how):
+def cut_open(how: str) -> None:
     """A client that is cut at each byte of the line with which it opens: that may open by a shorter name, and takes no key."""
     line = b"open meter as ann\n"
     with Served(METER, len(line) + 2) as server:
@@ -204,7 +202,7 @@ def cut_open(how):
         check(server.end(), {"meter": 1})
 
 
-def cut_answer(how):
+def cut_answer(how: str) -> None:
     """A client that is cut once it has read so many bytes of the answer to its call, for each number of them."""
     size = len("accepted 9\ndone 9 45\n") + 4
     with Served(METER, 2 * (size + 1)) as server:
@@ -218,7 +216,7 @@ def cut_answer(how):
         check(server.end(), {"meter": size + 1})
 
 
-def cut_waiting(how):
+def cut_waiting(how: str) -> None:
     """A client whose call waits when it is cut, after each number of bytes of `accepted N`: the call is cancelled, and stays so."""
     with Served(BUFFER, 2 * 12 + 3) as server:
         key, number, puts = 1, 0, 0
@@ -260,7 +258,7 @@ def cut_waiting(how):
         check(server.end(), {"bounded_buffer": 2 * puts})
 
 
-def two_at_once():
+def two_at_once() -> None:
     """Two connections with one name: the second one is refused until the first one has ended. A name is one of an object."""
     with Served(METER + METER.replace("meter", "other"), 5) as server:
         a, b, c, d = (server.client() for _ in range(4))
@@ -286,7 +284,7 @@ def two_at_once():
         check(server.end(), {"meter": 2, "other": 0})
 
 
-def names_at_once():
+def names_at_once() -> None:
     """As many names as half of the connections of a server, at once: each is cut, comes back, and gets its own replies."""
     with Served(METER, 64) as server:
         names = [f"n{it}" for it in range(32)]
@@ -310,7 +308,7 @@ def names_at_once():
         check(server.end(), {"meter": 64})
 
 
-def stopped():
+def stopped() -> None:
     """A server that is stopped while seats are parked, one name is out, and the call of another one waits: all adds up."""
     with Served(BUFFER, 9, "--stop-with-input") as server:
         for name in ("ann", "bob", "cid"):
@@ -331,11 +329,11 @@ def stopped():
             it.it.close()
 
 
-def together(work, count):
+def together(work: Callable[[int], object], count: int) -> None:
     """Does some work so often at the same time, by its number. It raises what is wrong with one of them."""
     wrong = []
 
-    def attempt(number):
+    def attempt(number: int) -> None:
         try:
             work(number)
         except (Wrong, EOFError, OSError) as error:
@@ -350,13 +348,13 @@ def together(work, count):
         raise Wrong("; ".join(wrong) or "one goes on")
 
 
-def one_name_for_all():
+def one_name_for_all() -> None:
     """Clients that share a name, and come for it at the same time: one has it at a time, and each call has a key of its own."""
     count, turns = 16, 4
     keys = []
     with Served(METER, count * turns) as server:
 
-        def work(number):
+        def work(number: int) -> None:
             for turn in range(turns):
                 it = server.client()
                 key = it.open("meter", "ann")
@@ -372,12 +370,12 @@ def one_name_for_all():
         check(server.end(), {"meter": count * turns})
 
 
-def stopped_meanwhile():
+def stopped_meanwhile() -> None:
     """A server that is stopped while clients by name call, are cut and come back."""
     count, turns = 8, 8
     with Served(METER, count * turns, "--stop-with-input") as server:
 
-        def work(number):
+        def work(number: int) -> None:
             done = 0
             for turn in range(turns):
                 try:
@@ -410,17 +408,19 @@ def stopped_meanwhile():
 class Wanderer(threading.Thread):
     """A client that is cut at a place that is drawn, three times, and asks again for all that it called."""
 
-    def __init__(self, seed, number, server):
+    def __init__(self, seed: int, number: int, server: Served) -> None:
         super().__init__(daemon=True)
         self.random, self.server, self.client = random.Random(seed * 1000 + number), server, f"w{number}"
         self.made = self.random.choice(OBJECTS)
-        self.calls, self.lasts, self.wrong = [], {}, None
+        self.calls: list[str] = []
+        self.lasts: dict[int, str] = {}
+        self.wrong: "str | None" = None
 
-    def drawn(self):
+    def drawn(self) -> str:
         op = self.random.choice(list(self.made.operations))
         return " ".join([op, *(written(self.random.choice(it)) for it in self.made.operations[op].draws)])
 
-    def run(self):
+    def run(self) -> None:
         try:
             for turn in range(3):
                 it = self.server.client()
@@ -433,7 +433,7 @@ class Wanderer(threading.Thread):
         except (Wrong, EOFError, OSError) as error:
             self.wrong = f"{self.made.name}, {self.client}: {type(error).__name__} {error}"
 
-    def ask_for_all(self, it, key):
+    def ask_for_all(self, it: Named, key: int) -> None:
         """Asks for each call once more, but for those that were not taken; a call that was told has to be there."""
         check(key > max(self.lasts, default=0) and key <= len(self.calls) + 1, True)
         del self.calls[key - 1 :]
@@ -441,7 +441,7 @@ class Wanderer(threading.Thread):
             is_new, last = it.call(number, text)
             check((is_new, last), (False, self.lasts.setdefault(number, last)))
 
-    def talk(self, it):
+    def talk(self, it: Named) -> None:
         """Sends calls ahead as far as a byte that is drawn, and reads as many lines as is drawn. None waits for long, since
         another client cancels what waits."""
         first, count = len(self.calls) + 1, self.random.randrange(1, 12)
@@ -457,7 +457,7 @@ class Wanderer(threading.Thread):
             lines -= 1
 
 
-def cancel_all(server, name, wanderers):
+def cancel_all(server: Served, name: str, wanderers: "list[Wanderer]") -> None:
     """Cancels each call of an object in turn, as long as clients go on."""
     it, number = server.client(), 0
     try:
@@ -472,7 +472,7 @@ def cancel_all(server, name, wanderers):
         pass
 
 
-def drawn(seed):
+def drawn(seed: int) -> int:
     """Clients by name that are cut at drawn places while others cancel what waits."""
     count = (64 - len(OBJECTS)) // 3
     with Served("".join(it.text for it in OBJECTS), 3 * count + len(OBJECTS)) as server:
@@ -504,7 +504,7 @@ TRIALS: dict[str, Callable[[], object]] = {
 }
 
 
-def tried(name):
+def tried(name: str) -> "str | None":
     """What is wrong in a trial, as a line, or none."""
     try:
         TRIALS[name]()

@@ -98,7 +98,7 @@ def tried(case):
     return report(case, fault, ran) if fault else None
 
 
-def main():
+def main() -> int:
     words = given_words()
     if words[:1] == ["--input"]:
         for case in chosen_cases(words[1:], cases_of)[0]:

@@ -10,6 +10,7 @@ have failed the others are not run, and cases whose client is in C where there i
 N is not.
 """
 import concurrent.futures
+import contextlib
 import os
 import pathlib
 import shutil
@@ -18,88 +19,88 @@ import subprocess
 import tempfile
 import threading
 import time
-from typing import BinaryIO
+from typing import Any
 
 from gate.cases import chosen_cases, is_like
-from gate.clients import MOST_BYTES, Connection, Program, Wrong
+from gate.clients import MOST_BYTES, Client, Connection, Program, Wrong
 from gate.difference import difference
-from gate.served import free_port, traced_wrongly
-from gate.sessions import content, folder_faults, stories_of
-from gate.tried import given_words, lacks, program, whole
+from gate.served import Process, Told, free_port, traced_wrongly
+from gate.sessions import Step, Story, content, folder_faults, stories_of
+from gate.tried import given_words, lacks, program, there, whole
 
 # How long a case may last, and how long a step may wait, in seconds.
 LASTS, WAITS = 240, 20
 # How many cases run at once: most of them wait. After so many that failed the others are not run, and have failed too.
 AT_ONCE, MOST_FAILED = 8, 24
+# What a case may send elsewhere, and how that file is opened.
+REDIRECTIONS = {"<": ("stdin", "rb"), ">": ("stdout", "wb")}
 
 
-class Server:
-    """A started server: what it writes is kept."""
+class Played(Process):
+    """A server that is started by the words of a case: what it writes is kept."""
 
-    def __init__(self, words, folder):
-        stdin: int | BinaryIO = subprocess.PIPE if "--stop-with-input" in words else subprocess.DEVNULL
-        stdout: int | BinaryIO = subprocess.PIPE
-        given = []
+    def __init__(self, words: list[str], folder: pathlib.Path) -> None:
+        given, files = [], {}
         rest = iter(words)
         for word in rest:
-            if word == "<":
-                stdin = open(next(rest), "rb")
-            elif word == ">":
-                stdout = open(next(rest), "wb")
+            if word in REDIRECTIONS:
+                files[word] = next(rest)
             else:
                 given.append(word)
-        self.ran = subprocess.Popen([program(), *given], stdin=stdin, stdout=stdout, stderr=subprocess.PIPE, cwd=folder)
-        self.output, self.error, self.told, self.is_killed = b"", b"", [], False
-        self.said = threading.Event()
+        self.output, self.said_error, self.is_killed, self.said = b"", b"", False, threading.Event()
+        self.told: list[Told] = []
+        with contextlib.ExitStack() as stack:
+            more: dict[str, Any] = {REDIRECTIONS[it][0]: stack.enter_context(open(file, REDIRECTIONS[it][1])) for it, file in files.items()}
+            if "<" not in files and "--stop-with-input" not in words:
+                more["stdin"] = subprocess.DEVNULL
+            self.begin_by([program(), *given], cwd=folder, **more)
         self.readers = [threading.Thread(target=it) for it in (self.keep_output, self.keep_error)]
         for it in self.readers:
             it.start()
 
-    def keep_output(self):
-        while self.ran.stdout and (piece := os.read(self.ran.stdout.fileno(), 1 << 16)):
+    def keep_output(self) -> None:
+        while self.child.stdout and (piece := os.read(self.child.stdout.fileno(), 1 << 16)):
             self.output += piece if len(self.output) < MOST_BYTES else b""
             if b"\n" in self.output:
                 self.said.set()
         self.said.set()
 
-    def keep_error(self):
-        self.error = self.ran.stderr.read()
+    def keep_error(self) -> None:
+        self.said_error = b"".join(iter(lambda: os.read(there(self.child.stderr).fileno(), 1 << 16), b""))
 
-    def await_end(self, seconds):
-        try:
-            self.ran.wait(seconds)
-        except subprocess.TimeoutExpired:
-            raise Wrong(f"the server has not ended after {seconds:.0f} seconds") from None
+    def await_end(self, seconds: float) -> None:
+        if self.awaited(seconds) is None:
+            raise Wrong(f"the server has not ended after {seconds:.0f} seconds")
         for it in self.readers:
             it.join()
 
-    def stop(self):
-        """Ends its standard input."""
-        self.ran.stdin.close()
-
-    def kill(self):
+    def kill(self) -> None:
         self.is_killed = True
-        self.ran.kill()
+        self.child.kill()
         self.await_end(WAITS)
+        self.close()
 
 
 class Stage:
     """A case while it runs: its folder, its port, its connections and its servers."""
 
-    def __init__(self, case, folder):
+    def __init__(self, case: Story, folder: "str | pathlib.Path") -> None:
         self.case, self.room, self.port = case, pathlib.Path(folder), free_port()
         self.end = time.monotonic() + LASTS
-        self.place, self.connections, self.servers, self.taken = self.room / "folder", {}, [], []
+        self.place = self.room / "folder"
+        self.servers: list[Played] = []
+        self.connections: dict[str, Client] = {}
+        self.taken: list[socket.socket] = []
         self.place.mkdir()
         for name, held in case.before:
             if name.endswith("/"):
                 (self.place / name).mkdir()
             else:
-                (self.place / name).write_bytes(held)
+                (self.place / name).write_bytes(held if isinstance(held, bytes) else b"")
         for name, text in case.inputs.items():
             (self.room / name).write_bytes(text)
 
-    def words(self, more):
+    def words(self, more: str) -> list[str]:
         """The words of a server's command, with what stands for OBJECTS, FOLDER and PORT put in."""
         puts = {"PORT": str(self.port), "FOLDER": str(self.place), **{it: str(self.room / it) for it in self.case.inputs}}
         found = []
@@ -108,26 +109,26 @@ class Stage:
             found.append(puts[front] + slash + rest if front in puts else word)
         return found
 
-    def left(self):
+    def left(self) -> float:
         left = self.end - time.monotonic()
         if left <= 0:
             raise Wrong(f"the case lasts more than {LASTS} seconds")
         return min(left, WAITS)
 
-    def start(self, more=""):
-        server = Server(self.words(more), self.room)
+    def start(self, more: str = "") -> None:
+        server = Played(self.words(more), self.room)
         self.servers.append(server)
         if not server.said.wait(self.left()):
             raise Wrong("the server says nothing")
 
-    def connection(self, who):
+    def connection(self, who: str) -> Client:
         """The connection of this name, which is made where it is not there."""
         if who not in self.connections:
-            self.connections[who] = Connection(self.port, self.left())
-            self.servers[-1].told.append(self.connections[who].told)
+            self.connections[who] = made = Connection(self.port, self.left())
+            self.servers[-1].told.append(made.told)
         return self.connections[who]
 
-    def expect_refusal(self):
+    def expect_refusal(self) -> None:
         """Nobody takes a connection, or it is closed at once without a line."""
         try:
             with socket.create_connection(("127.0.0.1", self.port), self.left()) as it:
@@ -136,12 +137,12 @@ class Stage:
             return
         raise Wrong(f"a connection was taken, and {heard!r} heard")
 
-    def end_server(self):
+    def end_server(self) -> None:
         self.servers[-1].await_end(self.left())
-        if self.servers[-1].ran.returncode != 0:
-            raise Wrong(f"the server ended with status {self.servers[-1].ran.returncode}")
+        if self.servers[-1].child.returncode != 0:
+            raise Wrong(f"the server ended with status {self.servers[-1].child.returncode}")
 
-    def do_server(self, step):
+    def do_server(self, step: Step) -> bool:
         """Does a step that is none of a client, or answers False."""
         if step.form == "server starts":
             self.start(step.texts[0])
@@ -166,7 +167,7 @@ class Stage:
             return False
         return True
 
-    def do(self, step):
+    def do(self, step: Step) -> None:
         """Does one step."""
         if self.do_server(step):
             return
@@ -177,7 +178,7 @@ class Stage:
         it.end = time.monotonic() + self.left()
         it.do(step, self.case.piece)
 
-    def play(self):
+    def play(self) -> None:
         """Does all steps, and waits for the server's end. The server is started first, where no step comes before that."""
         if not self.case.steps or self.case.steps[0].form not in ("server starts", "port is taken"):
             self.start()
@@ -188,30 +189,30 @@ class Stage:
                 raise Wrong(f"line {step.line}: {error}") from None
         self.servers[-1].await_end(self.left())
 
-    def fault(self):
+    def fault(self) -> list[str]:
         """What is wrong with what is left, as lines, or none."""
         case, last = self.case, self.servers[-1]
         output = b"".join(it.output for it in self.servers)
-        wanted = case.output.replace(b"PORT", str(self.port).encode())
+        wanted = (case.output or b"").replace(b"PORT", str(self.port).encode())
         wanted_error = case.error.replace(b"port PORT", b"port %d" % self.port)
         # An input is named by its name.
-        error = last.error.replace(os.fsencode(self.room) + b"/", b"")
+        error = last.said_error.replace(os.fsencode(self.room) + b"/", b"")
         if not is_like(wanted_error, error):
             return ["standard error:", *difference(wanted_error, error)]
         if not is_like(wanted, output):
             return ["standard output:", *difference(wanted, output)]
-        if last.ran.returncode != case.status:
-            return [f"ended with status {last.ran.returncode}, not {case.status}"]
+        if last.child.returncode != case.status:
+            return [f"ended with status {last.child.returncode}, not {case.status}"]
         faults = [] if case.after is None else folder_faults(case.after, self.place)
         for name, text in case.traces.items():
             if (self.place / name).read_bytes() != text:
                 faults += [f"{name}:", *difference(text, (self.place / name).read_bytes())]
         return faults + self.trace_faults()
 
-    def trace_faults(self):
+    def trace_faults(self) -> list[str]:
         """What is wrong with the traces of the last server."""
         last = self.servers[-1]
-        if last.is_killed or last.ran.returncode:
+        if last.is_killed or last.child.returncode:
             return []
         faults = [wrong for it in last.told for wrong in it.wrong]
         for line in last.output.decode().splitlines():
@@ -220,14 +221,16 @@ class Stage:
                 faults += traced_wrongly(self.room / "OBJECTS", self.place, name, last.told, int(count))
         return faults
 
-    def close(self):
-        for it in [*self.connections.values(), *self.taken]:
-            it.close()
+    def close(self) -> None:
+        for one in self.connections.values():
+            one.close()
+        for taken in self.taken:
+            taken.close()
         for it in self.servers:
             it.kill()
 
 
-def tried(case, failed):
+def tried(case: Story, failed: list[str]) -> "str | None":
     """What is said of a case that fails, or none. `failed` has the names of those that did."""
     if len(failed) >= MOST_FAILED:
         return f"{case.name()}: not run"
@@ -237,7 +240,7 @@ def tried(case, failed):
     return said
 
 
-def what_fails(case):
+def what_fails(case: Story) -> "str | None":
     """Runs a case. It answers what is said of it where it fails, or none."""
     with tempfile.TemporaryDirectory(prefix="serve-") as folder:
         stage = Stage(case, folder)
@@ -250,16 +253,16 @@ def what_fails(case):
             stage.close()
     if not faults:
         return None
-    said = [f"    the server said {it.output[-200:]!r} {it.error[-200:]!r}" for it in stage.servers]
+    said = [f"    the server said {it.output[-200:]!r} {it.said_error[-200:]!r}" for it in stage.servers]
     return "\n".join([f"{case.name()}: {faults[0]}", *faults[1:], *said])
 
 
-def is_in_c(case):
+def is_in_c(case: Story) -> bool:
     """Whether a client of a case is a program in C."""
     return any(it.form == "runs" and it.texts[0].split()[0].endswith(".c") for it in case.steps)
 
 
-def main():
+def main() -> int:
     words = given_words()
     # Once, before the threads ask.
     program()
@@ -268,7 +271,7 @@ def main():
         found = [it for it in found if not is_in_c(it)]
     print("\n".join(bad), end="\n" if bad else "")
     with concurrent.futures.ThreadPoolExecutor(AT_ONCE) as pool:
-        names = []
+        names: list[str] = []
         said = list(pool.map(lambda it: tried(it, names), found))
     for line in filter(None, said):
         print(line)

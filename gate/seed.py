@@ -189,7 +189,7 @@ def ahead(rt, lanes):
         time.sleep(5)
 
 
-def main():
+def main() -> int:
     parser = argparse.ArgumentParser(usage=__doc__.split("\n\n")[1].removeprefix("usage: "))
     parser.add_argument("--from", dest="clones", nargs="+", default=[])
     parser.add_argument("--look", action="store_true")

@@ -84,7 +84,8 @@ def run(tool: str, named: Sequence[int], work: Callable[[int], Tallied], seeds: 
     said = each(work, named or seeds)
     failed = [it for it, _ in said if it]
     tell(failed)
-    passed, tally = len(said) - len(failed), sum((it for _, it in said), collections.Counter())
+    passed = len(said) - len(failed)
+    tally: "collections.Counter[str]" = sum((it for _, it in said), collections.Counter())
     for kind in () if named else kinds:
         if tally[kind] < often:
             print(f"{tool}: {kind}: {tally[kind]} times alone")

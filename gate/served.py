@@ -7,12 +7,13 @@ import random
 import re
 import signal
 import socket
+import struct
 import subprocess
 import threading
 from collections.abc import Iterable, Mapping, Sequence
-from typing import BinaryIO, NamedTuple, TypeVar
+from typing import Any, BinaryIO, NamedTuple, TypeVar
 
-from gate.tried import SECONDS, Wrong, program
+from gate.tried import SECONDS, Wrong, program, there
 
 LAST_LINE = re.compile(r"(done|refused|failed|cancelled) (\d+)(?: (.*))?")
 OPENED = re.compile(r"opened (\w+)(?: next (\d+))?")
@@ -41,6 +42,11 @@ def free_port() -> int:
     raise OSError("no port is free")
 
 
+def resets(it: socket.socket) -> None:
+    """Has a connection be reset where it is closed next."""
+    it.setsockopt(socket.SOL_SOCKET, socket.SO_LINGER, struct.pack("ii", 1, 0))
+
+
 def heed_signals() -> None:
     """Heeds SIGINT and SIGHUP, and so do the processes that are started from now on: a job in the background, or below
     nohup, is begun with one of them ignored."""
@@ -66,15 +72,94 @@ class Ended(NamedTuple):
     error: str
 
 
-class Server:
+class Process:
+    """A process that serves: it is started, looked at, ended and killed."""
+
+    begun: "subprocess.Popen[str] | None" = None
+    # The file of its standard error, where that is no pipe.
+    errors: "pathlib.Path | None" = None
+
+    @property
+    def child(self) -> "subprocess.Popen[str]":
+        return there(self.begun, "the process of a server")
+
+    def begin_by(self, words: Sequence[object], **more: Any) -> None:
+        """Starts it by this command: standard input and output are pipes, and so is standard error where it is no file."""
+        pipe = subprocess.PIPE
+        with contextlib.ExitStack() as stack:
+            errors: int | BinaryIO = stack.enter_context(self.errors.open("wb")) if self.errors else pipe
+            given: dict[str, Any] = {"stdin": pipe, "stdout": pipe, "stderr": errors, **more}
+            self.begun = subprocess.Popen([str(it) for it in words], text=True, **given)
+
+    def line(self) -> str:
+        """The next line that it says."""
+        return there(self.child.stdout, "the pipe of its output").readline()
+
+    def runs(self) -> bool:
+        return self.child.poll() is None
+
+    def error(self) -> str:
+        """What it has said so far in the file of its standard error."""
+        return there(self.errors, "the file of its errors").read_text(errors="replace")
+
+    def ended(self, seconds: float = SECONDS) -> Ended:
+        """Ends its input, and waits for its end."""
+        try:
+            said, error = self.child.communicate(timeout=seconds)
+        except subprocess.TimeoutExpired:
+            self.kill()
+            raise Wrong("the server does not end") from None
+        return Ended(said, self.child.returncode, self.error() if self.errors else error)
+
+    def stop(self) -> None:
+        """Ends its input, and does not wait."""
+        if self.child.stdin:
+            self.child.stdin.close()
+            self.child.stdin = None
+
+    def kill(self) -> None:
+        self.child.kill()
+        self.child.wait()
+        self.close()
+
+    def close(self) -> None:
+        for it in (self.child.stdin, self.child.stdout, self.child.stderr):
+            with contextlib.suppress(OSError):
+                if it:
+                    it.close()
+
+    def awaited(self, seconds: float = SECONDS) -> int | None:
+        """The status with which it ends by itself, or none where it goes on for so many seconds."""
+        with contextlib.suppress(subprocess.TimeoutExpired):
+            return self.child.wait(seconds)
+        return None
+
+    def memory(self, word: str = "VmRSS") -> int:
+        """So many KiB of memory it has, or had at most (`VmHWM`)."""
+        status = pathlib.Path(f"/proc/{self.child.pid}/status").read_text()
+        return int(next(it for it in status.splitlines() if it.startswith(word)).split()[1])
+
+    def processor(self) -> float:
+        """The seconds of a processor that it took."""
+        words = pathlib.Path(f"/proc/{self.child.pid}/stat").read_text().rpartition(")")[2].split()
+        return (int(words[11]) + int(words[12])) / os.sysconf("SC_CLK_TCK")
+
+    def microseconds(self) -> float:
+        """The processor time of the threads that it has, in microseconds, as the scheduler counts it."""
+        tasks = pathlib.Path(f"/proc/{self.child.pid}/task").glob("*/schedstat")
+        return sum(int(it.read_text(encoding="ascii").split()[0]) for it in tasks) / 1000
+
+    def descriptors(self) -> int:
+        return len(os.listdir(f"/proc/{self.child.pid}/fd"))
+
+
+class Server(Process):
     """`pathserve serve` or `pathserve keep` of the objects of a file over a folder. It is at the port, or the path of a
     socket, `place`, or at another port each time that it is started.
 
     `env` is more in its environment, `files` how many it may have open, `user` who runs it, and `by` the command that
     is called in the place of the program. Standard error goes to the file `errors`, or to a pipe. A server that
     `survives` is not killed by a write past a limit on the size of its files: that fails, as one on a full disk does."""
-
-    child: "subprocess.Popen[str] | None" = None
 
     def __init__(self, command: str, file: pathlib.Path, folder: pathlib.Path, *words: object, place: object = None,
                  env: Mapping[str, str] | None = None, files: int | None = None, user: int | None = None,
@@ -104,67 +189,26 @@ class Server:
         """Starts it, and does not wait for what it says."""
         if not self.has_place:
             self.place = str(free_port())
-        words = [*self.by, self.command, self.file, self.folder, self.place, *self.words]
-        pipe = subprocess.PIPE
-        with contextlib.ExitStack() as stack:
-            errors: int | BinaryIO = stack.enter_context(self.errors.open("wb")) if self.errors else pipe
-            self.child = subprocess.Popen(
-                [str(it) for it in words], stdin=pipe, stdout=pipe, stderr=errors, text=True,
-                env={**os.environ, **self.env}, restore_signals=not self.survives,
-                user=self.user, group=self.user, extra_groups=None if self.user is None else [],
-            )
+        self.begin_by([*self.by, self.command, self.file, self.folder, self.place, *self.words],
+                      env={**os.environ, **self.env}, restore_signals=not self.survives,
+                      user=self.user, group=self.user, extra_groups=None if self.user is None else [])
 
     def start(self) -> None:
         """Starts it, and waits until it listens."""
         self.begin()
-        line = self.child.stdout.readline()
+        line = self.line()
         if line != f"listening {self.place}\n":
             said, status, error = self.ended()
             raise Wrong(f"the server said {line + said + error!r}, status {status}")
 
-    def error(self) -> str:
-        """What it has said so far in the file of its standard error."""
-        return self.errors.read_text(errors="replace")
-
-    def ended(self, seconds: float = SECONDS) -> Ended:
-        """Ends its input, and waits for its end."""
-        try:
-            said, error = self.child.communicate(timeout=seconds)
-        except subprocess.TimeoutExpired:
-            self.kill()
-            raise Wrong("the server does not end") from None
-        return Ended(said, self.child.returncode, self.error() if self.errors else error)
-
     def refused(self, seconds: float = SECONDS) -> Ended:
         """Starts it, once more where it runs, which comes to nothing."""
-        child, place = self.child, self.place
+        begun, place = self.begun, self.place
         self.begin()
         try:
             return self.ended(seconds)
         finally:
-            self.child, self.place = child, place
-
-    def stop(self) -> None:
-        """Ends its input, and does not wait."""
-        self.child.stdin.close()
-        self.child.stdin = None
-
-    def kill(self) -> None:
-        self.child.kill()
-        self.child.wait()
-        self.close()
-
-    def close(self) -> None:
-        for it in (self.child.stdin, self.child.stdout, self.child.stderr):
-            with contextlib.suppress(OSError):
-                if it:
-                    it.close()
-
-    def awaited(self, seconds: float = SECONDS) -> int | None:
-        """The status with which it ends by itself, or none where it goes on for so many seconds."""
-        with contextlib.suppress(subprocess.TimeoutExpired):
-            return self.child.wait(seconds)
-        return None
+            self.begun, self.place = begun, place
 
     def connect(self, seconds: float = SECONDS) -> socket.socket:
         made = socket.socket(socket.AF_UNIX if self.at_path else socket.AF_INET)
@@ -183,19 +227,6 @@ class Server:
         with self.connect() as it:
             it.sendall("".join(f"{line}\n" for line in (*lines, "quit")).encode())
             return it.makefile("rb").read().decode().split("\n")[:-1]
-
-    def memory(self, word: str = "VmRSS") -> int:
-        """So many KiB of memory it has, or had at most (`VmHWM`)."""
-        status = pathlib.Path(f"/proc/{self.child.pid}/status").read_text()
-        return int(next(it for it in status.splitlines() if it.startswith(word)).split()[1])
-
-    def processor(self) -> float:
-        """The seconds of a processor that it took."""
-        words = pathlib.Path(f"/proc/{self.child.pid}/stat").read_text().rpartition(")")[2].split()
-        return (int(words[11]) + int(words[12])) / os.sysconf("SC_CLK_TCK")
-
-    def descriptors(self) -> int:
-        return len(os.listdir(f"/proc/{self.child.pid}/fd"))
 
 
 class Told:

@@ -1,8 +1,10 @@
 """Reads the cases of a server: cases/README.md has the notation."""
 import dataclasses
+import pathlib
 import re
+from collections.abc import Iterator
 
-from gate.cases import BadCase, Case, Reader, cases_of, lines_of, read_text
+from gate.cases import BadCase, Block, Case, Reader, cases_of, lines_of, read_text
 
 # What a step says, by its form: who, and what.
 FORMS = {
@@ -32,6 +34,8 @@ READ = ("sends", "presses", "hears", "hears among")
 # Steps of one connection that follow one another are one step.
 JOINED = ("sends", "hears among")
 TIMES = re.compile(r"(\d+) times:")
+# The names and contents of the files of a folder, as a case says them.
+Contents = list[tuple[str, "str | bytes | None"]]
 # The most that a value file may be numbered, and one more.
 END_OF_NUMBERS = 1 << 63
 
@@ -51,12 +55,12 @@ class Story(Case):
     """A case of a server: what happens, and the folder before and after."""
 
     steps: list[Step] = dataclasses.field(default_factory=list)
-    before: "list[tuple[str, str | bytes | None]]" = dataclasses.field(default_factory=list)
-    after: "list[tuple[str, str | bytes | None]] | None" = None
+    before: "Contents" = dataclasses.field(default_factory=list)
+    after: "Contents | None" = None
     traces: dict[str, bytes] = dataclasses.field(default_factory=dict)
 
 
-def form_of(line):
+def form_of(line: str) -> "tuple[str, str, str] | None":
     """The form of a step, who does it, and its text."""
     for form in (*(it for it in FORMS if " " in it), *FORMS):
         if found := FORMS[form].fullmatch(line):
@@ -64,7 +68,7 @@ def form_of(line):
     return None
 
 
-def repeated(lines):
+def repeated(lines: list[tuple[int, str]]) -> Iterator[tuple[int, str]]:
     """Numbered lines, those behind `N times:` so often, with the turn in the place of `<n>`."""
     at = 0
     while at < len(lines):
@@ -81,9 +85,9 @@ def repeated(lines):
             yield from ((place, it.replace("<n>", str(turn))) for place, it in inner)
 
 
-def steps_of(lines):
+def steps_of(lines: list[tuple[int, str]]) -> list[Step]:
     """The steps that numbered lines say."""
-    found = []
+    found: list[Step] = []
     for number, line in repeated(lines):
         if not line or line.startswith("#"):
             continue
@@ -103,7 +107,7 @@ def steps_of(lines):
     return found
 
 
-def content(words):
+def content(words: str) -> "bytes | None":
     """What a file of a folder holds, as its line says it: bytes in hexadecimal, a text in apostrophes, or anything."""
     if not words:
         return None
@@ -118,25 +122,25 @@ class StoryReader(Reader):
     NAMES = ("rows", "output", "error", "steps", "folder", "folder at the end")
     KINDS = ("output",)
 
-    def __init__(self, file, header, block):
+    def __init__(self, file: str, header: dict[str, str], block: Block) -> None:
         traces = {name: section for name, section in block.sections.items() if name.endswith(".trace")}
         self.traces = {name: lines_of(section) for name, section in traces.items()}
         rest = {name: section for name, section in block.sections.items() if name not in traces}
         super().__init__(file, header, dataclasses.replace(block, sections=rest))
 
-    def steps(self, puts):
+    def steps(self, puts: dict[str, str]) -> list[Step]:
         """The steps, with the words of a row put in."""
         start = self.block.sections["steps"][0] + 1 if "steps" in self.sections else 0
         return steps_of(list(enumerate(self.lines("steps", puts), start)))
 
-    def folder(self, name, puts):
+    def folder(self, name: str, puts: dict[str, str]) -> "Contents | None":
         """The names and contents of the files that a section says, or none where there is no such section."""
         if name not in self.sections:
             return None
         lines = (it.partition(" ") for it in self.lines(name, puts) if it)
         return [(file, rest if file == "*.val" else content(rest)) for file, _, rest in lines]
 
-    def story(self, line, puts):
+    def story(self, line: int, puts: dict[str, str]) -> Story:
         puts = {word: text.strip("|") for word, text in puts.items()}
         inputs, _ = self.inputs(puts, 0)
         output, error = (read_text(self.lines(name, puts), "").bytes for name in ("output", "error"))
@@ -147,7 +151,7 @@ class StoryReader(Reader):
         made.before, made.after = self.folder("folder", puts) or [], self.folder("folder at the end", puts)
         return made
 
-    def cases(self):
+    def cases(self) -> Iterator[Story]:
         for line, puts in self.rows():
             first = self.story(line, puts)
             yield first
@@ -155,18 +159,18 @@ class StoryReader(Reader):
                 yield dataclasses.replace(first, title=f"{first.title}, in pieces of {piece}", piece=int(piece))
 
 
-def stories_of(path):
+def stories_of(path: pathlib.Path) -> Iterator[Story]:
     """The cases of a file."""
     return cases_of(path, StoryReader)
 
 
-def value_number(name):
+def value_number(name: str) -> "int | None":
     """The number of a value file by its name, or none."""
     found = re.fullmatch(r"(0|[1-9][0-9]*)\.val", name)
     return int(found[1]) if found and int(found[1]) < END_OF_NUMBERS else None
 
 
-def names_in(place, wanted):
+def names_in(place: pathlib.Path, wanted: Contents) -> set[str]:
     """The names of what is in a folder, and of all files below a folder in it of which one is wanted."""
     opened = {name.partition("/")[0] for name, _ in wanted if "/" in name.rstrip("/")}
     names = set()
@@ -178,7 +182,7 @@ def names_in(place, wanted):
     return names
 
 
-def folder_faults(wanted, place):
+def folder_faults(wanted: Contents, place: pathlib.Path) -> list[str]:
     """What a folder has that is not wanted, and lacks that is."""
     names = names_in(place, wanted)
     values = sorted(number for it in names if (number := value_number(it)) is not None)
@@ -186,14 +190,14 @@ def folder_faults(wanted, place):
     faults = []
     for name, held in wanted:
         if name == "*.val":
-            count, _, least = held.partition(" above ")
+            count, _, least = str(held).partition(" above ")
             if (count and len(values) != int(count)) or (least and values and values[0] <= int(least)):
-                faults.append(f"the value files {values}, not {held}")
+                faults.append(f"the value files {values}, not {held!r}")
         elif name.rstrip("/") not in names:
             faults.append(f"no {name}")
         else:
             names.remove(name.rstrip("/"))
-            if held is not None and (place / name).read_bytes() != held:
+            if isinstance(held, bytes) and (place / name).read_bytes() != held:
                 faults.append(f"{name} holds {(place / name).read_bytes().hex()}, not {held.hex()}")
     if "*.val" not in dict(wanted) and values:
         faults.append(f"the value files {values}")

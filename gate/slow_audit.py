@@ -2,13 +2,18 @@
 line by line, each path is asked over the whole of it, and the ends are folded over whole values."""
 import bisect
 import re
+from collections.abc import Iterable, Iterator
+from typing import Any, Union
 
-from gate.slow_world import FORMATS, LONGEST, MOST, WRITTEN, Array, Disagreement, Queue
+from gate.slow_world import FORMATS, LONGEST, MOST, WRITTEN, Array, Datum, Disagreement, Ending, Kind, Node, Object, Queue
+from gate.slow_world import Trace as Events
 
 FIRST_LINE = 65536
 NUMBERS, SESSIONS = range(1, 65537), range(1, 1025)
 WORD = re.compile(rb" *(?:'((?:[\x20-\x26\x28-\x7e]|'')*)'(?= |\Z)|([^ '][^ ]*)) *", re.DOTALL)
 IDENTIFIER = re.compile(r"[a-z][a-z0-9_]{0,63}", re.ASCII)
+# A word that stands bare, or a text.
+Word = Union[bytes, str]
 FAILURES = ("device", "memory", "damaged")
 
 
@@ -23,15 +28,16 @@ class NotRunning(Exception):
 # What a line says.
 
 
-def lines_of(text):
+def lines_of(text: bytes) -> list[bytes]:
     """The lines of a text: each ends with a line feed, before which a carriage return goes, the last one also without."""
     ended, last = text.split(b"\n")[:-1], text.split(b"\n")[-1]
     return [it[:-1] if it.endswith(b"\r") else it for it in ended] + ([last] if last else [])
 
 
-def words_of(line):
+def words_of(line: bytes) -> list[Word]:
     """The words of a line: bytes that stand bare, and texts as strings."""
-    words, at = [], 0
+    words: list[Word] = []
+    at = 0
     while line[at:].strip(b" "):
         found = WORD.match(line, at)
         if not found:
@@ -46,30 +52,30 @@ def words_of(line):
     return words
 
 
-def bare(word):
+def bare(word: Word) -> str:
     """A word that stands bare, as text."""
     if not isinstance(word, bytes):
         raise Bad
     return word.decode("latin-1")
 
 
-def integer(word):
+def integer(word: Word) -> int:
     text = bare(word)
     if not re.fullmatch("[0-9]+", text) or int(text) > MOST:
         raise Bad
     return int(text)
 
 
-def datum(word):
+def datum(word: Word) -> Datum:
     return word if isinstance(word, str) else integer(word)
 
 
-def lowered(name):
+def lowered(name: str) -> str:
     """A name in any case: only letters of ASCII have one."""
     return "".join(it.lower() if "A" <= it <= "Z" else it for it in name)
 
 
-def named_object(line):
+def named_object(line: bytes) -> str:
     """The name in a line `object NAME`."""
     words = words_of(line)
     if len(words) != 2 or words[0] != b"object":
@@ -80,7 +86,7 @@ def named_object(line):
     return name
 
 
-def ending_of(words):
+def ending_of(words: list[Word]) -> Ending:
     """How a call ended."""
     if words == [b"done"]:
         return ("done", None)
@@ -96,7 +102,7 @@ def ending_of(words):
     raise Bad
 
 
-def value_of(kind, spelled):
+def value_of(kind: Kind, spelled: str) -> Any:
     """The value of a kind whose bytes are these in hexadecimal, in the format that their first byte names."""
     if not re.fullmatch("(?:[0-9a-f]{2})*", spelled):
         raise Bad
@@ -106,27 +112,27 @@ def value_of(kind, spelled):
         raise Bad
     format = whole[0]
 
-    def take(count):
+    def take(count: int) -> bytes:
         nonlocal rest
         if len(rest) < count:
             raise Bad
         taken, rest = rest[:count], rest[count:]
         return taken
 
-    def text():
+    def text() -> str:
         taken = take(int.from_bytes(take(format), "big"))
         if len(taken) > LONGEST[format] or any(not 32 <= it <= 126 for it in taken):
             raise Bad
         return taken.decode("ascii")
 
-    def element():
+    def element() -> Datum:
         return text() if kind.form % 2 == 0 else int.from_bytes(take(4), "big")
 
     count = int.from_bytes(whole[2:4], "big")
     if count > 1024 or isinstance(kind, Array) and count != len(kind.opening):
         raise Bad
     is_row = isinstance(kind, (Array, Queue))
-    value = [element() for _ in range(count)] if is_row else dict([(text(), element()) for _ in range(count)])
+    value: Any = [element() for _ in range(count)] if is_row else dict([(text(), element()) for _ in range(count)])
     # A value has one spelling in a format.
     if kind.bytes_of(value, format) != whole:
         raise Bad
@@ -140,14 +146,18 @@ class Told:
     """What the lines so far told of an object: its opening contents, and the starts and ends with the numbers of their
     lines."""
 
-    def __init__(self, made):
-        self.made, self.opening, self.is_named = made, {}, False
-        self.begun, self.running, self.events, self.ends = set(), {}, [], []
+    def __init__(self, made: Object) -> None:
+        self.made, self.is_named = made, False
+        self.opening: dict[str, Any] = {}
+        self.begun: set[int] = set()
+        self.running: dict[int, tuple[str, list[Datum]]] = {}
+        self.events: list[tuple[int, tuple[str, str]]] = []
+        self.ends: list[tuple[int, str, list[Datum], Ending]] = []
 
-    def is_opened(self):
+    def is_opened(self) -> bool:
         return self.is_named and len(self.opening) == len(self.made.parts)
 
-    def hear(self, number, line):
+    def hear(self, number: int, line: bytes) -> None:
         words = words_of(line)
         verb = bare(words[0]) if words else ""
         if verb == "object":
@@ -161,18 +171,18 @@ class Told:
         else:
             raise Bad
 
-    def hear_object(self, line):
+    def hear_object(self, line: bytes) -> None:
         if self.is_named or named_object(line) != self.made.name:
             raise Bad
         self.is_named = True
 
-    def hear_part(self, words):
+    def hear_part(self, words: list[Word]) -> None:
         name, kind = list(self.made.parts.items())[len(self.opening)]
         if len(words) != 3 or bare(words[1]) != name:
             raise Bad
         self.opening[name] = value_of(kind, bare(words[2]))
 
-    def hear_start(self, number, words):
+    def hear_start(self, number: int, words: list[Word]) -> None:
         if len(words) < 4 or not bare(words[2]).startswith("s"):
             raise Bad
         call, session, op = integer(words[1]), integer(words[2][1:]), lowered(bare(words[3]))
@@ -185,7 +195,7 @@ class Told:
         self.running[call] = op, arguments
         self.events.append((number, ("start", op)))
 
-    def hear_end(self, number, words):
+    def hear_end(self, number: int, words: list[Word]) -> None:
         if len(words) < 3:
             raise Bad
         call, ending = integer(words[1]), ending_of(words[2:])
@@ -201,7 +211,7 @@ class Told:
 # The faults of what the lines told.
 
 
-def breach(path, events):
+def breach(path: Node, events: Events) -> "int | None":
     """How many of the events there are in the least front that breaks a path, or none."""
     fronts = range(len(events) + 1)
     if path.holds(events):
@@ -209,7 +219,7 @@ def breach(path, events):
     return bisect.bisect_left(fronts, True, key=lambda count: not path.holds(events[:count]))
 
 
-def breaches(told):
+def breaches(told: Told) -> Iterator[tuple[int, int, str]]:
     """The starts that a path refuses, of each path the first."""
     events = [it[1] for it in told.events]
     for place, path in enumerate(told.made.paths, 1):
@@ -222,7 +232,7 @@ def breaches(told):
         yield number, place, f"line {number} breaks path {place}"
 
 
-def wrong_replies(told):
+def wrong_replies(told: Told) -> Iterator[tuple[int, int, str]]:
     """The first end that is not the sequential object's, if there is one."""
     contents = told.opening
     for number, op, arguments, ending in told.ends:
@@ -234,9 +244,10 @@ def wrong_replies(told):
             return
 
 
-def verdict(made, text):
+def verdict(made: Object, text: bytes) -> str:
     """What an audit says of the text of a trace of an object."""
-    told, lines, faults = Told(made), lines_of(text), []
+    told, lines = Told(made), lines_of(text)
+    faults: list[tuple[int, int, str]] = []
     for number, line in enumerate(lines, 1):
         try:
             told.hear(number, line)
@@ -253,7 +264,7 @@ def verdict(made, text):
     return min(faults)[2] if faults else f"legal {len(told.ends)}"
 
 
-def answer(objects, text):
+def answer(objects: Iterable[Object], text: bytes) -> tuple[str, int]:
     """What `pathserve audit` prints of a trace and a file of these objects, each of which is accepted, and its status."""
     try:
         first = next(iter(lines_of(text)), b"")

@@ -2,9 +2,11 @@
 Paths are counted over the whole history (gate/slow_world.py), values are whole, and nothing is written anywhere."""
 import collections
 import re
-from collections.abc import Mapping
+from collections.abc import Iterable, Mapping
+from typing import Any
 
-from gate.slow_world import MOST, written
+from gate.slow_world import MOST, Datum, Object, written
+from gate.tried import there
 
 KEPT = 16
 LONGEST = 4096
@@ -21,20 +23,21 @@ class Number:
     """The number that is told of a call: the k-th one of an object in a life of the server. It is known once it was
     told."""
 
-    def __init__(self, life, place):
+    def __init__(self, life: "Life", place: int) -> None:
         self.life, self.place = life, place
 
-    def value(self):
+    def value(self) -> "int | None":
         return None if self.life.base is None else self.life.base + self.place
 
 
 class OneOf:
     """A word that is one of these: which, hangs on numbers that no client was told."""
 
-    def __init__(self, *words):
-        self.words, self.word = words, words[0]
+    def __init__(self, *words: str) -> None:
+        self.words: tuple[object, ...] = words
+        self.word = words[0]
 
-    def __str__(self):
+    def __str__(self) -> str:
         return self.word
 
 
@@ -42,45 +45,53 @@ class Life:
     """What was told of an object since the server began: so many numbers, behind `base`, which is known once one was
     told; it is `after` at least, and no more than 65,536 further for each start behind which none was told."""
 
-    def __init__(self, after, base=None, starts=1):
+    def __init__(self, after: int, base: "int | None" = None, starts: int = 1) -> None:
         self.base, self.after, self.starts, self.given = base, after, starts, 0
 
 
 class Guest:
     """A client with a name: how many keys it has used, its last calls, and who speaks by it."""
 
-    def __init__(self):
-        self.used, self.kept, self.speaker = 0, [], None
+    def __init__(self) -> None:
+        self.used = 0
+        self.kept: list[tuple[int, Call, tuple[str, ...]]] = []
+        self.speaker: "Speaker | None" = None
 
 
 class Call:
-    def __init__(self, number, speaker, guest, op, arguments):
+    def __init__(self, number: Number, speaker: "Speaker", guest: "Guest | None", op: str, arguments: list[Datum]) -> None:
         self.number, self.speaker, self.guest, self.op, self.arguments = number, speaker, guest, op, arguments
 
 
 class Speaker:
     """A connection: what it has opened, its call that waits, the lines that are held, and all that it is told."""
 
-    def __init__(self):
-        self.hall, self.guest, self.waits, self.held = None, None, None, []
-        self.told, self.has_left, self.calls = [], False, 0
+    def __init__(self) -> None:
+        self.hall: "Hall | None" = None
+        self.guest: "Guest | None" = None
+        self.waits: "Call | None" = None
+        self.held: list[tuple[str, bool]] = []
+        self.told: list[tuple[object, ...]] = []
+        self.has_left, self.calls = False, 0
 
-    def tell(self, *words):
+    def tell(self, *words: object) -> None:
         self.told.append(words)
 
 
 class Hall:
     """A kept object."""
 
-    def __init__(self, made):
-        self.made, self.contents, self.trace = made, made.opening(), []
-        self.guests, self.waiting, self.ended = {}, [], 0
+    def __init__(self, made: Object) -> None:
+        self.made, self.contents, self.ended = made, made.opening(), 0
+        self.trace: list[tuple[str, str]] = []
+        self.guests: dict[str, Guest] = {}
+        self.waiting: list[Call] = []
         self.greatest, self.life = 0, Life(0, 0)
 
-    def may_start(self, op):
+    def may_start(self, op: str) -> bool:
         return self.made.admits([*self.trace, ("start", op)])
 
-    def begin(self):
+    def begin(self) -> None:
         """The server was started anew: who waited is forgotten."""
         self.note_greatest()
         starts = 1 if self.life.base is not None else self.life.starts + 1
@@ -88,11 +99,11 @@ class Hall:
         for it in self.guests.values():
             it.speaker = None
 
-    def note_greatest(self):
+    def note_greatest(self) -> None:
         if self.life.base is not None:
             self.greatest = max(self.greatest, self.life.base + self.life.given)
 
-    def called(self, speaker, op, arguments):
+    def called(self, speaker: "Speaker", op: str, arguments: list[Datum]) -> list[Speaker]:
         """A call is made that may be: those that end, in order."""
         self.life.given += 1
         speaker.calls += 1
@@ -107,21 +118,22 @@ class Hall:
             ended.append(found.speaker)
         return ended
 
-    def do(self, call):
+    def do(self, call: Call) -> None:
         self.trace += [("start", call.op), ("end", call.op)]
         (word, more), self.contents = self.made.applied(call.op, call.arguments, self.contents)
-        ending = (word, more if word == "refused" else written(more)) if more is not None else (word,)
+        said = () if more is None else (str(more) if word == "refused" else written(more),)
+        ending = (word, *said)
         self.ended += 1
         self.close(call, ending)
         call.speaker.tell(word, call.number, *ending[1:])
 
-    def close(self, call, ending):
+    def close(self, call: Call, ending: tuple[str, ...]) -> None:
         call.speaker.waits = None
         if call.guest:
             call.guest.used += 1
             call.guest.kept = [*call.guest.kept, (call.guest.used, call, ending)][-KEPT:]
 
-    def cancel(self, call):
+    def cancel(self, call: Call) -> None:
         self.waiting.remove(call)
         self.close(call, ("cancelled",))
         call.speaker.tell("cancelled", call.number)
@@ -132,18 +144,18 @@ class Slow:
 
     halls: Mapping[str, Hall]
 
-    def __init__(self, objects):
+    def __init__(self, objects: Iterable[Object]) -> None:
         self.halls = {it.name: Hall(it) for it in objects}
         # Those whose held lines may be done, the one that waits longest first.
-        self.ready = collections.deque()
+        self.ready: "collections.deque[Speaker]" = collections.deque()
 
-    def start(self):
+    def start(self) -> None:
         for it in self.halls.values():
             it.begin()
 
     # Lines.
 
-    def say(self, speaker, line, is_whole=True):
+    def say(self, speaker: "Speaker", line: str, is_whole: bool = True) -> None:
         """A client says a line; `is_whole`: with its LF."""
         if speaker.has_left:
             return
@@ -158,25 +170,25 @@ class Slow:
                 self.heed(speaker, line, is_whole)
                 self.go_on()
 
-    def go_on(self):
+    def go_on(self) -> None:
         while self.ready:
             speaker = self.ready.popleft()
             while speaker.held and not speaker.waits and not speaker.has_left:
                 self.heed(speaker, *speaker.held.pop(0))
 
-    def ended(self, speakers):
+    def ended(self, speakers: Iterable[Speaker]) -> None:
         for it in speakers:
             if it.held and it not in self.ready:
                 self.ready.append(it)
 
     @staticmethod
-    def cancel_of(line):
+    def cancel_of(line: str) -> "int | None":
         words = line.split()
         if len(words) == 2 and words[0] == "cancel" and words[1].isascii() and words[1].isdigit() and " " in line:
             return int(words[1]) if set(line) <= set("cancel 0123456789") else None
         return None
 
-    def heed(self, speaker, line, is_whole):
+    def heed(self, speaker: "Speaker", line: str, is_whole: bool) -> None:
         request = read(line)
         if request is None:
             speaker.tell("no", "BadLine")
@@ -198,7 +210,7 @@ class Slow:
         else:
             self.call(speaker, *request[1:])
 
-    def open(self, speaker, name, client):
+    def open(self, speaker: "Speaker", name: str, client: "str | None") -> None:
         if speaker.hall:
             return speaker.tell("no", "Opened")
         hall = self.halls.get(name.lower())
@@ -214,8 +226,8 @@ class Slow:
         speaker.hall, speaker.guest, guest.speaker = hall, guest, speaker
         return speaker.tell("opened", name.lower(), "next", guest.used + 1)
 
-    def call(self, speaker, key, op, arguments):
-        hall, op = speaker.hall, op.lower()
+    def call(self, speaker: "Speaker", key: "int | None", op: str, arguments: list[Datum]) -> None:
+        hall, op = there(speaker.hall), op.lower()
         if key is not None:
             used = speaker.guest.used if speaker.guest else speaker.calls
             if key != used + 1:
@@ -227,7 +239,7 @@ class Slow:
         return self.ended(hall.called(speaker, op, arguments))
 
     @staticmethod
-    def again(speaker, key, op, arguments):
+    def again(speaker: "Speaker", key: int, op: str, arguments: list[Datum]) -> None:
         """A call is asked for again, or none has this key."""
         kept = {it[0]: it for it in speaker.guest.kept} if speaker.guest else {}
         if key not in kept:
@@ -237,8 +249,8 @@ class Slow:
             return speaker.tell("no", "KeyReused")
         return speaker.tell("repeat", ending[0], call.number, *ending[1:])
 
-    def cancel(self, speaker, number):
-        hall = speaker.hall
+    def cancel(self, speaker: "Speaker", number: int) -> None:
+        hall = there(speaker.hall)
         found = next((it for it in hall.waiting if it.number.value() == number), None)
         if found:
             speaker.tell("cancel", number, "Cancelled")
@@ -253,13 +265,13 @@ class Slow:
 
     # Ends.
 
-    def leave(self, speaker):
+    def leave(self, speaker: "Speaker") -> None:
         """Nothing more is heard of a client: its waiting call is cancelled, and what it sent ahead is not done."""
         if speaker.has_left:
             return
         speaker.has_left = True
         if speaker.waits:
-            speaker.hall.cancel(speaker.waits)
+            there(speaker.hall).cancel(speaker.waits)
         for line, is_whole in speaker.held:
             request = read(line)
             if request is None or request[0] == "cancel" and not is_whole:
@@ -277,7 +289,7 @@ class Slow:
         if speaker.guest:
             speaker.guest.speaker = None
 
-    def die(self, speakers):
+    def die(self, speakers: Iterable[Speaker]) -> None:
         """The server is killed: nobody is told anything, and who waits is forgotten."""
         for it in speakers:
             it.has_left = True
@@ -287,7 +299,7 @@ class Slow:
 # What a line says.
 
 
-def words_of(line):
+def words_of(line: str) -> "list[tuple[str, str]] | None":
     """The words of a line, or none where it has none: bare ones, and texts in apostrophes."""
     found, at = [], 0
     if not all(" " <= it <= "~" for it in line):
@@ -321,11 +333,11 @@ def words_of(line):
     return found
 
 
-def whole_number(word):
+def whole_number(word: str) -> "int | None":
     return int(word) if word.isascii() and word.isdigit() and int(word) <= MOST else None
 
 
-def read(line):
+def read(line: str) -> "tuple[Any, ...] | None":
     """What a line asks for, or none where it is a bad one."""
     words = words_of(line)
     if not words or words[0][0] != "bare":

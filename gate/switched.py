@@ -49,7 +49,7 @@ def parted(text):
 class Function:
     """The function of a text in whose body a line stands: its lines from `first` to `last`, and what is said of it."""
 
-    def __init__(self, lines, at):
+    def __init__(self, lines, at) -> None:
         self.first = next((it for it in range(at, -1, -1) if HEAD.match(lines[it])), None)
         if self.first is None:
             raise Unfit("the line is in no function")
@@ -121,7 +121,7 @@ def with_edits(text, edits):
     return "\n".join(lines) + "\n" + ASKS
 
 
-def put_on(program, number, to):
+def put_on(program, number, to) -> None:
     """Writes a program in which an edit is on: the file of one that was built, the number of the edit, the new file."""
     none = NONE.to_bytes(8, "little")
     found = program.read_bytes()

@@ -8,14 +8,15 @@ import unittest
 import unittest.mock
 from collections.abc import Callable, Iterable, Sequence
 from types import TracebackType
-from typing import Any, Optional, Union
+from typing import Any, Optional, TypeVar, Union
 
 from tools.ready import TOP, given_words, new_folder, program
 
 __all__ = ["TOP", "Trial", "Wrong", "check", "given_words", "holds", "in_folder", "lacks", "loads", "new_folder",
-           "program", "run", "title_of", "until", "whole"]
+           "program", "run", "there", "title_of", "until", "whole"]
 # How long anything may take that a trial waits for, in seconds.
 SECONDS = 120
+T = TypeVar("T")
 Failure = Union[tuple[type[BaseException], BaseException, TracebackType], tuple[None, None, None]]
 Loads = Callable[[unittest.TestLoader, unittest.TestSuite, Optional[str]], unittest.TestSuite]
 
@@ -32,6 +33,13 @@ def check(found: object, wanted: object, what: str = "it") -> None:
 def holds(it: object, what: str) -> None:
     if not it:
         raise Wrong(what)
+
+
+def there(it: Optional[T], what: str = "what is looked for") -> T:
+    """It, which has to be there: what a search found, say, or a pipe of a process."""
+    if it is None:
+        raise Wrong(f"{what} is not there")
+    return it
 
 
 def until(found: Callable[[], object], what: str, seconds: float = SECONDS) -> None:

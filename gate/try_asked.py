@@ -403,7 +403,7 @@ def digests(top, names):
     return {it: repository.digest(top, lines, it, LOGIC, EDITS) for it in names}
 
 
-def written(top, files, lines):
+def written(top, files, lines) -> None:
     """Makes a repository of these files at this folder."""
     for name, text in {**{f"crates/{it}": text for it, text in files.items()}, "crates.txt": lines}.items():
         (top / name).parent.mkdir(parents=True, exist_ok=True)
@@ -464,7 +464,7 @@ def source(path):
 class Tree:
     """What this repository says, read line by line."""
 
-    def __init__(self):
+    def __init__(self) -> None:
         self.lines = repository.crates()
         self.sources = {name: {it: source(it) for it in repository.files(TOP / "crates" / name / "src")} for name in self.lines}
         # Where each public function of a crate is, and each that is in an impl of a type, with that type.
@@ -514,7 +514,7 @@ class Tree:
                         wrong.append(f"{name}: not asked again for `{line}` of {path.relative_to(TOP)}")
         return sorted(set(wrong))
 
-    def has_type(self, crate, item):
+    def has_type(self, crate, item) -> bool:
         return any(re.search(rf"^\s*pub (?:struct|enum|trait) {item}\b", it, re.M) for it in self.sources[crate].values())
 
     def changes(self, name):
@@ -571,7 +571,7 @@ def tree_faults(top):
     return said | tree.faults_of_changes(top)
 
 
-def main():
+def main() -> int:
     if sys.argv[1:]:
         print(__doc__, file=sys.stderr)
         return 2

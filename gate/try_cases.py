@@ -37,7 +37,7 @@ REFUSED = [
 ]
 
 
-def refusal(reader, text):
+def refusal(reader: type[cases.Reader], text: str) -> str:
     """What the reader says of a file that it refuses, or nothing."""
     with tempfile.TemporaryDirectory(prefix="cases-", dir=cases.TOP) as folder:
         path = pathlib.Path(folder) / "one.cases"
@@ -49,7 +49,7 @@ def refusal(reader, text):
     return ""
 
 
-def main():
+def main() -> int:
     failed = []
     for line, wanted in TEXTS:
         if (found := cases.read_text([line], "").bytes) != wanted.encode():

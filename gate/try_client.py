@@ -38,14 +38,13 @@ import queue
 import random
 import shutil
 import signal
-import socket
-import struct
 import subprocess
 import sys
 import threading
 import time
 
 from gate import kept
+from gate.fakes import HOLDS, RESETS, FakeMeter, FakeServer, Rows
 from gate.tried import TOP, Wrong, given_words, lacks, new_folder, whole
 
 DRIVERS = TOP / "gate" / "drivers"
@@ -53,11 +52,9 @@ DRIVERS = TOP / "gate" / "drivers"
 SECONDS, LATER = 20, 5
 # How many tries of a client are made at once.
 LANES = 3
-RESET = struct.pack("ii", 1, 0)
-HOLDS, RESETS = object(), object()
 
 
-def check(found, *wanted):
+def check(found, *wanted) -> None:
     if found not in wanted:
         raise Wrong(f"{found!r}, not {' or '.join(map(repr, wanted))}")
 
@@ -65,14 +62,14 @@ def check(found, *wanted):
 class Client:
     """A client, as its driver answers for it."""
 
-    def __init__(self, words):
+    def __init__(self, words) -> None:
         self.lines = queue.Queue()
         self.ran = subprocess.Popen(words, stdin=subprocess.PIPE, stdout=subprocess.PIPE, text=True, bufsize=1, start_new_session=True)
         threading.Thread(target=self.read, daemon=True).start()
         kind, *self.can = self.hear().split(" ")
         check(kind, "can")
 
-    def read(self):
+    def read(self) -> None:
         for line in self.ran.stdout:
             self.lines.put(line.rstrip("\n"))
         self.lines.put(None)
@@ -90,10 +87,10 @@ class Client:
         self.ran.stdin.write(f"{line}\n")
         return self.hear(seconds)
 
-    def open(self, server, name="-", wait=9000, wanted="opened"):
+    def open(self, server, name="-", wait=9000, wanted="opened") -> None:
         check(self.say(f"open {server.port} {server.name} {wait} {name}"), wanted)
 
-    def call(self, text, *wanted, within=0):
+    def call(self, text, *wanted, within=0) -> None:
         begun = time.monotonic()
         check(self.say(f"call {within} {text}"), *wanted)
         took = time.monotonic() - begun
@@ -105,10 +102,10 @@ class Client:
             self.ran.stdin.write(f"{line}\n")
         return [self.hear(seconds) for _ in texts]
 
-    def close(self):
+    def close(self) -> None:
         check(self.say("close"), "closed")
 
-    def end(self):
+    def end(self) -> None:
         with contextlib.suppress(OSError):
             self.ran.stdin.close()
         with contextlib.suppress(subprocess.TimeoutExpired):
@@ -117,161 +114,6 @@ class Client:
             os.killpg(self.ran.pid, signal.SIGKILL)
         self.ran.wait()
         self.ran.stdout.close()
-
-
-class Server:
-    """Takes connections, each in a thread, until it is closed. What it does on each is `serve` of what it is."""
-
-    name = "cell"
-
-    def __init__(self):
-        self.faults, self.heard, self.socket, self.open = [], [], socket.create_server(("127.0.0.1", 0)), set()
-        self.port = self.socket.getsockname()[1]
-        threading.Thread(target=self.run, daemon=True).start()
-
-    def run(self):
-        with contextlib.suppress(OSError):
-            for number in range(1000):
-                it = self.socket.accept()[0]
-                it.setsockopt(socket.IPPROTO_TCP, socket.TCP_NODELAY, 1)
-                self.open.add(it)
-                threading.Thread(target=self.served, args=(it, number), daemon=True).start()
-
-    def serve(self, it, number):
-        raise NotImplementedError
-
-    def served(self, it, number):
-        with it, contextlib.suppress(OSError):
-            self.serve(it, number)
-
-    def __enter__(self):
-        return self
-
-    def __exit__(self, kind, *_):
-        with contextlib.suppress(OSError):
-            self.socket.shutdown(socket.SHUT_RDWR)
-        self.socket.close()
-        for it in list(self.open):
-            with contextlib.suppress(OSError):
-                it.shutdown(socket.SHUT_RDWR)
-        if kind is None and self.faults:
-            raise Wrong(f"the server heard {self.faults[0]}")
-
-
-class Listener(Server):
-    """Of each connection it has a list: a line that has to come, and what is sent behind it, at once or byte by byte.
-    After that the connection is closed, reset, or held, as the list's last word says; one that is left is let go."""
-
-    def __init__(self, *connections, pause=None):
-        self.connections, self.pause = connections, pause
-        super().__init__()
-
-    def serve(self, it, number):
-        rows = self.connections[number] if number < len(self.connections) else []
-        lines = it.makefile("rb")
-        for row in rows:
-            if row is HOLDS:
-                while lines.readline():
-                    pass
-                return
-            if row is RESETS:
-                it.setsockopt(socket.SOL_SOCKET, socket.SO_LINGER, RESET)
-                return
-            wanted, sent = row
-            line = lines.readline().decode("ascii", "replace")
-            self.heard.append(line)
-            if line != wanted + "\n":
-                self.faults.append(f"{line!r}, not {wanted!r}, on connection {number + 1}")
-                return
-            for at in range(len(sent)) if self.pause else ():
-                it.sendall(sent[at : at + 1])
-                time.sleep(self.pause)
-            if not self.pause:
-                it.sendall(sent)
-        lines.close()
-
-
-class Meter(Server):
-    """An object with `add`, which replies the sum, as a server serves it: each session with a name has its keys, and a
-    connection is cut behind so many bytes that come (`up`) or go (`down`)."""
-
-    name = "meter"
-
-    def __init__(self, first=1, in_use=0, together=1, stops=False, cuts_all=False):
-        self.sum, self.calls, self.next, self.said, self.in_use, self.together = 0, 0, first, {}, in_use, together
-        self.cut, self.resets, self.lock, self.connections, self.stops, self.cuts_all = None, False, threading.Lock(), 0, stops, cuts_all
-        self.offset = first - 1
-        super().__init__()
-
-    def answer(self, line, named):
-        """The lines that answer this one, and whether there is a session with a name."""
-        words = line.split(" ")
-        if words[:2] == ["open", self.name]:
-            if words[2:3] != ["as"]:
-                return b"opened meter\n", False
-            self.in_use -= 1
-            return (b"no InUse\n" if self.in_use >= 0 else f"opened meter next {self.next}\n".encode()), True
-        if words[0] == "quit":
-            return b"bye\n", named
-        if words[0] == "cancel":
-            return f"cancel {words[1]} Ended\n".encode(), named
-        if words[0] != "call":
-            self.faults.append(repr(line))
-            return b"no BadLine\n", named
-        key = None
-        if words[1].startswith("#"):
-            key, words = int(words[1][1:]), [words[0], *words[2:]]
-        elif named:
-            self.faults.append(f"{line!r}, without a key")
-        if key is not None and key != self.next:
-            if key not in self.said:
-                return b"no BadKey\n", named
-            text, last = self.said[key]
-            return (f"repeat {last}\n".encode() if text == words else b"no KeyReused\n"), named
-        if words[1] != "add":
-            return b"no UnknownOp\n", named
-        self.calls += 1
-        self.sum += int(words[2])
-        last = f"done {self.calls + self.offset} {self.sum}"
-        if key is not None:
-            self.said[key], self.next = (words, last), key + 1
-        return f"accepted {self.calls + self.offset}\n{last}\n".encode(), named
-
-    def serve(self, it, number):
-        rest, named, lines, self.connections = b"", False, [], self.connections + 1
-        while piece := it.recv(4096):
-            with self.lock:
-                is_cut, out = False, b""
-                if self.cuts_all and b"open" not in piece:
-                    return
-                if self.cut and self.cut[0] == "up":
-                    is_cut = len(piece) >= self.cut[1]
-                    piece = piece[: self.cut[1]]
-                    self.cut = None if is_cut else ("up", self.cut[1] - len(piece))
-                *new, rest = (rest + piece).split(b"\n")
-                lines += new
-                # (so many calls have to be sent before one of them is answered)
-                waits = sum(line.startswith(b"call") for line in lines) < self.together and lines[-1:] and lines[-1].startswith(b"call")
-                if waits and not is_cut:
-                    continue
-                for line in lines:
-                    answer, named = self.answer(line.decode("ascii", "replace"), named)
-                    out += answer
-                lines = []
-                # (what was answered does not come, where the connection broke behind a whole line)
-                out = b"" if is_cut else out
-                if self.cut and self.cut[0] == "down" and not is_cut and out:
-                    is_cut = len(out) >= self.cut[1]
-                    out = out[: self.cut[1]]
-                    self.cut = None if is_cut else ("down", self.cut[1] - len(out))
-            if out:
-                it.sendall(out)
-            if is_cut:
-                if self.resets:
-                    it.setsockopt(socket.SOL_SOCKET, socket.SO_LINGER, RESET)
-                return
-            if out.endswith(b"bye\n"):
-                return
 
 
 OPENED = ("open cell", b"opened cell\n")
@@ -295,11 +137,11 @@ def attempt(title, *needs):
     return kept
 
 
-def answered(title, rows, wanted, needs=(), within=0, **options):
+def answered(title, rows, wanted, needs=(), within=0, **options) -> None:
     """A call of `get`, which is answered so."""
 
-    def tried(client):
-        with Listener([OPENED, *rows], **options) as server:
+    def tried(client) -> None:
+        with FakeServer([OPENED, *rows], **options) as server:
             client.open(server)
             client.call("get", wanted, within=within)
 
@@ -338,9 +180,9 @@ answered("a call that ends in its time", [(GET, b"accepted 1\ndone 1 5\n")], "do
 
 
 @attempt("calls of one session, and its end")
-def _(client):
+def _(client) -> None:
     rows = [("call put 'it''s' 7", b"accepted 1\ndone 1\n"), ("call pop", b"no UnknownOp\n"), (GET, b"accepted 2\ndone 2 ''\n")]
-    with Listener([OPENED, *rows, QUIT]) as server:
+    with FakeServer([OPENED, *rows, QUIT]) as server:
         client.open(server)
         client.call("put 'it''s' 7", "done")
         client.call("pop", "no UnknownOp")
@@ -350,27 +192,28 @@ def _(client):
 
 
 @attempt("an object that is not there")
-def _(client):
-    with Listener([("open cell", b"no NoObject\n")]) as server:
+def _(client) -> None:
+    with FakeServer([("open cell", b"no NoObject\n")]) as server:
         client.open(server, wanted="no NoObject")
 
 
 @attempt("no server")
-def _(client):
-    with Listener() as server:
+def _(client) -> None:
+    with FakeServer() as server:
         pass
     client.open(server, wanted="no server", wait=100)
 
 
 @attempt("a server that opens nothing")
-def _(client):
-    with Listener(*[[("open cell", b"opened cell"[:at])] for at in range(100)]) as server:
+def _(client) -> None:
+    with FakeServer(*[[("open cell", b"opened cell"[:at])] for at in range(100)]) as server:
         client.open(server, wanted="no server", wait=150)
 
 
 @attempt("a server that is full", "within")
-def _(client):
-    with Listener(*[[("open cell", b""), HOLDS]] * 9) as server:
+def _(client) -> None:
+    full: Rows = [("open cell", b""), HOLDS]
+    with FakeServer(*[full] * 9) as server:
         begun = time.monotonic()
         client.open(server, wanted="no server", wait=150)
         if time.monotonic() - begun > LATER:
@@ -378,15 +221,15 @@ def _(client):
 
 
 @attempt("`opened` in pieces")
-def _(client):
-    with Listener([OPENED, (GET, b"accepted 1\ndone 1 5\n")], pause=0.002) as server:
+def _(client) -> None:
+    with FakeServer([OPENED, (GET, b"accepted 1\ndone 1 5\n")], pause=0.002) as server:
         client.open(server)
         client.call("get", "done 5")
 
 
 @attempt("the next call after a lost one")
-def _(client):
-    with Listener([OPENED, (GET, b"accepted 9\n")], [OPENED, (GET, b"accepted 1\ndone 1 5\n"), QUIT]) as server:
+def _(client) -> None:
+    with FakeServer([OPENED, (GET, b"accepted 9\n")], [OPENED, (GET, b"accepted 1\ndone 1 5\n"), QUIT]) as server:
         client.open(server)
         client.call("get", "lost")
         client.call("get", "done 5")
@@ -395,9 +238,9 @@ def _(client):
 
 
 @attempt("a call without a name is not sent again")
-def _(client):
+def _(client) -> None:
     for cut in [("up", at) for at in (0, 3, 10, 11)] + [("down", at) for at in range(0, 21, 3)]:
-        with Meter() as server:
+        with FakeMeter() as server:
             client.open(server)
             client.call("add 5", "done 5")
             server.cut = cut
@@ -408,18 +251,18 @@ def _(client):
 
 
 @attempt("an answer to a cancel that comes late", "within")
-def _(client):
+def _(client) -> None:
     rows = [(GET, b"accepted 1\n"), ("cancel 1", b"cancelled 1\n"), (GET, b"cancel 1 Cancelled\naccepted 2\ndone 2 5\n")]
-    with Listener([OPENED, *rows]) as server:
+    with FakeServer([OPENED, *rows]) as server:
         client.open(server)
         client.call("get", "cancelled", within=100)
         client.call("get", "done 5")
 
 
 @attempt("an `accepted` that comes when the time is over", "within")
-def _(client):
-    class Late(Listener):
-        def serve(self, it, number):
+def _(client) -> None:
+    class Late(FakeServer):
+        def serve(self, it, number) -> None:
             lines = it.makefile("rb")
             rows = ((b"open cell\n", 0, b"opened cell\n"), (b"call get\n", 0.6, b"accepted 1\n"), (b"cancel 1\n", 0, b"cancelled 1\n"))
             for wanted, wait, sent in rows:
@@ -438,22 +281,22 @@ def _(client):
 
 
 @attempt("keys", "name")
-def _(client):
+def _(client) -> None:
     rows = [("call #5 get", b"accepted 9\ndone 9 1\n"), ("call #6 pop", b"no UnknownOp\n"),
             ("call #6 get", b"accepted 10\nrefused 10 empty\n"), ("call #7 get", b"accepted 11\ncancelled 11\n"), ("call #8 get", b"accepted 12\ndone 12 2\n")]
-    with Listener([opened(5), *rows, QUIT]) as server:
+    with FakeServer([opened(5), *rows, QUIT]) as server:
         client.open(server, "ann")
         for wanted in ("done 1", "no UnknownOp", "refused empty", "cancelled", "done 2"):
             client.call("pop" if "Unknown" in wanted else "get", wanted)
         client.close()
 
 
-def comes_back(title, wanted, *connections, key=5, sent=b"", wait=9000):
+def comes_back(title, wanted, *connections, key=5, sent=b"", wait=9000) -> None:
     """A call of a client with a name, whose connection breaks behind the call of this key."""
 
     @attempt(f"asked again: {title}", "name")
-    def _(client):
-        with Listener([opened(key), (f"call #{key} get", sent)], *connections) as server:
+    def _(client) -> None:
+        with FakeServer([opened(key), (f"call #{key} get", sent)], *connections) as server:
             client.open(server, "ann", wait)
             client.call("get", wanted)
 
@@ -478,9 +321,9 @@ comes_back("a server that has the call, and stops", "lost", [opened(6), ("call #
 
 
 @attempt("a connection that ended between two calls", "name")
-def _(client):
+def _(client) -> None:
     first, rows = [opened(5), ("call #5 get", b"accepted 9\ndone 9 1\n")], [opened(6), ("call #6 get", b"accepted 10\ndone 10 2\n"), QUIT]
-    with Listener(first, rows) as server:
+    with FakeServer(first, rows) as server:
         client.open(server, "ann")
         client.call("get", "done 1")
         time.sleep(0.3)
@@ -489,9 +332,9 @@ def _(client):
 
 
 @attempt("a connection that ended between two calls, of a name that has called meanwhile", "name")
-def _(client):
+def _(client) -> None:
     first, rows = [opened(5), ("call #5 get", b"accepted 9\ndone 9 1\n")], [opened(8), ("call #8 get", b"accepted 13\ndone 13 2\n"), QUIT]
-    with Listener(first, [opened(8), HOLDS], rows) as server:
+    with FakeServer(first, [opened(8), HOLDS], rows) as server:
         client.open(server, "ann")
         client.call("get", "done 1")
         time.sleep(0.3)
@@ -501,8 +344,8 @@ def _(client):
 
 
 @attempt("a name that is in use for a while", "name")
-def _(client):
-    with Meter(first=3, in_use=4) as server:
+def _(client) -> None:
+    with FakeMeter(first=3, in_use=4) as server:
         client.open(server, "ann")
         client.call("add 5", "done 5")
         server.in_use, server.cut = 3, ("down", 12)
@@ -510,14 +353,14 @@ def _(client):
 
 
 @attempt("a name that stays in use", "name")
-def _(client):
-    with Meter(in_use=9999) as server:
+def _(client) -> None:
+    with FakeMeter(in_use=9999) as server:
         client.open(server, "ann", wait=150, wanted="no InUse")
 
 
 @attempt("a name that is in use when it comes back", "name")
-def _(client):
-    with Meter() as server:
+def _(client) -> None:
+    with FakeMeter() as server:
         client.open(server, "ann", wait=500)
         client.call("add 5", "done 5")
         server.in_use, server.cut = 9999, ("down", 12)
@@ -525,18 +368,18 @@ def _(client):
 
 
 @attempt("a connection that breaks each time", "name")
-def _(client):
-    with Meter(first=5) as server:
+def _(client) -> None:
+    with FakeMeter(first=5) as server:
         client.open(server, "ann")
         server.cuts_all = True
         client.call("add 5", "lost")
         check(server.sum, 0)
 
 
-def cut_at_each_byte(way, size, resets):
+def cut_at_each_byte(way, size, resets) -> None:
     @attempt(f"a connection that breaks at each byte {way}, {'by a reset' if resets else 'closed'}", "name")
-    def _(client):
-        with Meter(first=10) as server:
+    def _(client) -> None:
+        with FakeMeter(first=10) as server:
             server.resets = resets
             client.open(server, "ann")
             for place in range(size):
@@ -555,29 +398,29 @@ for resets in (False, True):
 
 
 @attempt("calls that are sent ahead", "ahead")
-def _(client):
-    with Meter(together=8) as server:
+def _(client) -> None:
+    with FakeMeter(together=8) as server:
         client.open(server)
         check(client.ahead(*["add 5"] * 8), [f"done {5 * it}" for it in range(1, 9)])
 
 
 @attempt("many calls that are sent ahead", "ahead")
-def _(client):
-    with Meter() as server:
+def _(client) -> None:
+    with FakeMeter() as server:
         client.open(server)
         check(client.ahead(*["add 1"] * 300), [f"done {it}" for it in range(1, 301)])
 
 
 @attempt("a call sent ahead that is not taken", "ahead")
-def _(client):
-    with Meter() as server:
+def _(client) -> None:
+    with FakeMeter() as server:
         client.open(server)
         check(client.ahead("add 5", "pop", "add 5"), ["done 5", "no UnknownOp", "done 10"])
 
 
 @attempt("calls sent ahead under keys, of which some are not taken", "ahead", "name")
-def _(client):
-    with Meter(together=7) as server:
+def _(client) -> None:
+    with FakeMeter(together=7) as server:
         client.open(server, "ann")
         server.together = 1
         for _ in range(3):
@@ -589,8 +432,8 @@ def _(client):
 
 
 @attempt("calls sent ahead without a name, whose connection breaks", "ahead")
-def _(client):
-    with Meter() as server:
+def _(client) -> None:
+    with FakeMeter() as server:
         client.open(server)
         server.cut = ("down", len("accepted 1\ndone 1 5\naccepted 2\ndone 2 "))
         found = client.ahead("add 5", "add 5", "add 5")
@@ -599,8 +442,8 @@ def _(client):
 
 
 @attempt("calls sent ahead under keys, over a connection that breaks", "ahead", "name")
-def _(client):
-    with Meter(first=10) as server:
+def _(client) -> None:
+    with FakeMeter(first=10) as server:
         client.open(server, "ann")
         for turn in range(40):
             server.resets, server.cut = turn % 4 > 1, (("up", "down")[turn % 2], turn * 5)
@@ -615,7 +458,7 @@ def _(client):
 class Crew:
     """Clients of one kind, each of which does one try at a time."""
 
-    def __init__(self, name, words, build=()):
+    def __init__(self, name, words, build=()) -> None:
         self.name, self.words, self.build, self.idle, self.made = name, list(map(str, words)), build, queue.LifoQueue(), []
 
     def one(self, work):
@@ -633,7 +476,7 @@ class Crew:
             client.end()
             raise
 
-    def end(self):
+    def end(self) -> None:
         for it in self.made:
             it.end()
 
@@ -693,14 +536,14 @@ end;
 KILLS, ADDS, PATIENCE = 4, 30, 60
 
 
-def live(crews, room):
+def live(crews, room) -> None:
     """All clients at once over `pathserve keep` at a socket, which is killed meanwhile: nothing that was answered is lost,
     and under a name no call is done twice."""
     server = kept.Server(room, METER, at_path=True)
     server.start()
     sure, unsure, faults, had, is_over = collections.Counter(), collections.Counter(), [], set(), threading.Event()
 
-    def work(crew, client):
+    def work(crew, client) -> None:
         named = "name" in client.can
         while client.say(f"open {server.place} meter {500 * PATIENCE} {crew.name.lower() if named else '-'}") == "no server":
             time.sleep(0.01)
@@ -726,13 +569,13 @@ def live(crews, room):
                     raise Wrong(f"{crew.name}: {it!r}")
         client.close()
 
-    def worked(crew):
+    def worked(crew) -> None:
         try:
             crew.one(lambda client: work(crew, client))
         except Exception as error:
             faults.append(f"{type(error).__name__}: {error}")
 
-    def killed():
+    def killed() -> None:
         for _ in range(KILLS):
             time.sleep(random.uniform(0.3, 0.7))
             server.kill()
@@ -760,7 +603,7 @@ def live(crews, room):
             server.kill()
 
 
-def main():
+def main() -> int:
     words = sys.argv[1:]
     is_own = bool(words) and words[0] != "--program"
     if words[:1] == ["--help"]:

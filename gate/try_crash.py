@@ -21,7 +21,6 @@ import contextlib
 import random
 import shutil
 import socket
-import struct
 import subprocess
 import threading
 import time
@@ -29,7 +28,7 @@ import time
 from gate import crowd, kept, losing
 from gate.crowd import NAMES, SOURCE, Crowd
 from gate.kept import SECONDS, Talk
-from gate.served import free_port
+from gate.served import free_port, resets
 from gate.tried import Wrong, check, given_words, holds, loads, program
 
 CLIENTS = 64
@@ -40,7 +39,7 @@ LOSSES, LATE = 0.1, 0.15
 
 
 class Server(kept.Server):
-    def __init__(self, folder, *words, source=SOURCE, **more):
+    def __init__(self, folder, *words, source=SOURCE, **more) -> None:
         super().__init__(folder, source, *words, **more)
 
 
@@ -74,7 +73,7 @@ def crashed(server, kills, draw, may_lose=None, lose=None):
     return calls
 
 
-def answered_calls_are_kept(folder, kills, seed):
+def answered_calls_are_kept(folder, kills, seed) -> None:
     """No answered call is lost, and none is done twice."""
     server = Server(folder)
     server.start()
@@ -82,7 +81,7 @@ def answered_calls_are_kept(folder, kills, seed):
     print(f"{kills} kills, {calls} calls")
 
 
-def answered_calls_are_kept_where_syncs_are_late(folder, kills, seed):
+def answered_calls_are_kept_where_syncs_are_late(folder, kills, seed) -> None:
     """The same with `--sync 100`: what is killed is the server, and not the machine."""
     server = Server(folder, "--sync", "100", at_path=True)
     server.start()
@@ -90,13 +89,13 @@ def answered_calls_are_kept_where_syncs_are_late(folder, kills, seed):
     print(f"{kills} kills, {calls} calls")
 
 
-def powered_down(folder, kills, seed, *words, may_lose=None):
+def powered_down(folder, kills, seed, *words, may_lose=None) -> None:
     library, log = losing.build(folder), folder / "log"
     env = {"LD_PRELOAD": str(library), "LOSE_FROM": str(folder / "kept"), "LOSE_LOG": str(log)}
     server, draw = Server(folder, *words, env=env, at_path=True), random.Random(seed + 2)
     disk = [losing.Disk(server.folder)]
 
-    def lose():
+    def lose() -> None:
         disk[0].lose(log, draw)
         disk[0] = losing.Disk(server.folder)
 
@@ -105,19 +104,19 @@ def powered_down(folder, kills, seed, *words, may_lose=None):
     print(f"{kills} losses of power, {calls} calls")
 
 
-def answered_calls_outlive_a_loss_of_power(folder, kills, seed):
+def answered_calls_outlive_a_loss_of_power(folder, kills, seed) -> None:
     """What was answered was stored: nothing is lost where what no sync has stored is."""
     if shutil.which("cc"):
         powered_down(folder, (kills + 1) // 2, seed)
 
 
-def a_loss_of_power_takes_what_was_answered_last(folder, kills, seed):
+def a_loss_of_power_takes_what_was_answered_last(folder, kills, seed) -> None:
     """With `--sync 100` no more is lost than what was answered in the last 100 ms."""
     if shutil.which("cc"):
         powered_down(folder, (kills + 1) // 2, seed, "--sync", "100", may_lose=LOSSES + LATE)
 
 
-def what_was_answered_is_there_at_once(folder, **_):
+def what_was_answered_is_there_at_once(folder, **_) -> None:
     """After an answer the next one to start has what was put, its number, its key and its paths' counts."""
     server = Server(folder)
     server.start()
@@ -131,7 +130,7 @@ def what_was_answered_is_there_at_once(folder, **_):
     server.end()
 
 
-def a_second_server_is_refused(folder, **_):
+def a_second_server_is_refused(folder, **_) -> None:
     """While a folder is kept nobody else keeps or serves it; afterwards `serve` refuses it, and nothing is changed."""
     server = Server(folder)
     server.start()
@@ -145,7 +144,7 @@ def a_second_server_is_refused(folder, **_):
     check({it.name: it.read_bytes() for it in server.folder.iterdir()}, before, "the folder")
 
 
-def a_journal_that_was_changed_is_refused(folder, **_):
+def a_journal_that_was_changed_is_refused(folder, **_) -> None:
     """A journal in which a byte is spoilt is refused, with its line, and nothing is changed."""
     server = Server(folder)
     server.start()
@@ -164,7 +163,7 @@ def a_journal_that_was_changed_is_refused(folder, **_):
     server.end()
 
 
-def another_object_does_not_go_on(folder, **_):
+def another_object_does_not_go_on(folder, **_) -> None:
     """Behind a crash an object that was changed is refused; behind an ordered end it goes on."""
     server = Server(folder)
     server.start()
@@ -182,7 +181,7 @@ def another_object_does_not_go_on(folder, **_):
     server.end()
 
 
-def parts_of_before_are_taken(folder, **_):
+def parts_of_before_are_taken(folder, **_) -> None:
     """A folder of `serve` gives the values of its parts; but where a path has a `;` nobody knows what it counted."""
     server = Server(folder, source=SOURCE.split("object buffer")[0])
     (server.folder / "counter.v.part").write_bytes(bytes([2, 1, 0, 1, 0, 0, 0, 9]))
@@ -196,7 +195,7 @@ def parts_of_before_are_taken(folder, **_):
     check(server.refused()[:2], ("object buffer past is not known\n", 1))
 
 
-def calls_wait_and_are_cancelled(folder, **_):
+def calls_wait_and_are_cancelled(folder, **_) -> None:
     """A call waits until its paths admit it, over starts of epochs and cancels; lines behind it are held, but for
     `cancel`."""
     server = Server(folder)
@@ -226,7 +225,7 @@ def calls_wait_and_are_cancelled(folder, **_):
     server.end()
 
 
-def many_lines_are_held(folder, **_):
+def many_lines_are_held(folder, **_) -> None:
     """Of who sends on behind a waiting call 64 KiB are held, and no more is read; all of it is done once the call has
     ended."""
     server = Server(folder)
@@ -248,7 +247,7 @@ def many_lines_are_held(folder, **_):
     server.end()
 
 
-def an_epoch_follows_another(folder, **_):
+def an_epoch_follows_another(folder, **_) -> None:
     """After 60,000 calls the journal begins anew, and nothing else changes; who does not read is not read."""
     server = Server(folder, "--sync", "50")
     server.start()
@@ -275,7 +274,7 @@ def an_epoch_follows_another(folder, **_):
     check(server.audit()[1], 0, "the audit")
 
 
-def a_call_waits_over_an_epoch(folder, **_):
+def a_call_waits_over_an_epoch(folder, **_) -> None:
     """Calls that wait when a journal begins anew keep their numbers: they are cancelled by them, done, and known behind
     a start."""
     source = """object mixed;
@@ -319,7 +318,7 @@ end;
     server.is_whole("mixed")
 
 
-def who_does_not_read_is_not_read(folder, **_):
+def who_does_not_read_is_not_read(folder, **_) -> None:
     """Of a client that takes no answers no more is read: others are served, memory is bounded, and its answers are
     whole."""
     server = Server(folder, "--sync", "1000")
@@ -337,7 +336,7 @@ def who_does_not_read_is_not_read(folder, **_):
     memory = server.memory("VmHWM")
     holds(memory <= 100_000, f"the server has {memory} KiB")
     # One of them breaks off.
-    gone.socket.setsockopt(socket.SOL_SOCKET, socket.SO_LINGER, struct.pack("ii", 1, 0))
+    resets(gone.socket)
     gone.socket.shutdown(socket.SHUT_RDWR)
     gone.close()
     found = 0
@@ -352,7 +351,7 @@ def who_does_not_read_is_not_read(folder, **_):
     server.end()
 
 
-def shouting(talk, line, count):
+def shouting(talk, line, count) -> None:
     """Says a line so often, as long as the connection stands."""
     with contextlib.suppress(OSError):
         for _ in range(count):
@@ -377,7 +376,7 @@ TRIALS = (
 )
 
 
-def main():
+def main() -> int:
     given, words = kept.options(given_words(), kills=10, seed=1)
     return kept.run("try_crash", TRIALS, words, **given)
 

@@ -182,7 +182,7 @@ def spoilt_faults(files, lines):
         return [line for said in faults_in(top).values() for line in said]
 
 
-def main():
+def main() -> int:
     if sys.argv[1:]:
         print(__doc__, file=sys.stderr)
         return 2

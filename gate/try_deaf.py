@@ -46,7 +46,7 @@ AGAIN, HOLDS = 400, 32 * 1024
 FAILED, PASSED = [], []
 
 
-def found(what, is_right, why=""):
+def found(what, is_right, why="") -> None:
     """Counts something that was looked at, and says what is wrong."""
     (PASSED if is_right else FAILED).append(what)
     if not is_right:
@@ -56,7 +56,7 @@ def found(what, is_right, why=""):
 class Client:
     """A connection to a server, and its lines."""
 
-    def __init__(self, port, name, small=False, is_open=True):
+    def __init__(self, port, name, small=False, is_open=True) -> None:
         self.it, self.rest = socket.socket(), b""
         if small:
             self.it.setsockopt(socket.SOL_SOCKET, socket.SO_RCVBUF, 4096)
@@ -67,7 +67,7 @@ class Client:
             self.send(f"open {name}\n".encode())
             self.line()
 
-    def send(self, text):
+    def send(self, text) -> None:
         self.it.settimeout(ANSWERS)
         self.it.sendall(text)
 
@@ -85,7 +85,7 @@ class Client:
         line, _, self.rest = self.rest.partition(b"\n")
         return line.decode("ascii")
 
-    def quit(self):
+    def quit(self) -> None:
         self.send(b"quit\n")
         while self.line() is not None:
             pass
@@ -101,7 +101,7 @@ def started(folder, sessions):
     return server
 
 
-def look_at_end(server, what):
+def look_at_end(server, what) -> None:
     """Looks how a server ends, and at its traces."""
     try:
         out, status, error = server.ended(ENDS)
@@ -114,7 +114,7 @@ def look_at_end(server, what):
         found(f"{what}: {trace.name} is legal", said.startswith("legal "), said)
 
 
-def deaf(folder):
+def deaf(folder) -> None:
     server = started(folder, 3)
     b, c, d = Client(server.port, "hold", small=True), Client(server.port, "hold"), Client(server.port, "cell")
     b.it.settimeout(0.5)
@@ -155,7 +155,7 @@ def deaf(folder):
     look_at_end(server, "deaf")
 
 
-def deaf_by_name(folder):
+def deaf_by_name(folder) -> None:
     """A client with a name that asks again and reads nothing, and comes back when it was let go."""
     server = started(folder, 4)
     b, c, d = Client(server.port, "hold as ann", small=True), Client(server.port, "cell"), Client(server.port, "cell")
@@ -189,7 +189,7 @@ def deaf_by_name(folder):
     look_at_end(server, "deaf by name")
 
 
-def cut(folder):
+def cut(folder) -> None:
     """A client that is cut off at each byte of its last call."""
     text = b"call put 1\ncall put 777777"
     server = started(folder, len(text) + 2)
@@ -212,12 +212,12 @@ def cut(folder):
     found("only whole calls are done", values == {"1"}, f"puts of {sorted(values)}")
 
 
-def late(folder):
+def late(folder) -> None:
     """How late the first answer to many calls comes that are sent ahead, while others take turns with them."""
     server = started(folder, BUSY + 1)
     over = threading.Event()
 
-    def busy():
+    def busy() -> None:
         it = Client(server.port, "cell")
         while not over.is_set():
             it.send(b"call put 5\n")
@@ -245,7 +245,7 @@ def late(folder):
     look_at_end(server, "late")
 
 
-def main():
+def main() -> int:
     if given_words():
         print(__doc__, file=sys.stderr)
         return 2

@@ -65,7 +65,7 @@ LAYERS = ("Text", "Objects", "Running", "Sharing", "Replay", "The program", "Tes
 class Page:
     """A document: its name, its text, and its blocks as (line, indent, word, text)."""
 
-    def __init__(self, path):
+    def __init__(self, path) -> None:
         self.name = str(path.relative_to(TOP))
         self.text = path.read_text(encoding="utf-8")
         self.blocks, self.prose = [], []
@@ -98,10 +98,10 @@ def gate_command():
 class Count:
     """What passed, and what is said of what failed."""
 
-    def __init__(self):
+    def __init__(self) -> None:
         self.passed, self.failed = 0, 0
 
-    def is_so(self, holds, where, what):
+    def is_so(self, holds, where, what) -> bool:
         if holds:
             self.passed += 1
         else:
@@ -126,7 +126,7 @@ def blocks_of_cases():
     return found
 
 
-def try_named_by_cases(count, page, named):
+def try_named_by_cases(count, page, named) -> None:
     numbers = {}
     for line, word, _ in page.blocks:
         if word in READ_BY_CASES:
@@ -141,11 +141,11 @@ def try_named_by_cases(count, page, named):
 class Client:
     """One connection to a server of a page."""
 
-    def __init__(self, port):
+    def __init__(self, port) -> None:
         self.socket = socket.create_connection(("127.0.0.1", port), timeout=SECONDS)
         self.lines = self.socket.makefile("rb")
 
-    def say(self, line):
+    def say(self, line) -> None:
         self.socket.sendall(line.encode() + b"\n")
 
     def hear(self):
@@ -155,7 +155,7 @@ class Client:
 class Shell:
     """Runs the commands of a page in a folder that looks like the repository's top."""
 
-    def __init__(self, count, page, folder):
+    def __init__(self, count, page, folder) -> None:
         self.count, self.page, self.folder = count, page, pathlib.Path(folder)
         self.top, self.tmp, self.bin = (self.folder / it for it in ("top", "tmp", "bin"))
         for it in (self.top, self.tmp, self.bin):
@@ -169,7 +169,7 @@ class Shell:
         self.output, self.words = "", ""
         self.give_files()
 
-    def give_files(self):
+    def give_files(self) -> None:
         """Files that the documents speak of and do not have, and what stands in for a program that is not installed."""
         page = Page(TOP / "README.md")
         first = next(text for _, word, text in page.blocks if word == "objects")
@@ -181,7 +181,7 @@ class Shell:
             (self.bin / "nc").write_text(f"#!/usr/bin/env python3\n{client}", encoding="ascii")
             (self.bin / "nc").chmod(0o755)
 
-    def give_object(self, page, text):
+    def give_object(self, page, text) -> None:
         """Writes the objects of a block to the file of which the page says `write this object to`; the last block counts."""
         if found := re.search(r"[Ww]rite this object to `/tmp/([\w.]+)`", " ".join(page.text.split())):
             (self.tmp / found[1]).write_text(text, encoding="ascii")
@@ -209,7 +209,7 @@ class Shell:
         env = {**os.environ, "PATH": f"{os.environ['PATH']}:{self.bin}", "PYTHONDONTWRITEBYTECODE": "1"}
         return subprocess.Popen(["bash", "-c", words], cwd=self.top, env=env, text=True, start_new_session=True, **more)
 
-    def serve(self, where, words):
+    def serve(self, where, words) -> None:
         """Starts a server, and waits until it listens."""
         words = words.rstrip("&").strip()
         port = PORT.search(words)
@@ -228,7 +228,7 @@ class Shell:
             time.sleep(0.02)
         self.count.is_so(False, where, f"it does not listen: {words}: {pathlib.Path(log.name).read_text(encoding='utf-8')}")
 
-    def run(self, where, words, status, stdin=None):
+    def run(self, where, words, status, stdin=None) -> None:
         """Runs a command to its end."""
         given = subprocess.PIPE if stdin is not None else subprocess.DEVNULL
         ran = self.start(self.put(words), stdin=given, stdout=subprocess.PIPE, stderr=subprocess.PIPE)
@@ -247,14 +247,14 @@ class Shell:
         if len(lines) == 1 and words.startswith("./pathserve"):
             self.count.is_so(self.page.says(lines[0]), where, f"{words} writes {lines[0]!r}, which the page does not say")
 
-    def kill(self, where):
+    def kill(self, where) -> None:
         """Kills the server that was started last."""
         was = self.servers[-1][1] if self.servers else None
         if self.count.is_so(was and was.poll() is None, where, "no server to kill"):
             os.killpg(was.pid, signal.SIGKILL)
             was.wait()
 
-    def commands(self, where, text, status, stdin):
+    def commands(self, where, text, status, stdin) -> None:
         """Runs the commands of a block; only the last one may have another status than 0."""
         lines = [it for it in text.replace("\\\n", " ").split("\n") if it.strip() and not it.startswith("#")]
         for number, words in enumerate(lines, 1):
@@ -268,7 +268,7 @@ class Shell:
                 last = number == len(lines)
                 self.run(where, words, status if last else 0, stdin if words.endswith("/dev/stdin") else None)
 
-    def terminal(self, where, text):
+    def terminal(self, where, text) -> None:
         """Says and hears the lines of a block, over a connection of its own."""
         client = Client(self.last_port)
         has_quit = False
@@ -286,7 +286,7 @@ class Shell:
             # (a name is free when the server has closed the connection)
             self.count.is_so(False, where, f"it heard {line!r} after the end")
 
-    def end_clients(self):
+    def end_clients(self) -> None:
         """Each client that is there says `quit`; what it hears then stands in the page. Then its server ends, but for one
         that stays."""
         for where, client in self.clients:
@@ -306,7 +306,7 @@ class Shell:
         self.end_servers(had)
         self.servers = stay
 
-    def end_servers(self, says):
+    def end_servers(self, says) -> None:
         for where, server, log, _ in self.servers:
             server.stdin.close()
             if server.poll() is None:
@@ -329,7 +329,7 @@ def stands(wanted, found):
     return cases.is_like(wanted.encode(), found.encode())
 
 
-def try_commands(count, page):
+def try_commands(count, page) -> None:
     """Runs the commands and the terminals of a page."""
     if not any(word.split(" ")[0] in ("sh", "terminal", "python", "output") for _, word, _ in page.blocks):
         return
@@ -343,7 +343,7 @@ def try_commands(count, page):
             shell.end_servers(False)
 
 
-def try_block(shell, where, word, text, later):
+def try_block(shell, where, word, text, later) -> None:
     """Does what a block asks for; `later` are those after it."""
     if word == "objects":
         shell.give_object(shell.page, text)
@@ -371,7 +371,7 @@ def try_block(shell, where, word, text, later):
         try_not_run(shell.count, where, text)
 
 
-def try_not_run(count, where, text):
+def try_not_run(count, where, text) -> None:
     """Looks whether the programs of commands that are not run, and their flags, are there."""
     for words in text.splitlines():
         words = words.rstrip("&").split("#")[0].replace("[", "").replace("]", "").split()
@@ -396,7 +396,7 @@ def try_not_run(count, where, text):
 # Other blocks.
 
 
-def try_case(count, where, text):
+def try_case(count, where, text) -> None:
     """Runs a block that is a file of cases."""
     with tempfile.TemporaryDirectory(prefix="documents-") as folder:
         path = pathlib.Path(folder) / "block.cases"
@@ -414,7 +414,7 @@ def try_case(count, where, text):
             count.is_so(not said, where, said)
 
 
-def try_grammars(count, pages):
+def try_grammars(count, pages) -> None:
     """Looks whether each sign that a grammar uses has its rule in one of these pages."""
     text = "\n".join(it for page in pages for _, word, it in page.blocks if word == "grammar")
     rules = set(re.findall(r"(?m)^(\w+) +=", text))
@@ -424,7 +424,7 @@ def try_grammars(count, pages):
     count.passed += len(rules)
 
 
-def try_entries(count, where, text):
+def try_entries(count, where, text) -> None:
     """Looks whether the reader of objects takes these declarations."""
     body = text.replace("..", "").replace("NAME", "x")
     for entry in body.splitlines():
@@ -435,7 +435,7 @@ def try_entries(count, where, text):
         count.is_so(ran.returncode == 0, where, f"{entry}: {ran.stdout.strip()}")
 
 
-def try_edit(count, where, text):
+def try_edit(count, where, text) -> None:
     """Looks whether a wrong body could be tried: its text stands once in that file of some crate."""
     words = dict(line.split(": ", 1) if ": " in line else (line, "") for line in text.splitlines())
     found = [it for it in (TOP / "crates").glob(f"*/{words.get('file', 'none')}") if it.read_text().count(words.get("old", "")) == 1]
@@ -445,7 +445,7 @@ def try_edit(count, where, text):
 # What pages name.
 
 
-def try_names(count, page):
+def try_names(count, page) -> None:
     """Looks whether each path that a page names is there."""
     for line, text in page.prose:
         for name in re.findall(r"(?<![\w/.-])((?:docs|tools|gate|cases|examples|bench|crates|\.ci)/[\w./*-]*[\w*])", text):
@@ -454,7 +454,7 @@ def try_names(count, page):
                 count.is_so(there, f"{page.name}:{line}", f"there is no {name}")
 
 
-def try_spans(count, page, help_text):
+def try_spans(count, page, help_text) -> None:
     """Looks whether the tools, the subcommands and the flags of commands between backticks are there."""
     for line, text in page.prose:
         where = f"{page.name}:{line}"
@@ -472,7 +472,7 @@ def bare_name(name):
     return bool(list(TOP.glob(name + ".*")))
 
 
-def try_items(count, page):
+def try_items(count, page) -> None:
     """Looks whether each file of a crate and each item of one that a page names is there."""
     for line, text in page.prose:
         where = f"{page.name}:{line}"
@@ -489,7 +489,7 @@ def try_items(count, page):
                     count.is_so(there, where, f"there is no {name} in {crate}")
 
 
-def try_limits(count):
+def try_limits(count) -> None:
     """Looks whether each case and test that docs/LIMITS.md names is there."""
     for number, line in enumerate((TOP / "docs" / "LIMITS.md").read_text(encoding="utf-8").split("\n"), 1):
         for cell in line.split("|"):
@@ -505,7 +505,7 @@ def try_limits(count):
                     count.is_so(there, where, f"no test {title} in {name}")
 
 
-def try_wrong_bodies(count):
+def try_wrong_bodies(count) -> None:
     """Looks whether each wrong body that docs/PROOFS.md names is there."""
     text = (TOP / "docs" / "PROOFS.md").read_text(encoding="utf-8")
     section = re.search(r"(?ms)^## Wrong bodies$(.*?)(?=^`rt plant`|\Z)", text)
@@ -515,7 +515,7 @@ def try_wrong_bodies(count):
         count.is_so(name in edits or f"fn {name}(" in tests, "docs/PROOFS.md", f"there is no wrong body {name}")
 
 
-def try_crates(count):
+def try_crates(count) -> None:
     """Compares the crates of docs/ARCHITECTURE.md with crates.txt: each has a row, and stands on its layer and those below."""
     text = (TOP / "docs" / "ARCHITECTURE.md").read_text(encoding="utf-8")
     layer = {}
@@ -541,14 +541,14 @@ def try_crates(count):
                 count.is_so(holds, "docs/ARCHITECTURE.md", f"{crate} ({LAYERS[above]}) stands on {other} ({LAYERS[below]})")
 
 
-def try_parts(count):
+def try_parts(count) -> None:
     """Looks whether gate/README.md tells of each part of tools/test."""
     text = (TOP / "gate" / "README.md").read_text(encoding="utf-8")
     for part in (*test.FREE, *test.PARTS, test.TRY):
         count.is_so(f"`{part.words[0]}`" in text, "gate/README.md", f"nothing of {part.words[0]}")
 
 
-def try_whole(count):
+def try_whole(count) -> None:
     """What holds of README.md, CHANGELOG.md and the manual page as a whole."""
     readme = (TOP / "README.md").read_text(encoding="utf-8")
     count.is_so(len(readme.split("\n")) <= 101, "README.md", "more than 100 lines")
@@ -570,7 +570,7 @@ def pages_of(words):
     return [Page(it) for it in ([pathlib.Path(it).resolve() for it in words] or found)]
 
 
-def main():
+def main() -> int:
     words = argparse.ArgumentParser(usage=__doc__, add_help=False)
     words.add_argument("pages", nargs="*")
     said = words.parse_args(given_words())

@@ -12,7 +12,7 @@ import re
 import subprocess
 import sys
 
-from gate.tried import TOP, lacks, new_folder, whole
+from gate.tried import TOP, lacks, new_folder, there, whole
 
 SECONDS = 60
 WORD = re.compile(r"[A-Za-z][A-Za-z0-9_]*")
@@ -34,15 +34,16 @@ KINDS = {
 }
 
 
-def reserved():
+def reserved() -> set[str]:
     """The reserved words, as docs/LANGUAGE.md lists them."""
     text = (TOP / "docs" / "LANGUAGE.md").read_text(encoding="utf-8")
-    return set(re.search(r"Reserved words are no names: `([a-z\s]+)`", text)[1].split())
+    return set(there(re.search(r"Reserved words are no names: `([a-z\s]+)`", text))[1].split())
 
 
-def kinds(text, words):
+def kinds(text: str, words: set[str]) -> list[str]:
     """The kind of each character, one character at a time, by the rules of the language."""
-    found, at = [], 0
+    found: list[str] = []
+    at = 0
     while at < len(text):
         end, it = at + 1, text[at]
         if it == "{" or text.startswith("(*", at):
@@ -66,10 +67,11 @@ def kinds(text, words):
     return found
 
 
-def by_textmate(text):
+def by_textmate(text: str) -> list[str]:
     """The scope of each character, by the rules of TextMate: the first match from here on, of those the one listed first."""
     rules = json.loads((TOP / "editors" / "pathobject.tmLanguage.json").read_text(encoding="ascii"))["patterns"]
-    found, open_rule = [], None
+    found: list[str] = []
+    open_rule: "dict[str, str] | None" = None
     for line in text.splitlines(keepends=True):
         at = 0
         while at < len(line):
@@ -104,7 +106,7 @@ qall!
 """
 
 
-def by_vim(text):
+def by_vim(text: str) -> list[str]:
     """The group of each character, as Vim says it."""
     with new_folder("editors-") as room:
         (room / "script.vim").write_text(SCRIPT)
@@ -118,7 +120,7 @@ def by_vim(text):
         return [it for line, row in zip(text.split("\n")[:-1], lines) for it in [*(row.split(" ") if line else []), ""]]
 
 
-def main():
+def main() -> int:
     if sys.argv[1:]:
         print(__doc__, file=sys.stderr)
         return 2

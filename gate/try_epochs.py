@@ -231,7 +231,7 @@ def refused_source():
         return status == 1 and output.startswith("decl ") and error == ""
 
 
-def main():
+def main() -> int:
     given_words()
     passed = failed = 0
     with tempfile.TemporaryDirectory(prefix="epochs-") as folder:

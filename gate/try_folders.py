@@ -70,7 +70,7 @@ UNSAVED = re.compile(r"(\S+) not saved:((?: \d+\.val)+)\n")
 MOVED = re.compile(r"moved to left/(\d+):((?: \d+\.val)+)\n")
 
 
-def check(holds, said):
+def check(holds, said) -> None:
     if not holds:
         raise Wrong(said)
 
@@ -78,26 +78,26 @@ def check(holds, said):
 class Server(served.Server):
     """A server over a folder, which stops with its input, and what it says first, if anything."""
 
-    def __init__(self, folder, *more, other=True, files=None, env=None):
+    def __init__(self, folder, *more, other=True, files=None, env=None) -> None:
         user = NOBODY if other and os.geteuid() == 0 else None
         source, words = folder.parent / "objects.pp", ["--sessions", "8", "--stop-with-input", *more]
         super().__init__("serve", source, folder, *words, env=env, files=files, user=user, survives=True)
 
-    def start(self):
+    def start(self) -> None:
         self.begin()
-        self.line = self.child.stdout.readline()
+        self.first = self.line()
 
     def ask(self, *lines):
         """Says lines on a connection of its own, and gives what comes."""
         return "".join(f"{it}\n" for it in self.says(*lines))
 
-    def settle(self):
+    def settle(self) -> None:
         """Has each object do a call."""
         heard = self.ask("open one", f"call put 7 '{TEXT}'") + self.ask("open two", "call put 9")
         check(heard.count("done 1\n") == 2, f"the clients heard {heard!r}")
         self.await_rest()
 
-    def await_rest(self):
+    def await_rest(self) -> None:
         """Waits until the sessions that have ended have removed what nobody reads any more."""
         end = time.monotonic() + LASTS
         last, since = None, time.monotonic()
@@ -106,7 +106,7 @@ class Server(served.Server):
                 last, since = now, time.monotonic()
             time.sleep(QUIET / 10)
 
-    def limit(self, size):
+    def limit(self, size) -> None:
         resource.prlimit(self.child.pid, resource.RLIMIT_FSIZE, (size, size))
 
 
@@ -121,7 +121,7 @@ def place():
         yield room / "folder"
 
 
-def give(it):
+def give(it) -> None:
     """Gives a file or a folder to the user who runs the program."""
     if os.geteuid() == 0:
         os.chown(it, NOBODY, NOBODY)
@@ -142,7 +142,7 @@ def value_files(folder):
     return {name for name in contents(folder) if re.fullmatch(r"\d+\.val", name)}
 
 
-def is_saved(folder, part, values=None):
+def is_saved(folder, part, values=None) -> bool:
     path = folder / f"{part}.part"
     return path.exists() and path.read_bytes() == (values or VALUES)[part]
 
@@ -163,7 +163,7 @@ def look_for_values(folder, error, values=None):
     return unsaved
 
 
-def look_at_ends(folder, said, error, unsaved, before):
+def look_at_ends(folder, said, error, unsaved, before) -> None:
     """`NAME entries K` stands where all of an object was kept, and nowhere else; a trace is whole, or the one that was there."""
     for name, count in ENTRIES.items():
         untraced = f"{name}.trace not written\n" in error
@@ -177,11 +177,11 @@ def look_at_ends(folder, said, error, unsaved, before):
             check(legal == f"legal {count}\n", f"{name}.trace is {legal!r}")
 
 
-def repair(folder, unsaved):
+def repair(folder, unsaved) -> None:
     """What docs/SERVING.md says of parts that were not saved: a start moves the value files away, a stop, and then the files of a part, one behind
     the other, are the part."""
     with Server(folder) as server:
-        check(server.line.startswith("listening "), "the second start failed")
+        check(server.first.startswith("listening "), "the second start failed")
         _, status, error = server.ended(LASTS)
     check(status == 0, f"the second run ended with {status}")
     moved = MOVED.search(error)
@@ -210,14 +210,14 @@ def end_badly(folder, server, before):
     return unsaved
 
 
-def try_two_servers():
+def try_two_servers() -> None:
     with place() as folder, Server(folder) as first:
         first.settle()
         before = contents(folder)
         told = f"{folder}: another server has this folder\n"
         for more in (), ("--explain",):
             with Server(folder, *more) as second:
-                check(second.line == "", "a second server serves")
+                check(second.first == "", "a second server serves")
                 said, status, error = second.ended(LASTS)
             check((status, said, error) == (3, "", f"{told}read fault\n"), f"the second one ended with {status}, {said!r}, {error!r}")
         check(contents(folder) == before, "the second server changed the folder")
@@ -228,14 +228,14 @@ def try_two_servers():
     with place() as folder:
         for is_killed in (False, True, False):
             with Server(folder) as server:
-                check(server.line.startswith("listening "), "the folder of a server that has ended is not free")
+                check(server.first.startswith("listening "), "the folder of a server that has ended is not free")
                 if is_killed:
                     server.kill()
                 else:
                     server.ended(LASTS)
 
 
-def try_limits():
+def try_limits() -> None:
     """The end of a server that may write no file longer than so much, for lengths at which one write more fails each time."""
     for size in sorted({0, *(len(it) - 1 for it in VALUES.values()), max(map(len, VALUES.values()))}):
         with place() as folder:
@@ -249,7 +249,7 @@ def try_limits():
                 repair(folder, unsaved)
 
 
-def try_old_trace():
+def try_old_trace() -> None:
     """The trace of the last run stays where the new one cannot be written."""
     with place() as folder:
         with Server(folder) as server:
@@ -281,7 +281,7 @@ def small_disk():
                 subprocess.run(["umount", "-l", folder], check=False)
 
 
-def fill(folder, pages):
+def fill(folder, pages) -> None:
     """Leaves so many pages of a small file system free."""
     it = os.open(folder / "filling", os.O_CREAT | os.O_WRONLY)
     with contextlib.suppress(OSError):
@@ -291,7 +291,7 @@ def fill(folder, pages):
     os.close(it)
 
 
-def try_full_disk():
+def try_full_disk() -> None:
     """One write more is possible each time, until all are."""
     failed = 0
     for pages in range(len(VALUES) + len(ENTRIES) + 1):
@@ -315,7 +315,7 @@ def try_full_disk():
     check(failed >= len(VALUES), f"the disk was full for {failed} writes alone")
 
 
-def try_read_only():
+def try_read_only() -> None:
     with place() as folder:
         with Server(folder) as server:
             server.settle()
@@ -327,7 +327,7 @@ def try_read_only():
             said, status, error = server.ended(LASTS)
             last = error.splitlines(keepends=True)[-2:]
             wanted = [f"{folder}: in this folder a part cannot be read, or no file can be made\n", "read fault\n"]
-            check((server.line, status, said, last) == ("", 3, "", wanted), f"a start in a read-only folder: {status}, {said!r}, {error!r}")
+            check((server.first, status, said, last) == ("", 3, "", wanted), f"a start in a read-only folder: {status}, {said!r}, {error!r}")
         check(contents(folder) == before, "a start in a read-only folder changed it")
         folder.chmod(0o755)
         repair(folder, unsaved)
@@ -342,7 +342,7 @@ def try_read_only():
         look_for_values(folder, "")
 
 
-def try_kill():
+def try_kill() -> None:
     with place() as folder:
         with Server(folder) as server:
             server.settle()
@@ -367,7 +367,7 @@ def try_kill():
         check({it for it in contents(folder) if not it.startswith("left/")} == set(saved), "other files are there")
 
 
-def try_before():
+def try_before() -> None:
     """The folder of a program of before: a save that cannot write all leaves parts of either format, and the next start takes up both."""
     for size in 0, len(VALUES["two.v"]), len(VALUES["one.w"]), len(VALUES["one.v"]):
         with place() as folder:
@@ -399,7 +399,7 @@ def ask_or_not(server, *lines):
         return ""
 
 
-def try_few_files():
+def try_few_files() -> None:
     """Where too many files are open no connection can be taken: who is there goes on, and all is saved."""
     with place() as folder, Server(folder, other=False) as server:
         server.settle()
@@ -422,7 +422,7 @@ def try_few_files():
         look_for_values(folder, error)
 
 
-def try_fewer_files():
+def try_fewer_files() -> None:
     """A server with so few files that it cannot start, cannot save, or takes no connection, until it has enough of them."""
     ends, values = set(), dict(VALUES)
     with place() as folder:
@@ -431,7 +431,7 @@ def try_fewer_files():
             check(server.ended(LASTS).status == 0, "the first run failed")
         for files in range(4, 25):
             with Server(folder, other=False, files=files) as server:
-                heard = ask_or_not(server, "open two", f"call put {files}") if server.line else ""
+                heard = ask_or_not(server, "open two", f"call put {files}") if server.first else ""
                 said, status, error = server.ended(LASTS)
             if "done 1\n" in heard:
                 values["two.v"] = bytes.fromhex(f"02010001{files:08x}")
@@ -440,7 +440,7 @@ def try_fewer_files():
             for name, count in re.findall(r"(\w+) entries (\d+)\n", said):
                 legal = audited(folder.parent / "objects.pp", folder / f"{name}.trace")
                 check(legal == f"legal {count}\n", f"{files} files: {name}.trace is {legal!r}")
-            ends.add((bool(server.line), heard[-10:], status))
+            ends.add((bool(server.first), heard[-10:], status))
         check(not value_files(folder), "value files were left though all was saved")
     wanted = {(False, "", 3), (True, "", 3), (True, "one 1\nbye\n", 0)}
     check(wanted <= ends, f"with few files came {ends}")
@@ -482,7 +482,7 @@ def lacking(folder, **more):
     return {"LD_PRELOAD": str(library), **{name: str(it) for name, it in more.items()}}
 
 
-def try_unlisted():
+def try_unlisted() -> None:
     """A folder whose listing fails, at its first read or when all that is there was read, is not taken for one in which nothing is left."""
     for fails in 1, 2:
         with place() as folder:
@@ -492,13 +492,13 @@ def try_unlisted():
             before = contents(folder)
             check(value_files(folder), "a server that was killed left no value file")
             with Server(folder, env=lacking(folder, LISTING=fails)) as server:
-                check(server.line == "", f"a server whose listing fails at read {fails} serves")
+                check(server.first == "", f"a server whose listing fails at read {fails} serves")
                 said, status, error = server.ended(LASTS)
             check((status, said) == (3, "") and error.endswith("read fault\n"), f"{status}, {said!r}, {error!r}")
             check(contents(folder) == before, f"a listing that fails at read {fails} changed the folder")
 
 
-def try_no_thread():
+def try_no_thread() -> None:
     """Where no thread can be made for a session whose call waits, it hears that the server is to stop all the same."""
     with place() as folder:
         (folder.parent / "objects.pp").write_text(WAITS, encoding="ascii")
@@ -530,7 +530,7 @@ def trials():
     return [Trial(it.__name__, it) for it in TRIES]
 
 
-def main():
+def main() -> int:
     if given_words():
         print(__doc__, file=sys.stderr)
         return 2

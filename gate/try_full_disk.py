@@ -51,7 +51,7 @@ def told(server):
     return server.error().splitlines()
 
 
-def end(server):
+def end(server) -> None:
     check(server.end()[1], 0, "the status")
 
 
@@ -63,7 +63,7 @@ def ended(server, name):
 class Client(Talk):
     """A connection that has opened an object, by a name where one is given, and what it was told then."""
 
-    def __init__(self, server, name, client=None):
+    def __init__(self, server, name, client=None) -> None:
         super().__init__(server)
         self.opened = self.asks(f"open {name}" + (f" as {client}" if client else ""))
 
@@ -95,7 +95,7 @@ def served():
         yield server
 
 
-def numbers_are_spent():
+def numbers_are_spent() -> None:
     """Where no new epoch can be written, calls go on up to the 65,536th, and then are refused; once one can, it begins."""
     with served() as server:
         stuck = server.folder / "cell.journal.new"
@@ -124,7 +124,7 @@ def numbers_are_spent():
         check(audited(server)[0], f"cell epochs 3 entries {done + 1} whole", "the audit")
 
 
-def room_is_spent():
+def room_is_spent() -> None:
     """Where the disk is full, calls go on as long as there is room for their lines and for those of all that wait."""
     with served() as server:
         front = len((server.folder / "note.journal").read_bytes().rstrip(b"\0"))
@@ -163,7 +163,7 @@ def room_is_spent():
         check(Client(server, "note", "eve").opened, "opened note next 1", "what a new name hears")
 
 
-def room_of_those_that_wait():
+def room_of_those_that_wait() -> None:
     """A call that waits keeps its room: what is let go on behind a full journal has its lines there."""
     with served() as server:
         stuck = server.folder / "note.journal.new"
@@ -182,7 +182,7 @@ def room_of_those_that_wait():
         check(audited(server)[1], f"note epochs 1 entries {counts['done'] + 80} whole", "the audit")
 
 
-def ended_epochs_are_kept():
+def ended_epochs_are_kept() -> None:
     """Each epoch that has ended has a file of its own, without bytes 0; where they have too many bytes, the oldest go."""
     with served() as server:
         client = Client(server, "cell")
@@ -213,7 +213,7 @@ def ended_epochs_are_kept():
             raise Wrong("standard error was not told")
 
 
-def a_crash_within_a_change_harms_nothing():
+def a_crash_within_a_change_harms_nothing() -> None:
     """A second name of the journal, and a new journal that was not finished, are left by a crash: a start takes them away."""
     with served() as server:
         client = Client(server, "cell")
@@ -235,7 +235,7 @@ def trials():
     return [Trial(it.__doc__, it) for it in TRIALS]
 
 
-def main():
+def main() -> int:
     return run("try_full_disk", trials(), [" ".join(given_words())])
 
 

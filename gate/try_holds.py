@@ -570,7 +570,7 @@ TRIALS = [
 ]
 
 
-def main():
+def main() -> int:
     given, words = kept.options(given_words(), seconds=10)
     return kept.run("try_holds", TRIALS, words, **given)
 

@@ -15,7 +15,6 @@ import os
 import resource
 import selectors
 import socket
-import struct
 import subprocess
 import threading
 import time
@@ -23,6 +22,7 @@ import time
 from gate import kept
 from gate.crowd import SOURCE
 from gate.kept import Server, Talk
+from gate.served import resets
 from gate.tried import check, given_words, holds, loads, until
 
 LONG = "x" * 1000
@@ -44,7 +44,7 @@ def polite(server, calls=20):
 # Connections.
 
 
-def many_connections_in_a_row(folder, big):
+def many_connections_in_a_row(folder, big) -> None:
     """Each comes, makes a call, and goes; nothing is left of them."""
     server, count = Server(folder, SOURCE, "--sync", "1000", at_path=False), 10_000 if big else 1_000
     server.start()
@@ -76,7 +76,7 @@ class Heard:
 class Many:
     """Connections that are made at once, and one call of each."""
 
-    def __init__(self, server, count):
+    def __init__(self, server, count) -> None:
         self.server, self.selector, self.done, self.all = server, selectors.DefaultSelector(), 0, []
         for at in range(count):
             it = server.connect()
@@ -100,7 +100,7 @@ class Many:
                     self.selector.unregister(it.socket)
         return self.done
 
-    def close(self):
+    def close(self) -> None:
         for it in self.all:
             it.close()
 
@@ -117,7 +117,7 @@ def raised(files):
     return True
 
 
-def many_connections_at_once(folder, big):
+def many_connections_at_once(folder, big) -> None:
     """All are served; a connection that rests takes little memory."""
     count = 9_999 if big else 1_000
     if not raised(count + 200):
@@ -142,7 +142,7 @@ def many_connections_at_once(folder, big):
     server.end()
 
 
-def a_server_that_rests_takes_no_processor(folder, big):
+def a_server_that_rests_takes_no_processor(folder, big) -> None:
     server = Server(folder, SOURCE)
     server.start()
     with Talk(server, "open buffer", "opened buffer") as it:
@@ -155,7 +155,7 @@ def a_server_that_rests_takes_no_processor(folder, big):
     server.end()
 
 
-def more_than_at_once_wait(folder, big):
+def more_than_at_once_wait(folder, big) -> None:
     """One more than may be connected waits until another one goes, however that goes."""
     server = Server(folder, SOURCE, "--at-once", "4")
     server.start()
@@ -175,7 +175,7 @@ def more_than_at_once_wait(folder, big):
     here[1].close()
     here[2].socket.shutdown(socket.SHUT_WR)
     here[2].hears("")
-    here[3].socket.setsockopt(socket.SOL_SOCKET, socket.SO_LINGER, struct.pack("ii", 1, 0))
+    resets(here[3].socket)
     here[3].close()
     for it in late:
         it.stream = it.socket.makefile("rb")
@@ -188,7 +188,7 @@ def more_than_at_once_wait(folder, big):
     server.end()
 
 
-def too_few_files(folder, big):
+def too_few_files(folder, big) -> None:
     """Where the system has no file left for a connection it waits, and is served once another one goes."""
     server = Server(folder, SOURCE, files=24)
     server.start()
@@ -223,7 +223,7 @@ def too_few_files(folder, big):
 # Clients that are none.
 
 
-def cut_at_each_byte(folder, big):
+def cut_at_each_byte(folder, big) -> None:
     """A client with a name hangs up behind each byte that it sends, and each that it hears: its call is done once."""
     server = Server(folder, SOURCE, "--sync", "1000", at_path=True)
     server.start()
@@ -242,7 +242,7 @@ def cut_at_each_byte(folder, big):
                     while left > 0 and (piece := it.recv(left)):
                         left -= len(piece)
             if is_reset and not server.at_path:
-                it.setsockopt(socket.SOL_SOCKET, socket.SO_LINGER, struct.pack("ii", 1, 0))
+                resets(it)
             it.close()
             with Talk(server) as again:
                 answer = "no InUse"
@@ -263,7 +263,7 @@ def cut_at_each_byte(folder, big):
     server.end()
 
 
-def one_sends_a_byte_at_a_time(folder, big):
+def one_sends_a_byte_at_a_time(folder, big) -> None:
     """A slow client is served, and no other one waits for it."""
     server = Server(folder, SOURCE)
     server.start()
@@ -279,7 +279,7 @@ def one_sends_a_byte_at_a_time(folder, big):
     server.end()
 
 
-def one_sends_without_an_end(folder, big):
+def one_sends_without_an_end(folder, big) -> None:
     """Of a line without an end nothing is kept: it is answered once, and the connection ends."""
     server = Server(folder, SOURCE)
     server.start()
@@ -338,7 +338,7 @@ def none_grows(server, count, who, text, opening):
     return before
 
 
-def clients_that_never_read(folder, big):
+def clients_that_never_read(folder, big) -> None:
     """Clients that are owed ever more and send on: no more is read of them, memory is bounded, and others are
     served."""
     # (each has 11 bytes told for 2 that it says, 280 KB until no more is read of it)
@@ -351,7 +351,7 @@ def clients_that_never_read(folder, big):
     server.end()
 
 
-def clients_whose_lines_are_held(folder, big):
+def clients_whose_lines_are_held(folder, big) -> None:
     """Clients that send on behind a call that waits: no more is read of them, and memory is bounded."""
     count = 1_000 if big else 300
     raised(count + 300)
@@ -360,7 +360,7 @@ def clients_whose_lines_are_held(folder, big):
     server.end()
 
 
-def lines_are_held_for_ever(folder, big):
+def lines_are_held_for_ever(folder, big) -> None:
     """Of a client that always has lines held, however many calls it makes, no more is kept than what is held."""
     server, calls = Server(folder, SOURCE, "--sync", "1000", at_path=True), 100_000 if big else 12_000
     server.start()
@@ -381,13 +381,13 @@ def lines_are_held_for_ever(folder, big):
     server.kill()
 
 
-def send(talk, line, count):
+def send(talk, line, count) -> None:
     with contextlib.suppress(OSError):
         for _ in range(count // 100):
             talk.socket.sendall(line * 100)
 
 
-def who_hangs_up_ahead_of_its_calls(folder, big):
+def who_hangs_up_ahead_of_its_calls(folder, big) -> None:
     """Whoever has sent more than is held, and hangs up, is seen to have gone: its call is cancelled, and no other one
     is done."""
     for at_path in (True, False):
@@ -411,7 +411,7 @@ def who_hangs_up_ahead_of_its_calls(folder, big):
             server.end()
 
 
-def loud_clients_starve_nobody(folder, big):
+def loud_clients_starve_nobody(folder, big) -> None:
     """Clients that send on and on, and read, take no more than their turn."""
     server, count = Server(folder, SOURCE, "--sync", "20"), 8
     server.start()
@@ -438,7 +438,7 @@ def loud_clients_starve_nobody(folder, big):
     server.end()
 
 
-def more_names_than_there_are(folder, big):
+def more_names_than_there_are(folder, big) -> None:
     """An object knows 4,096 names: one more is refused, and so are no others; a start knows them all."""
     server, names = Server(folder, SOURCE, "--sync", "1000", at_path=True), 4_096
     server.start()
@@ -460,7 +460,7 @@ def more_names_than_there_are(folder, big):
     server.is_whole()
 
 
-def calls_that_wait_leave_room(folder, big):
+def calls_that_wait_leave_room(folder, big) -> None:
     """However much the lines of calls that wait may need, a call that lets one of them go on is done."""
     source = """object box;
   path 5:(put; get) end;
@@ -496,7 +496,7 @@ end;
 class Mounted:
     """A small file system in memory, which can be filled."""
 
-    def __init__(self, folder, size):
+    def __init__(self, folder, size) -> None:
         self.folder, self.ballast = folder, folder / "ballast"
         folder.mkdir()
         words = ["mount", "-t", "tmpfs", "-o", f"size={size}", "tmpfs", str(folder)]
@@ -505,17 +505,17 @@ class Mounted:
     def __enter__(self):
         return self
 
-    def __exit__(self, *_):
+    def __exit__(self, *_) -> None:
         if self.is_there:
             subprocess.run(["umount", "-l", str(self.folder)], check=True)
 
-    def fill(self, rest):
+    def fill(self, rest) -> None:
         """Leaves so many bytes of it."""
         left = os.statvfs(self.folder)
         with open(self.ballast, "wb") as file:
             file.write(bytes(max(0, left.f_bavail * left.f_frsize - rest)))
 
-    def empty(self):
+    def empty(self) -> None:
         self.ballast.unlink()
 
 
@@ -533,7 +533,7 @@ def said(server, count):
     return done, refused
 
 
-def a_full_disk(folder, big):
+def a_full_disk(folder, big) -> None:
     """Where no new epoch can be written the old one goes on, and standard error says so; behind the last byte of its
     file calls are `no HistoryFull`, and once there is room again all goes on. Nothing that was answered is lost."""
     source = SOURCE[SOURCE.index("object echo") :]
@@ -592,7 +592,7 @@ TRIALS = (
 )
 
 
-def main():
+def main() -> int:
     given, words = kept.options(given_words(), big=0)
     return kept.run("try_kept", TRIALS, words, **given)
 

@@ -9,6 +9,7 @@ comes takes no time, and clients that say nothing take little memory.
 The program is the one that ./pathserve runs, or FILE. The last line is `try_many: N passed, M failed`; the exit status is 0
 where M is 0 and N is not.
 """
+import pathlib
 import select
 import time
 
@@ -27,7 +28,7 @@ end;
 """
 
 
-def heard(talks):
+def heard(talks: list[Talk]) -> list[Talk]:
     """Those that were answered, once nobody is any more."""
     found, quiet = [], 0
     while quiet < 3:
@@ -40,7 +41,7 @@ def heard(talks):
     return found
 
 
-def come_and_go(server, count, most):
+def come_and_go(server: Server, count: int, most: int) -> None:
     """So many clients come at once, of which `most` at most are heard; as they end, all others are."""
     talks = [Talk(server) for _ in range(count)]
     for it in talks:
@@ -60,7 +61,7 @@ def come_and_go(server, count, most):
             waits.remove(it)
 
 
-def few_files(folder):
+def few_files(folder: pathlib.Path) -> None:
     """With 40 files and 60 clients each of them is served, and it is said once that some wait."""
     server = Server(folder, SOURCE, files=FILES)
     server.start()
@@ -70,7 +71,7 @@ def few_files(folder):
     check((*server.end(), server.error()), ("counter entries 121\n", 0, SHORT))
 
 
-def an_epoch_begins_without_a_file(folder):
+def an_epoch_begins_without_a_file(folder: pathlib.Path) -> None:
     """While clients wait for a file, an epoch begins, which takes one."""
     server, calls = Server(folder, SOURCE, "--sync", "50", files=FILES), 61_000
     server.start()
@@ -93,7 +94,7 @@ def an_epoch_begins_without_a_file(folder):
     server.end()
 
 
-def few_places(folder):
+def few_places(folder: pathlib.Path) -> None:
     """With --at-once 5 and 60 clients each of them is served."""
     server = Server(folder, SOURCE, "--at-once", "5")
     server.start()
@@ -101,7 +102,7 @@ def few_places(folder):
     server.end()
 
 
-def nobody_takes_no_time(folder):
+def nobody_takes_no_time(folder: pathlib.Path) -> None:
     """A server to which nobody comes takes less than a twentieth of a processor."""
     for words in ((), ("--sync", "1000")):
         server = Server(folder, SOURCE, *words)
@@ -114,7 +115,7 @@ def nobody_takes_no_time(folder):
         server.end()
 
 
-def who_was_owed_much_keeps_little(folder):
+def who_was_owed_much_keeps_little(folder: pathlib.Path) -> None:
     """Of 100 clients that were each told 4,000 lines at once and are idle now, each takes at most 4 KiB."""
     server, count = Server(folder, SOURCE, "--sync", "1000", "--at-once", "200"), 100
     server.start()
@@ -135,7 +136,7 @@ def who_was_owed_much_keeps_little(folder):
 TRIALS = (few_files, an_epoch_begins_without_a_file, few_places, nobody_takes_no_time, who_was_owed_much_keeps_little)
 
 
-def main():
+def main() -> int:
     return kept.run("try_many", TRIALS, given_words())
 
 

@@ -27,8 +27,9 @@ import time
 from clients.python.pathclient import (
     CallError, Cancelled, Expired, Failed, Lost, NoServer, Object, Pool, Refused, Rejected, Reply, aio, stubs,
 )
-from gate import closing
+from gate import closing, kept
 from gate.cutter import Cutter
+from gate.fakes import NEVER, FakeServer
 from gate.served import Server, free_port
 from gate.tried import TOP, Trial, given_words, in_folder, lacks, loads, run
 
@@ -37,12 +38,12 @@ OBJECTS = TOP / "examples" / "objects"
 SECONDS = 20
 
 
-def check(found, wanted):
+def check(found, wanted) -> None:
     if found != wanted or type(found) is not type(wanted):
         raise AssertionError(f"{found!r}, not {wanted!r}")
 
 
-def raised(kind, word, function, *arguments, **options):
+def raised(kind, word, function, *arguments, **options) -> None:
     """Whether calling this raises exactly this kind, with this word."""
     try:
         found = function(*arguments, **options)
@@ -60,44 +61,22 @@ def server_of(objects, sessions, folder, port=None):
     return Server("serve", objects, folder, "--sessions", sessions, place=port)
 
 
-def ends(server, said):
+def ends(server, said) -> None:
     """A server ends, as it has to now, and says this."""
     check(server.ended(SECONDS).said, said)
 
 
-class Listener(threading.Thread):
-    """Takes one connection after the other. Of each it has a list: after a line that begins so, these bytes are sent;
-    after the last of them the connection is closed."""
-
-    def __init__(self, *connections, port=0):
-        super().__init__(daemon=True)
-        self.connections, self.heard = connections, []
-        self.socket = socket.create_server(("127.0.0.1", port))
-        self.port = self.socket.getsockname()[1]
-        self.start()
-
-    def run(self):
-        for answers in self.connections:
-            with self.socket.accept()[0] as it:
-                lines = it.makefile("rb")
-                for begins, sent in answers:
-                    line = lines.readline().decode("ascii")
-                    self.heard.append(line)
-                    if not line.startswith(begins):
-                        break
-                    it.sendall(sent)
-                lines.close()
-        self.socket.close()
+def answering(*connections, port=0):
+    """A fake that takes these connections one after the other."""
+    return FakeServer(*connections, port=port, in_turn=True)
 
 
-OPENED = ("open cell\n", b"opened cell\n")
-# A connection on which nothing more is said, and which stays.
-NEVER = ("never\n", b"")
+OPENED = ("open cell", b"opened cell\n")
 
 
 def opened(key, answer=b""):
     """The answer to a client with a name, after some that refuse it."""
-    return ("open cell as ann\n", answer or f"opened cell next {key}\n".encode())
+    return ("open cell as ann", answer or f"opened cell next {key}\n".encode())
 
 
 IN_USE = opened(0, b"no InUse\n")
@@ -109,7 +88,7 @@ end;
 """
 
 
-def calls(folder):
+def calls(folder) -> None:
     with server_of(OBJECTS / "phone_book.pp", 1, folder) as server:
         with Object(server.port, "phone_book") as book:
             check(book.enter("ada", "12 34"), None)
@@ -129,7 +108,7 @@ def calls(folder):
         ends(server, "phone_book entries 14\n")
 
 
-def integers(folder):
+def integers(folder) -> None:
     with server_of(OBJECTS / "cell.pp", 1, folder) as server:
         with Object(server.port, "CELL") as cell:
             check(cell.put(4294967295), None)
@@ -139,7 +118,7 @@ def integers(folder):
             check(cell.get(), 0)
 
 
-def not_taken(folder):
+def not_taken(folder) -> None:
     """What the server does not take, and what is no argument: the session goes on."""
     with server_of(OBJECTS / "cell.pp", 2, folder) as server:
         with Object(server.port, "cell") as cell:
@@ -156,7 +135,7 @@ def not_taken(folder):
         ends(server, "cell entries 1\n")
 
 
-def waits(folder):
+def waits(folder) -> None:
     """A call that waits for another session, and one that is cancelled where it waits too long."""
     with server_of(OBJECTS / "bounded_buffer.pp", 2, folder) as server:
         with Object(server.port, "bounded_buffer") as consumer, Object(server.port, "bounded_buffer") as producer:
@@ -177,13 +156,13 @@ def waits(folder):
         ends(server, "bounded_buffer entries 4\n")
 
 
-def shared(folder):
+def shared(folder) -> None:
     """Threads that share a session: each has its own replies."""
     with server_of(OBJECTS / "phone_book.pp", 1, folder) as server:
         with Object(server.port, "phone_book") as book:
             wrong = []
 
-            def work(number):
+            def work(number) -> None:
                 for turn in range(40):
                     book.enter(f"{number} {turn}", f"{turn} of {number}")
                     if book.number_of(f"{number} {turn}") != f"{turn} of {number}":
@@ -198,7 +177,7 @@ def shared(folder):
             check(book.size(), 320)
 
 
-def killed(folder):
+def killed(folder) -> None:
     """A server that is killed while a call waits, and another one that takes its place."""
     with server_of(OBJECTS / "bounded_buffer.pp", 1, folder) as server:
         buffer = Object(server.port, "bounded_buffer", wait=0.5)
@@ -211,7 +190,7 @@ def killed(folder):
         ends(server, "bounded_buffer entries 1\n")
 
 
-def no_server(folder):
+def no_server(folder) -> None:
     raised(NoServer, None, Object, free_port(), "cell", wait=0)
     with server_of(OBJECTS / "cell.pp", 1, folder) as server:
         with Object(server.port, "cell") as cell:
@@ -223,8 +202,8 @@ def no_server(folder):
 def said(answers, kind, word, **options):
     """What a call gives, where these are the answers behind `opened cell`."""
 
-    def attempt(_):
-        listener = Listener([OPENED, *answers])
+    def attempt(_: object) -> None:
+        listener = answering([OPENED, *answers])
         cell = Object(listener.port, "cell", wait=0.3)
         if kind is None:
             check(cell.get(**options), word)
@@ -234,18 +213,18 @@ def said(answers, kind, word, **options):
     return attempt
 
 
-def after_lost(_):
+def after_lost(_: object) -> None:
     """A lost call is not sent again; the next call makes a new connection."""
-    again = [OPENED, ("call put 2\n", b"accepted 1\ndone 1\n"), ("quit\n", b"bye\n")]
-    listener = Listener([OPENED, ("call put 1\n", b"accepted 9\n")], again)
+    again = [OPENED, ("call put 2", b"accepted 1\ndone 1\n"), ("quit", b"bye\n")]
+    listener = answering([OPENED, ("call put 1", b"accepted 9\n")], again)
     with Object(listener.port, "cell") as cell:
         raised(Lost, None, cell.put, 1)
         check(cell.put(2), None)
-    listener.join(SECONDS)
+    listener.thread.join(SECONDS)
     check(listener.heard, ["open cell\n", "call put 1\n", "open cell\n", "call put 2\n", "quit\n"])
 
 
-def by_name(folder):
+def by_name(folder) -> None:
     """A session with a name goes on where the one before it ended; nobody else has its keys."""
     with server_of(OBJECTS / "cell.pp", 4, folder) as server:
         for turn in (1, 2, 3):
@@ -260,7 +239,7 @@ def by_name(folder):
         ends(server, "cell entries 13\n")
 
 
-def one_name_twice(folder):
+def one_name_twice(folder) -> None:
     """A name is in use until its session has ended."""
     with server_of(OBJECTS / "cell.pp", 3, folder) as server:
         cell = Object(server.port, "cell", client="ann")
@@ -271,7 +250,7 @@ def one_name_twice(folder):
         ends(server, "cell entries 1\n")
 
 
-def names_that_are_none(folder):
+def names_that_are_none(folder) -> None:
     with server_of(OBJECTS / "cell.pp", 2, folder) as server:
         for it in ("", "9", "a b", "a" * 65, "ann\nquit"):
             raised(ValueError, None, Object, server.port, "cell", client=it)
@@ -283,7 +262,7 @@ def names_that_are_none(folder):
 def cut_at_each_byte(way, size, resets):
     """A client with a name whose connection breaks at each byte of a call, or of its answer: each call is done once, and replied."""
 
-    def attempt(folder):
+    def attempt(folder) -> None:
         (folder / "meter.pp").write_text(METER)
         with server_of(folder / "meter.pp", size + 3, folder) as server:
             cutter = Cutter(server.port)
@@ -306,8 +285,8 @@ def comes_back(kind, word, *connections, key=5, heard=None, **options):
     """What a call of a client with a name gives, where the connection breaks behind the call of this key, and these are the answers on
     the connections that it makes then."""
 
-    def attempt(_):
-        listener = Listener([opened(key), (f"call #{key} get\n", b"")], *connections)
+    def attempt(_: object) -> None:
+        listener = answering([opened(key), (f"call #{key} get", b"")], *connections)
         cell = Object(listener.port, "cell", client="ann", wait=0.3)
         if kind is None:
             check(cell.get(**options), word)
@@ -319,11 +298,11 @@ def comes_back(kind, word, *connections, key=5, heard=None, **options):
     return attempt
 
 
-def after_the_return(_):
+def after_the_return(_: object) -> None:
     """The next call has the next key, also where a call was lost."""
-    listener = Listener([opened(5), ("call #5 put 1\n", b"accepted 9\n")], [opened(6), ("call #5 put 1\n", b"repeat done 9\n"),
-                        ("call #6 put 2\n", b"no BadArgs\n"), ("call #6 put 3\n", b"accepted 10\n")],
-                        [opened(1)], [opened(2), ("call #2 put 4\n", b"accepted 3\ndone 3\n")])
+    listener = answering([opened(5), ("call #5 put 1", b"accepted 9\n")], [opened(6), ("call #5 put 1", b"repeat done 9\n"),
+                        ("call #6 put 2", b"no BadArgs\n"), ("call #6 put 3", b"accepted 10\n")],
+                        [opened(1)], [opened(2), ("call #2 put 4", b"accepted 3\ndone 3\n")])
     cell = Object(listener.port, "cell", client="ann")
     check(cell.put(1), None)
     raised(Rejected, "BadArgs", cell.put, 2)
@@ -331,14 +310,14 @@ def after_the_return(_):
     check(cell.put(4), None)
 
 
-def unopened(_):
-    listener = Listener(*[[("open cell\n", b"")]] * 9)
+def unopened(_: object) -> None:
+    listener = answering(*[[("open cell", b"")]] * 9)
     raised(NoServer, None, Object, listener.port, "cell", wait=0.3)
 
 
-def full(_):
+def full(_: object) -> None:
     """A server that takes no further client is told apart from one that is not there."""
-    listener = Listener([("open cell\n", b""), NEVER])
+    listener = answering([("open cell", b""), NEVER])
     try:
         Object(listener.port, "cell", wait=0.2)
     except NoServer as error:
@@ -348,7 +327,7 @@ def full(_):
 def in_time(answers, kind, word):
     """A call with `within` ends in time, whatever the server does not say."""
 
-    def attempt(folder):
+    def attempt(folder) -> None:
         begun = time.monotonic()
         said([*answers, NEVER], kind, word, within=0.2)(folder)
         if not 0.2 <= time.monotonic() - begun < 5:
@@ -360,7 +339,7 @@ def in_time(answers, kind, word):
 def in_time_where(server, begun, kind, word, *arguments):
     """A call with `within` ends in time, where the server holds before it has heard the call."""
 
-    def attempt(_):
+    def attempt(_: object) -> None:
         answering = closing.Answering(*server)
         try:
             cell, _ = begun(answering)
@@ -374,20 +353,20 @@ def in_time_where(server, begun, kind, word, *arguments):
     return attempt
 
 
-def behind_another(_):
+def behind_another(_: object) -> None:
     """A call with `within` that only waits for the call of another thread is given up, and was not sent."""
-    listener = Listener([OPENED, ("call get\n", b"accepted 1\n"), NEVER])
+    listener = answering([OPENED, ("call get", b"accepted 1\n"), NEVER])
     cell = Object(listener.port, "cell")
     first = closing.Call(cell)
     closing.awaited("the first call", lambda: len(listener.heard) == 2)
     raised(Cancelled, "", cell.put, 1, within=0.2)
     cell.close()
     first.is_lost("a call")
-    listener.join(SECONDS)
+    listener.thread.join(SECONDS)
     check(listener.heard, ["open cell\n", "call get\n", ""])
 
 
-def told_of_which(folder):
+def told_of_which(folder) -> None:
     """What is raised says of which call."""
     with server_of(OBJECTS / "cell.pp", 1, folder) as server, Object(server.port, "cell") as cell:
         for error, operation, arguments in (("BadArgs: put 'it''s' 2", "put", ("it's", 2)), ("UnknownOp: pop", "pop", ())):
@@ -399,18 +378,18 @@ def told_of_which(folder):
             raise AssertionError(f"nothing was raised, not {error}")
 
 
-def interrupted(_):
+def interrupted(_: object) -> None:
     """A reply that is none leaves no line for the next call."""
-    again = [OPENED, ("call put 2\n", b"accepted 1\ndone 1\n")]
-    listener = Listener([OPENED, ("call get\n", b"accepted 1\ndone 1 x\n")], again)
+    again = [OPENED, ("call put 2", b"accepted 1\ndone 1\n")]
+    listener = answering([OPENED, ("call get", b"accepted 1\ndone 1 x\n")], again)
     cell = Object(listener.port, "cell")
     raised(Lost, None, cell.get)
     check(cell.put(2), None)
 
 
-def by_word(_):
+def by_word(_: object) -> None:
     """A refusal is caught by its word, and as any other; it can be handed to another process."""
-    listener = Listener([OPENED, ("call get\n", b"accepted 1\nrefused 1 empty\n"), ("call get\n", b"accepted 2\nrefused 2 full\n")])
+    listener = answering([OPENED, ("call get", b"accepted 1\nrefused 1 empty\n"), ("call get", b"accepted 2\nrefused 2 full\n")])
     cell, told = Object(listener.port, "cell"), []
     for _ in range(2):
         try:
@@ -424,7 +403,7 @@ def by_word(_):
     check(told, ["empty: empty: get", "full: get"])
 
 
-def sent_ahead(folder):
+def sent_ahead(folder) -> None:
     """Calls that are sent ahead: what came of each stands in its place."""
     with server_of(OBJECTS / "cell.pp", 2, folder) as server:
         for client in (None, "ann"):
@@ -435,7 +414,7 @@ def sent_ahead(folder):
         ends(server, "cell entries 88\n")
 
 
-def late_ahead(folder):
+def late_ahead(folder) -> None:
     """Calls that are sent ahead, and wait too long: each is cancelled."""
     with server_of(OBJECTS / "bounded_buffer.pp", 1, folder) as server, Object(server.port, "bounded_buffer", client="ann") as buffer:
         came = buffer.ahead(("put", "a"), ("get",), ("get",), ("put", "b"), within=0.5)
@@ -443,7 +422,7 @@ def late_ahead(folder):
         check(buffer.waiting(), 1 if came[3] is None else 0)
 
 
-def again_by_key(folder):
+def again_by_key(folder) -> None:
     """A program that was killed asks for its call by the key that it has written down."""
     with server_of(OBJECTS / "cell.pp", 3, folder) as server:
         with Object(server.port, "cell", client="ann") as cell:
@@ -476,15 +455,13 @@ end;
 """
 
 
-class Kept(Server):
-    """A server by `keep` of a lot, or of a source, at one port, that is killed and started again."""
+class Kept(kept.Server):
+    """A server of a lot, or of a source, at one port, that is killed and started again."""
 
-    def __init__(self, folder, source=LOT, *words):
-        (folder / "lot.pp").write_text(source)
-        (folder / "kept").mkdir()
-        super().__init__("keep", folder / "lot.pp", folder / "kept", "--stop-with-input", *words, place=free_port())
+    def __init__(self, folder, source=LOT, *words) -> None:
+        super().__init__(folder, source, *words, port=free_port())
 
-    def kill_for(self, seconds):
+    def kill_for(self, seconds) -> None:
         """Kills it, and starts it again after so many seconds."""
         self.kill()
         threading.Timer(seconds, self.start).start()
@@ -510,7 +487,7 @@ end;
 """
 
 
-def late(folder):
+def late(folder) -> None:
     """A name that was away for too long: what it held was given back under its keys. Its next call says so, whatever it calls, and the
     one behind it goes on."""
     with Kept(folder, SLOTS, "--away", "0") as server, Object(server.port, "lot", client="eve", wait=SECONDS) as other:
@@ -535,7 +512,7 @@ def late(folder):
         asyncio.run(late_tasks(server, other))
 
 
-def broken_off(server, other, lot):
+def broken_off(server, other, lot) -> None:
     """A block in which the server is killed, and gives back what the block holds."""
     with lot.holding("enter", "leave"):
         server.kill()
@@ -544,7 +521,7 @@ def broken_off(server, other, lot):
             time.sleep(0.01)
 
 
-async def late_tasks(server, other):
+async def late_tasks(server, other) -> None:
     async with aio.connect(server.port, "lot", client="bob", wait=SECONDS) as lot:
         await lot.enter()
         server.kill()
@@ -563,21 +540,21 @@ async def late_tasks(server, other):
 def not_as_it_was(kind):
     """A client that has a connection which ended, and comes back by its name: where that has made calls meanwhile it says so, once;
     but for calls that were given up themselves."""
-    first = [opened(5), ("call #5 get\n", b"accepted 9\ndone 9 1\n")]
+    first = [opened(5), ("call #5 get", b"accepted 9\ndone 9 1\n")]
 
-    def attempt(_):
+    def attempt(_: object) -> None:
         for key, back in ((6, [opened(6)]), (7, [opened(7), NEVER]), (30, [opened(20), NEVER]), (1, [opened(1)])):
-            calls = (f"call #{key} get\n", b"accepted 10\ndone 10 2\n")
+            calls = (f"call #{key} get", b"accepted 10\ndone 10 2\n")
             if NEVER in back:
-                check(got_by(kind, Listener(first, back, [opened(key), calls]).port, [None] * 3), [1, Expired, 2])
+                check(got_by(kind, answering(first, back, [opened(key), calls]).port, [None] * 3), [1, Expired, 2])
             else:
-                check(got_by(kind, Listener(first, [*back, calls]).port, [None] * 2), [1, 2])
+                check(got_by(kind, answering(first, [*back, calls]).port, [None] * 2), [1, 2])
         # (one call was lost before: a key more is its own. Tasks ask for it by themselves)
-        lost = [*first, ("call #6 get\n", b"")]
+        lost = [*first, ("call #6 get", b"")]
         for key, wanted in ((6, [1, Lost, 2]), (7, [1, Lost, 2]), (8, [1, Lost, Expired, 2])) if kind == "threads" else ():
-            calls = (f"call #{key} get\n", b"accepted 10\ndone 10 2\n")
+            calls = (f"call #{key} get", b"accepted 10\ndone 10 2\n")
             ends = [[opened(key), calls]] if key < 8 else [[opened(key), NEVER], [opened(key), calls]]
-            check(got_by(kind, Listener(lost, *ends).port, [None, 0, None, None][: len(wanted)]), wanted)
+            check(got_by(kind, answering(lost, *ends).port, [None, 0, None, None][: len(wanted)]), wanted)
 
     return attempt
 
@@ -614,11 +591,11 @@ class Boom(Exception):
     pass
 
 
-def interrupt(*_):
+def interrupt(*_) -> None:
     raise Boom
 
 
-def holds(folder):
+def holds(folder) -> None:
     """A block holds what it has begun, and gives it back, however it ends, over a server that is killed and gone for a while."""
     with Kept(folder) as server:
         for name in NAMES:
@@ -648,7 +625,7 @@ def holds(folder):
             check(server.counts(), (0, 2))
 
 
-def holds_nothing(folder):
+def holds_nothing(folder) -> None:
     """Where the first call is not done the second one is not called; where the second one cannot be done it is said why."""
     with Kept(folder) as server, Object(server.port, "lot") as lot, Object(server.port, "lot", client="ann", wait=0.1) as late:
         raised(Rejected, "UnknownOp", held, lot, "come", "leave")
@@ -682,7 +659,7 @@ def held(it, *words, **options):
 def holds_over_cuts(way, size, resets):
     """A holder with a name whose connection breaks at each byte of a call or of its answer, at the beginning or at the end: it holds once."""
 
-    def attempt(folder):
+    def attempt(folder) -> None:
         with Kept(folder) as server, Object(server.port, "lot") as other:
             cutter = Cutter(server.port)
             with Object(cutter.port, "lot", client="ann") as lot:
@@ -722,8 +699,8 @@ def heard_by(listener):
     return [it for it in listener.heard if it not in ("", "quit\n")]
 
 
-DOUBT = [opened(5), ("call #5 take\n", b"accepted 9\n"), ("cancel 9\n", b"")]
-TAKEN, GIVEN = ("call #5 take\n", b"accepted 9\ndone 9\n"), b"accepted 10\ndone 10\n"
+DOUBT = [opened(5), ("call #5 take", b"accepted 9\n"), ("cancel 9", b"")]
+TAKEN, GIVEN = ("call #5 take", b"accepted 9\ndone 9\n"), b"accepted 10\ndone 10\n"
 
 
 def holds_in_doubt(kind):
@@ -732,28 +709,28 @@ def holds_in_doubt(kind):
     # (tasks come back by themselves where a connection ends, so theirs stays; and they ask again for what is nobody's any more)
     silent, times = ([*DOUBT, NEVER], 2) if kind == "tasks" else (DOUBT, 1)
 
-    def attempt(_):
-        listener = Listener(silent, [opened(6), *[("call #5 take\n", b"repeat done 9\n")] * times, ("call #6 give\n", GIVEN)])
+    def attempt(_: object) -> None:
+        listener = answering(silent, [opened(6), *[("call #5 take", b"repeat done 9\n")] * times, ("call #6 give", GIVEN)])
         raised(Lost, None, held_by, kind, listener.port, "take", "give", within=0.1)
         check(heard_by(listener)[-1], "call #6 give\n")
         for answer in (b"repeat cancelled 9\n", b"repeat refused 9 range\n"):
-            listener = Listener(silent, [opened(6), *[("call #5 take\n", answer)] * times, NEVER])
+            listener = answering(silent, [opened(6), *[("call #5 take", answer)] * times, NEVER])
             raised(Lost, None, held_by, kind, listener.port, "take", "give", within=0.1)
             check(heard_by(listener)[-1], "call #5 take\n")
         # (another one has had the name since: nothing is asked again)
-        listener, begun = Listener([opened(5), ("call #5 take\n", b"")], [opened(9), NEVER]), time.monotonic()
+        listener, begun = answering([opened(5), ("call #5 take", b"")], [opened(9), NEVER]), time.monotonic()
         raised(Expired, None, held_by, kind, listener.port, "take", "give")
         check((len(heard_by(listener)), time.monotonic() - begun < 5), (3, True))
-        listener = Listener([OPENED, ("call take\n", b"accepted 9\n")], [OPENED, NEVER])
+        listener = answering([OPENED, ("call take", b"accepted 9\n")], [OPENED, NEVER])
         raised(Lost, None, held_by, kind, listener.port, "take", "give", client=None)
         check(len(heard_by(listener)), 2)
 
     return attempt
 
 
-def interrupted_holding(_):
+def interrupted_holding(_: object) -> None:
     """An interrupt, as of Ctrl-C, while the first call waits."""
-    listener = Listener([*DOUBT[:2], NEVER], [opened(6), ("call #5 take\n", b"repeat done 9\n"), ("call #6 give\n", GIVEN)])
+    listener = answering([*DOUBT[:2], NEVER], [opened(6), ("call #5 take", b"repeat done 9\n"), ("call #6 give", GIVEN)])
     cell, before = Object(listener.port, "cell", client="ann"), signal.signal(signal.SIGALRM, interrupt)
     signal.setitimer(signal.ITIMER_REAL, 0.2)
     try:
@@ -765,14 +742,14 @@ def interrupted_holding(_):
         signal.signal(signal.SIGALRM, before)
 
 
-def cancelled_holding(_):
+def cancelled_holding(_: object) -> None:
     """A task that is cancelled while its first call waits, which is then done all the same: it is ended."""
 
-    async def work(port, client):
+    async def work(port, client) -> None:
         cell = aio.connect(port, "cell", client=client)
         await cell.open()
 
-        async def hold():
+        async def hold() -> None:
             async with cell.holding("take", "give"):
                 raise AssertionError("there is a block")
 
@@ -784,19 +761,19 @@ def cancelled_holding(_):
         await cell.close()
 
     for client, opens, keys in ((None, OPENED, ("", "")), ("ann", opened(5), ("#5 ", "#6 "))):
-        listener = Listener([opens, (f"call {keys[0]}take\n", b"accepted 9\n"), ("cancel 9\n", b"done 9\ncancel 9 Ended\n"),
-                             (f"call {keys[1]}give\n", GIVEN), ("quit\n", b"bye\n")])
+        listener = answering([opens, (f"call {keys[0]}take", b"accepted 9\n"), ("cancel 9", b"done 9\ncancel 9 Ended\n"),
+                             (f"call {keys[1]}give", GIVEN), ("quit", b"bye\n")])
         asyncio.run(work(listener.port, client))
         check(heard_by(listener)[-1], f"call {keys[1]}give\n")
 
 
-def late_cancel(folder):
+def late_cancel(folder) -> None:
     """A task that is cancelled while it gives back: it ends when that is done, and is cancelled then."""
 
-    async def work(server):
+    async def work(server) -> None:
         async with aio.connect(server.port, "lot") as lot:
 
-            async def hold():
+            async def hold() -> None:
                 async with lot.holding("enter", "leave"):
                     server.child.send_signal(signal.SIGSTOP)
 
@@ -816,15 +793,15 @@ def late_cancel(folder):
 def ends_in_doubt(kind):
     """The second call is asked again under its key, and called anew where it was not done."""
 
-    def attempt(_):
+    def attempt(_: object) -> None:
         for answer, key in ((b"no Memory\n", 6), (b"accepted 10\ncancelled 10\n", 7), (b"no Gone\n", 6)):
-            again = (f"call #{key} give\n", b"accepted 11\ndone 11\n")
-            listener = Listener([opened(5), TAKEN, ("call #6 give\n", answer), again, ("quit\n", b"bye\n")])
+            again = (f"call #{key} give", b"accepted 11\ndone 11\n")
+            listener = answering([opened(5), TAKEN, ("call #6 give", answer), again, ("quit", b"bye\n")])
             check(held_by(kind, listener.port, "take", "give"), None)
-            check(heard_by(listener)[2:], ["call #6 give\n", again[0]])
+            check(heard_by(listener)[2:], ["call #6 give\n", f"{again[0]}\n"])
         # A server that has it, and stops before it says so: asked anew it would be done twice.
-        listener = Listener([opened(5), TAKEN, ("call #6 give\n", b"")], [opened(7), ("call #6 give\n", b"no Gone\n")],
-                            [opened(7), ("call #6 give\n", b"repeat done 10\n"), ("quit\n", b"bye\n")])
+        listener = answering([opened(5), TAKEN, ("call #6 give", b"")], [opened(7), ("call #6 give", b"no Gone\n")],
+                            [opened(7), ("call #6 give", b"repeat done 10\n"), ("quit", b"bye\n")])
         check(held_by(kind, listener.port, "take", "give"), None)
         check(len(heard_by(listener)), 7)
 
@@ -835,35 +812,35 @@ def ends_later(kind):
     """A second call that is in doubt, of a server that is gone for longer than one is tried for, is asked for under its key; and where
     its end was that it was cancelled, as a new one."""
 
-    def attempt(_):
+    def attempt(_: object) -> None:
         for answers in ([(b"repeat done 10\n", 6)], [(b"repeat cancelled 10\n", 6), (b"accepted 11\ndone 11\n", 7)]):
-            first = Listener([opened(5), TAKEN, ("call #6 give\n", b"accepted 10\n")])
-            calls, later = [(f"call #{key} give\n", answer) for answer, key in answers], []
-            begin = lambda: later.append(Listener([opened(7), *calls], port=first.port))  # noqa: E731
+            first = answering([opened(5), TAKEN, ("call #6 give", b"accepted 10\n")])
+            calls, later = [(f"call #{key} give", answer) for answer, key in answers], []
+            begin = lambda: later.append(answering([opened(7), *calls], port=first.port))  # noqa: E731
             threading.Timer(1.5, begin).start()
             check(held_by(kind, first.port, "take", "give", wait=0.1, patience=SECONDS), None)
-            check(heard_by(later[0]), ["open cell as ann\n", *(line for line, _ in calls)])
+            check(heard_by(later[0]), ["open cell as ann\n", *(f"{line}\n" for line, _ in calls)])
 
     return attempt
 
 
-def again_after_lost(_):
+def again_after_lost(_: object) -> None:
     """A call that was lost is asked for again by its key in the same Object: a server that has it does it once."""
-    listener = Listener([opened(5), ("call #5 put 1\n", b"")],
-                        [opened(6), ("call #5 put 1\n", b"repeat done 9\n"), ("call #6 get\n", b"accepted 10\ndone 10 1\n")])
+    listener = answering([opened(5), ("call #5 put 1", b"")],
+                        [opened(6), ("call #5 put 1", b"repeat done 9\n"), ("call #6 get", b"accepted 10\ndone 10 1\n")])
     cell = Object(listener.port, "cell", client="ann", wait=0)
     raised(Lost, None, cell.call, "put", 1, within=0)
     check((cell.key, cell.call("put", 1, key=5), cell.get()), (5, None, 1))
 
 
-def holds_in_tasks(folder):
+def holds_in_tasks(folder) -> None:
     """A task that is cancelled within its block, before it, or behind it gives back what it holds."""
 
-    async def work(server):
+    async def work(server) -> None:
         for name in NAMES:
             async with aio.connect(server.port, "lot", client=name) as lot, aio.connect(server.port, "lot") as other:
 
-                async def hold(ends=None):
+                async def hold(ends=None) -> None:
                     async with lot.holding("enter", "leave"):
                         check(await other.held(), 1)
                         if ends is not None:
@@ -900,7 +877,7 @@ def holds_in_tasks(folder):
                     await asyncio.sleep(0.2)
                 check(server.counts()[0], 0)
 
-    async def held_in_task(lot):
+    async def held_in_task(lot) -> None:
         async with lot.holding("enter", "leave"):
             pass
 
@@ -908,7 +885,7 @@ def holds_in_tasks(folder):
         asyncio.run(work(server))
 
 
-def pool(folder):
+def pool(folder) -> None:
     """Calls of threads overlap over a pool; what waits for a session in vain is cancelled; a closed pool ends calls."""
     with server_of(OBJECTS / "bounded_buffer.pp", 8, folder) as server, Pool(server.port, "bounded_buffer", 3) as buffers:
         got = []
@@ -926,7 +903,7 @@ def pool(folder):
         check(buffers.waiting(within=SECONDS), 0)
         lost = []
 
-        def waits():
+        def waits() -> None:
             try:
                 buffers.get()
             except Lost as error:
@@ -941,10 +918,10 @@ def pool(folder):
         raised(Lost, "closed", buffers.waiting)
 
 
-def tasks(folder):
+def tasks(folder) -> None:
     """Calls of tasks: in order, beside each other over two objects, and cancelled with their tasks."""
 
-    async def work(port):
+    async def work(port) -> None:
         async with aio.connect(port, "bounded_buffer") as first, aio.connect(port, "bounded_buffer", client="ann") as second:
             got = asyncio.create_task(first.get())
             await asyncio.sleep(0.2)
@@ -981,7 +958,7 @@ def placed(code):
     return code.replace("from pathclient", "from clients.python.pathclient")
 
 
-def written_stubs(folder):
+def written_stubs(folder) -> None:
     """The classes that are written for each example can be called."""
     for source in OBJECTS.glob("*.pp"):
         for is_aio in (False, True):
@@ -1014,7 +991,7 @@ def written_stubs(folder):
         check((rules, re.findall(r"def holding_(\w+)", stubs.stubs(text, False, "o"))), (rules, wanted))
 
 
-def judged(folder):
+def judged(folder) -> None:
     """What mypy says of the library, of what stubs writes, and of a program that calls by it."""
     for is_aio in (False, True):
         names = ("job_queue", "leader", "ledger", "phone_book", "print_spooler")
@@ -1049,8 +1026,8 @@ def client_of(folder, name):
 def gone(name, answers, output, error):
     """A client whose server is gone: what was answered is told, and what was not is told apart."""
 
-    def attempt(folder):
-        listener = Listener(answers)
+    def attempt(folder) -> None:
+        listener = answering(answers)
         words = [*client_of(folder, name), str(listener.port), "cell", "put 7", "get"]
         ran = subprocess.run(words, capture_output=True, text=True, timeout=SECONDS, check=False)
         check((ran.returncode, ran.stdout, ran.stderr), (3, output, error))
@@ -1061,8 +1038,8 @@ def gone(name, answers, output, error):
 def resuming(answers, status, output, error="", calls=("put 7", "get")):
     """What the client that resumes prints, where these are the answers on the connections that it makes."""
 
-    def attempt(folder):
-        listener = Listener(*answers)
+    def attempt(folder) -> None:
+        listener = answering(*answers)
         words = [*client_of(folder, "resuming.py"), str(listener.port), "cell", "ann", *calls]
         ran = subprocess.run(words, capture_output=True, text=True, timeout=SECONDS, check=False)
         check((ran.returncode, ran.stdout, ran.stderr), (status, output, error))
@@ -1070,7 +1047,7 @@ def resuming(answers, status, output, error="", calls=("put 7", "get")):
     return attempt
 
 
-def cut_resuming(folder):
+def cut_resuming(folder) -> None:
     """The client that resumes, over a connection that breaks at each byte of its calls and of their answers."""
     (folder / "meter.pp").write_text(METER)
     with server_of(folder / "meter.pp", 64, folder) as server:
@@ -1093,7 +1070,7 @@ def cut_resuming(folder):
 
 
 def none_there(name):
-    def attempt(folder):
+    def attempt(folder) -> None:
         words = [*client_of(folder, name), str(free_port()), "cell", "get"]
         ran = subprocess.run(words, capture_output=True, text=True, timeout=SECONDS, check=False)
         check((ran.returncode, ran.stdout, ran.stderr.startswith("client: there is no server: ")), (3, "", True))
@@ -1101,7 +1078,7 @@ def none_there(name):
     return attempt
 
 
-def guide(folder):
+def guide(folder) -> None:
     """The last step of the guide: its object, its server, its calls."""
     text = (TOP / "docs" / "LANGUAGE.md").read_text(encoding="utf-8")
     blocks = re.findall(r"^```(\w*)\n(.*?)^```$", text, re.S | re.M)
@@ -1136,27 +1113,27 @@ TRIES = [
     *[(f"a connection that breaks at each byte {way}, {'by a reset' if resets else 'closed'}", cut_at_each_byte(way, size, resets))
       for way, size in (("up", len("call #99 add 5\n")), ("down", len("accepted 99\ndone 99 495\n"))) for resets in (False, True)],
     ("the keys of a client that comes back", after_the_return),
-    *[(f"asked again: {text}", comes_back(kind, word, [opened(6), ("call #5 get\n", f"repeat {text}\n".encode())]))
+    *[(f"asked again: {text}", comes_back(kind, word, [opened(6), ("call #5 get", f"repeat {text}\n".encode())]))
       for text, kind, word in (("done 9 34", None, 34), ("done 9 ''", None, ""), ("done 9 'it''s'", None, "it's"), ("done 9", None, None),
                                ("refused 9 range", Refused, "range"), ("failed 9 device", Failed, "device"), ("cancelled 9", Cancelled, ""),
                                ("running 9", Lost, None))],
-    ("a call that had not come", comes_back(None, 34, [opened(5), ("call #5 get\n", b"accepted 9\ndone 9 34\n")])),
-    ("a connection that breaks twice", comes_back(None, 34, [opened(5), ("call #5 get\n", b"accepted 9\n")],
-                                                  [opened(6), ("call #5 get\n", b"repeat done 9 34\n")])),
+    ("a call that had not come", comes_back(None, 34, [opened(5), ("call #5 get", b"accepted 9\ndone 9 34\n")])),
+    ("a connection that breaks twice", comes_back(None, 34, [opened(5), ("call #5 get", b"accepted 9\n")],
+                                                  [opened(6), ("call #5 get", b"repeat done 9 34\n")])),
     ("a connection that breaks before `opened`", comes_back(None, 34, [opened(5, b"opened cell ne")], [opened(5, b"no InU")],
-                                                            [opened(6), ("call #5 get\n", b"repeat done 9 34\n")])),
-    ("a connection that breaks each time", comes_back(Lost, None, *[[opened(6), ("call #5 get\n", b"repeat done")]] * 9, heard=20)),
-    ("a name that is in use for a while", comes_back(None, 34, [IN_USE, IN_USE, opened(6), ("call #5 get\n", b"repeat done 9 34\n")])),
+                                                            [opened(6), ("call #5 get", b"repeat done 9 34\n")])),
+    ("a connection that breaks each time", comes_back(Lost, None, *[[opened(6), ("call #5 get", b"repeat done")]] * 9, heard=20)),
+    ("a name that is in use for a while", comes_back(None, 34, [IN_USE, IN_USE, opened(6), ("call #5 get", b"repeat done 9 34\n")])),
     ("a name that stays in use", comes_back(Lost, None, [IN_USE] * 99)),
     ("a server that was started anew", comes_back(Expired, None, [opened(1)], heard=3)),
     ("a server that was started anew, at the first call", comes_back(Lost, None, [opened(1)], key=1, heard=3)),
-    ("a server that has the first call", comes_back(None, 34, [opened(2), ("call #1 get\n", b"repeat done 9 34\n")], key=1)),
+    ("a server that has the first call", comes_back(None, 34, [opened(2), ("call #1 get", b"repeat done 9 34\n")], key=1)),
     ("a key that is too far", comes_back(Expired, None, [opened(7)], heard=3)),
     ("no server to come back to", comes_back(Lost, None)),
-    ("a server that has the call, and stops", comes_back(Lost, None, [opened(6), ("call #5 get\n", b"no Gone\n")])),
-    ("a server that has not the call, and stops", comes_back(Rejected, "Gone", [opened(5), ("call #5 get\n", b"no Gone\n")])),
+    ("a server that has the call, and stops", comes_back(Lost, None, [opened(6), ("call #5 get", b"no Gone\n")])),
+    ("a server that has not the call, and stops", comes_back(Rejected, "Gone", [opened(5), ("call #5 get", b"no Gone\n")])),
     ("a call that waits, and is cancelled when asked again",
-     comes_back(Cancelled, "", [opened(5), ("call #5 get\n", b"accepted 9\n"), ("cancel 9\n", b"cancelled 9\ncancel 9 Cancelled\n")],
+     comes_back(Cancelled, "", [opened(5), ("call #5 get", b"accepted 9\n"), ("cancel 9", b"cancelled 9\ncancel 9 Cancelled\n")],
                 within=0.1)),
     ("a refusal by its word", by_word),
     ("calls that are sent ahead", sent_ahead),
@@ -1181,32 +1158,32 @@ TRIES = [
     ("classes that are written for objects", written_stubs),
     *([] if lacks("mypy") else [("mypy", judged)]),
     ("the last step of the guide", guide),
-    *[(f"failed {it}", said([("call get\n", f"accepted 1\nfailed 1 {it}\n".encode())], Failed, it))
+    *[(f"failed {it}", said([("call get", f"accepted 1\nfailed 1 {it}\n".encode())], Failed, it))
       for it in ("device", "memory", "damaged")],
-    ("cancelled by somebody", said([("call get\n", b"accepted 1\ncancelled 1\n")], Cancelled, "")),
-    ("history full", said([("call get\n", b"no HistoryFull\n")], Rejected, "HistoryFull")),
-    ("a line that is too long", said([("call get\n", b"no LineTooLong\n")], Rejected, "LineTooLong")),
-    ("silence after the call", said([("call get\n", b"")], Lost, None)),
-    ("silence after `accepted`", said([("call get\n", b"accepted 1\n")], Lost, None)),
-    ("an `accepted` that was cut", said([("call get\n", b"accepted 1")], Lost, None)),
-    ("a reply that was cut", said([("call get\n", b"accepted 12\ndone 12 34")], Lost, None)),
-    ("the reply of another call", said([("call get\n", b"accepted 12\ndone 1 34\n")], Lost, None)),
-    ("a reply in pieces", said([("call get\n", b"accepted 12\ndone 12 34\n")], None, 34)),
-    ("an empty text", said([("call get\n", b"accepted 1\ndone 1 ''\n")], None, "")),
+    ("cancelled by somebody", said([("call get", b"accepted 1\ncancelled 1\n")], Cancelled, "")),
+    ("history full", said([("call get", b"no HistoryFull\n")], Rejected, "HistoryFull")),
+    ("a line that is too long", said([("call get", b"no LineTooLong\n")], Rejected, "LineTooLong")),
+    ("silence after the call", said([("call get", b"")], Lost, None)),
+    ("silence after `accepted`", said([("call get", b"accepted 1\n")], Lost, None)),
+    ("an `accepted` that was cut", said([("call get", b"accepted 1")], Lost, None)),
+    ("a reply that was cut", said([("call get", b"accepted 12\ndone 12 34")], Lost, None)),
+    ("the reply of another call", said([("call get", b"accepted 12\ndone 1 34\n")], Lost, None)),
+    ("a reply in pieces", said([("call get", b"accepted 12\ndone 12 34\n")], None, 34)),
+    ("an empty text", said([("call get", b"accepted 1\ndone 1 ''\n")], None, "")),
     ("a cancel that comes before the last line",
-     said([("call get\n", b"accepted 1\n"), ("cancel 1\n", b"cancel 1 Cancelled\ncancelled 1\n")], Cancelled, "",
+     said([("call get", b"accepted 1\n"), ("cancel 1", b"cancel 1 Cancelled\ncancelled 1\n")], Cancelled, "",
           within=0.1)),
     ("a cancel that comes after the last line",
-     said([("call get\n", b"accepted 1\n"), ("cancel 1\n", b"cancelled 1\ncancel 1 Cancelled\n")], Cancelled, "",
+     said([("call get", b"accepted 1\n"), ("cancel 1", b"cancelled 1\ncancel 1 Cancelled\n")], Cancelled, "",
           within=0.1)),
     ("a cancel that came too late",
-     said([("call get\n", b"accepted 1\n"), ("cancel 1\n", b"cancel 1 Running\ndone 1 5\n")], None, 5, within=0.1)),
+     said([("call get", b"accepted 1\n"), ("cancel 1", b"cancel 1 Running\ndone 1 5\n")], None, 5, within=0.1)),
     ("a cancel of a call that had ended",
-     said([("call get\n", b"accepted 1\n"), ("cancel 1\n", b"done 1 5\ncancel 1 Ended\n")], None, 5, within=0.1)),
-    ("a server that does not answer the cancel", in_time([("call get\n", b"accepted 1\n"), ("cancel 1\n", b"")], Lost, None)),
-    ("a server that does not tell the end of a call", in_time([("call get\n", b"accepted 1\n"), ("cancel 1\n", b"cancel 1 Running\n")],
+     said([("call get", b"accepted 1\n"), ("cancel 1", b"done 1 5\ncancel 1 Ended\n")], None, 5, within=0.1)),
+    ("a server that does not answer the cancel", in_time([("call get", b"accepted 1\n"), ("cancel 1", b"")], Lost, None)),
+    ("a server that does not tell the end of a call", in_time([("call get", b"accepted 1\n"), ("cancel 1", b"cancel 1 Running\n")],
                                                               Lost, None)),
-    ("a server that says nothing of a call", in_time([("call get\n", b"")], Lost, None)),
+    ("a server that says nothing of a call", in_time([("call get", b"")], Lost, None)),
     ("a server that is full", full),
     ("a server that takes no call",
      in_time_where([{**closing.OPEN, "then": closing.HOLDS}], lambda it: closing.opened(it, wait=99), Lost, None, *["x" * 1000] * 6000)),
@@ -1216,40 +1193,40 @@ TRIES = [
     ("behind the call of another thread", behind_another),
     ("what is raised says of which call", told_of_which),
     ("a server that is gone before the cancel is answered",
-     said([("call get\n", b"accepted 1\n"), ("cancel 1\n", b"cancel 1 Cancelled\n")], Lost, None, within=0.1)),
+     said([("call get", b"accepted 1\n"), ("cancel 1", b"cancel 1 Cancelled\n")], Lost, None, within=0.1)),
 ]
 for client in ("client.py", *(() if lacks("cc") else ("client.c",))):
     TRIES += [
         (f"{client}: no server", none_there(client)),
-        (f"{client}: gone before `opened`", gone(client, [("open cell\n", b"opened cell")], "", GONE)),
+        (f"{client}: gone before `opened`", gone(client, [("open cell", b"opened cell")], "", GONE)),
         (f"{client}: gone after the call",
-         gone(client, [OPENED, ("call put 7\n", b"")], "", GONE + UNKNOWN + "put 7\n")),
+         gone(client, [OPENED, ("call put 7", b"")], "", GONE + UNKNOWN + "put 7\n")),
         (f"{client}: gone while a call waits",
-         gone(client, [OPENED, ("call put 7\n", b"accepted 1\n")], "", GONE + UNKNOWN + "put 7\n")),
+         gone(client, [OPENED, ("call put 7", b"accepted 1\n")], "", GONE + UNKNOWN + "put 7\n")),
         (f"{client}: gone in the middle of a reply",
-         gone(client, [OPENED, ("call put 7\n", b"accepted 1\ndone 1\n"), ("call get\n", b"accepted 2\ndone 2 7")],
+         gone(client, [OPENED, ("call put 7", b"accepted 1\ndone 1\n"), ("call get", b"accepted 2\ndone 2 7")],
               "put 7: done 1\n", GONE + UNKNOWN + "get\n")),
     ]
 
 
 LOST = "client: it is not known whether this was done: "
-PUT = (opened(5), ("call #5 put 7\n", b"accepted 9\ndone 9\n"))
+PUT = (opened(5), ("call #5 put 7", b"accepted 9\ndone 9\n"))
 TRIES += [
     ("resuming.py: no server", none_there("resuming.py")),
-    ("resuming.py: all is answered", resuming([[*PUT, ("call #6 get\n", b"accepted 10\ndone 10 7\n"), ("quit\n", b"bye\n")]], 0,
+    ("resuming.py: all is answered", resuming([[*PUT, ("call #6 get", b"accepted 10\ndone 10 7\n"), ("quit", b"bye\n")]], 0,
                                               "put 7: done 9\nget: done 10 7\n")),
     ("resuming.py: a refused call takes no key",
-     resuming([[opened(5), ("call #5 put 7\n", b"no Memory\n"), ("call #5 get\n", b"accepted 9\ndone 9 7\n")]], 0,
+     resuming([[opened(5), ("call #5 put 7", b"no Memory\n"), ("call #5 get", b"accepted 9\ndone 9 7\n")]], 0,
               "put 7: no Memory\nget: done 9 7\n")),
-    ("resuming.py: gone in the middle of a reply", resuming([[*PUT, ("call #6 get\n", b"accepted 10\ndone 10 7")],
-     [opened(7), ("call #6 get\n", b"repeat done 10 7\n")]], 0, "put 7: done 9\nget: repeat done 10 7\n")),
-    ("resuming.py: gone before the call", resuming([[*PUT, ("call #6 get\n", b"")], [IN_USE, opened(6),
-     ("call #6 get\n", b"accepted 10\ndone 10 7\n")]], 0, "put 7: done 9\nget: done 10 7\n")),
-    ("resuming.py: gone twice", resuming([[opened(5), ("call #5 put 7\n", b"")], [opened(6), ("call #5 put 7\n", b"repeat do")],
-     [opened(6), ("call #5 put 7\n", b"repeat done 9\n")]], 0, "put 7: repeat done 9\n", calls=("put 7",))),
-    ("resuming.py: started anew", resuming([[*PUT, ("call #6 get\n", b"")], [opened(1)]], 3, "put 7: done 9\n", LOST + "get\n")),
-    ("resuming.py: started anew, at the first call", resuming([[opened(1), ("call #1 put 7\n", b"")], [opened(1)]], 3, "", LOST + "put 7\n")),
-    ("resuming.py: it has the call, and stops", resuming([[*PUT, ("call #6 get\n", b"")], [opened(7), ("call #6 get\n", b"no Gone\n")]], 3,
+    ("resuming.py: gone in the middle of a reply", resuming([[*PUT, ("call #6 get", b"accepted 10\ndone 10 7")],
+     [opened(7), ("call #6 get", b"repeat done 10 7\n")]], 0, "put 7: done 9\nget: repeat done 10 7\n")),
+    ("resuming.py: gone before the call", resuming([[*PUT, ("call #6 get", b"")], [IN_USE, opened(6),
+     ("call #6 get", b"accepted 10\ndone 10 7\n")]], 0, "put 7: done 9\nget: done 10 7\n")),
+    ("resuming.py: gone twice", resuming([[opened(5), ("call #5 put 7", b"")], [opened(6), ("call #5 put 7", b"repeat do")],
+     [opened(6), ("call #5 put 7", b"repeat done 9\n")]], 0, "put 7: repeat done 9\n", calls=("put 7",))),
+    ("resuming.py: started anew", resuming([[*PUT, ("call #6 get", b"")], [opened(1)]], 3, "put 7: done 9\n", LOST + "get\n")),
+    ("resuming.py: started anew, at the first call", resuming([[opened(1), ("call #1 put 7", b"")], [opened(1)]], 3, "", LOST + "put 7\n")),
+    ("resuming.py: it has the call, and stops", resuming([[*PUT, ("call #6 get", b"")], [opened(7), ("call #6 get", b"no Gone\n")]], 3,
                                                          "put 7: done 9\n", LOST + "get\n")),
     ("resuming.py: connections that break at each byte", cut_resuming),
 ]
@@ -1259,7 +1236,7 @@ def trials():
     return [Trial(title, in_folder("pathclient", attempt)) for title, attempt in TRIES]
 
 
-def main():
+def main() -> int:
     if given_words():
         print(__doc__, file=sys.stderr)
         return 2

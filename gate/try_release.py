@@ -68,7 +68,7 @@ def children(process):
 class Root:
     """A root folder in which commands are run, with `proc` and as little else as they need."""
 
-    def __init__(self, folder):
+    def __init__(self, folder) -> None:
         self.top = folder
         for it in ("bin", "sbin", "lib", "lib64"):
             (self.top / "usr" / it).mkdir(parents=True)
@@ -83,7 +83,7 @@ class Root:
             self.give(pathlib.Path(shutil.which(it)))
         self.give(program(), as_libraries_alone=True)
 
-    def give(self, file, as_libraries_alone=False):
+    def give(self, file, as_libraries_alone=False) -> None:
         """Copies a program, and the files that `ldd` names."""
         if not as_libraries_alone:
             shutil.copy2(file.resolve(), self.top / "usr" / ("sbin" if "sbin" in str(file) else "bin") / file.name)
@@ -118,7 +118,7 @@ class Root:
 class Started:
     """A server that was started in a root: the process that holds its input, and its own."""
 
-    def __init__(self, root, words, place, user, is_first=False, files=None):
+    def __init__(self, root, words, place, user, is_first=False, files=None) -> None:
         limit = (lambda: resource.setrlimit(resource.RLIMIT_NOFILE, (files, files))) if files else None
         pipe = subprocess.PIPE
         self.ran = subprocess.Popen(
@@ -134,12 +134,12 @@ class Started:
     def __enter__(self):
         return self
 
-    def __exit__(self, *_):
+    def __exit__(self, *_) -> None:
         with contextlib.suppress(ProcessLookupError):
             os.killpg(self.ran.pid, signal.SIGKILL)
         self.ran.communicate()
 
-    def is_of(self, user):
+    def is_of(self, user) -> None:
         owner = pathlib.Path(f"/proc/{self.server}").stat().st_uid
         check(owner, int(self.root.ids(user)[0]), "the user of the server")
 
@@ -157,14 +157,14 @@ class Started:
 class Keys(dict):
     """The keys of a unit and what they say."""
 
-    def __missing__(self, key):
+    def __missing__(self, key) -> None:
         raise Wrong(f"the unit says nothing of {key}")
 
 
 class Unit:
     """The unit of systemd for this name, and what systemd would do of it."""
 
-    def __init__(self, root, name):
+    def __init__(self, root, name) -> None:
         self.root, self.name = root, name
         text = root.at("/usr/lib/systemd/system/pathserve@.service").read_text().replace("%i", name)
         rows = [it.split("=", 1) for it in text.splitlines() if "=" in it and not it.startswith("#")]
@@ -189,7 +189,7 @@ class Unit:
         holds(words[2].endswith(keys["AssertPathExists"]), "the file of the objects is another one than the unit looks for")
         return Started(self.root, words, words[4], user, files=int(keys["LimitNOFILE"]))
 
-    def verify(self):
+    def verify(self) -> None:
         """Has systemd read it, beside its own units, where it is there."""
         own = pathlib.Path("/usr/lib/systemd/system")
         if not own.is_dir() or lacks("systemd-analyze"):
@@ -208,7 +208,7 @@ class Unit:
         return self.keys["Restart"] == "always" and str(status) not in self.keys["RestartPreventExitStatus"].split()
 
 
-def is_missing():
+def is_missing() -> bool:
     """Whether what installs in a root of its own cannot be run."""
     if os.geteuid():
         print("not run: root")
@@ -216,7 +216,7 @@ def is_missing():
     return any([lacks(it) for it in ("unshare", "chroot", "mount", "ldd", *PROGRAMS)])
 
 
-def archive(folder, release):
+def archive(folder, release) -> None:
     """It is what its sums say, runs where no kit is, and is the same when it is made again."""
     first, again = release, made(folder / "again")
     for it, other in zip(first, again):
@@ -250,7 +250,7 @@ def archive(folder, release):
         holds((top / it).is_file(), f"there is no {it}")
 
 
-def is_status(root, name):
+def is_status(root, name) -> bool:
     return said("dpkg-query", f"--admindir={root.top}/var/lib/dpkg", "-W", "-f", "${Status}", name)
 
 
@@ -268,7 +268,7 @@ def installed(folder, package):
     return root, [it.removeprefix(".") for it in rows if not it.endswith("/")]
 
 
-def package(folder, release):
+def package(folder, release) -> None:
     """It is installed, serves, is killed, serves again, and is removed; what it kept stays."""
     root, files = installed(folder, release[1])
     check([it for it in files if not root.at(it).exists() and not root.at(it).is_symlink()], [], "files that are not there")
@@ -312,7 +312,7 @@ def package(folder, release):
         holds(not root.at("/usr/lib/pathserve").exists() and not root.at("/usr/share/doc/pathserve").exists(), "a folder is left")
 
 
-def image(folder, release):
+def image(folder, release) -> None:
     """What the Dockerfile says, done in a clean root, of the archive alone."""
     root = Root(folder / "root")
     archive, _, file = release
@@ -348,7 +348,7 @@ def image(folder, release):
             check(server.end(signal.SIGTERM, server.holder), ("bounded_buffer entries 2\n", 0), "the end by SIGTERM")
 
 
-def main():
+def main() -> int:
     words = given_words()
     if any(it.startswith("-") for it in words):
         print(__doc__, file=sys.stderr)

@@ -33,13 +33,13 @@ def mode(top):
     return oct(stat.S_IMODE((top / "it.sock").stat().st_mode))
 
 
-def ends(it, said=None):
+def ends(it, said=None) -> None:
     """It ends with status 0, and says this alone, where it is known."""
     found = it.ended(SECONDS)
     check(found, (found.said, 0, found.error) if said is None else (said, 0, ""), "the end")
 
 
-def is_refused(it, why):
+def is_refused(it, why) -> None:
     """It does not start, since nobody can listen there."""
     check(it.refused(SECONDS), ("", 3, f"{it.place}: nobody can listen at this path{why}\nread fault\n"), "a start")
 
@@ -48,7 +48,7 @@ def names(top):
     return sorted(it.name for it in top.iterdir() if it.name not in ("data", "other"))
 
 
-def serves(top):
+def serves(top) -> None:
     """It is there for its owner and its group alone, serves as a port does, and is gone at the end."""
     with server(top) as it:
         check(mode(top), "0o660", "the mode")
@@ -59,7 +59,7 @@ def serves(top):
         check(names(top), ["it.sock.lock"], "what is there")
 
 
-def last_connection(top):
+def last_connection(top) -> None:
     """It ends when so many connections have ended, and who comes behind them is let go at once."""
     with server(top, sessions=2) as it, contextlib.ExitStack() as stack:
         ones = [stack.enter_context(socket.socket(socket.AF_UNIX)) for _ in range(5)]
@@ -78,7 +78,7 @@ def last_connection(top):
         ends(it, "cell entries 0\n")
 
 
-def stops(top):
+def stops(top) -> None:
     """A stop lets a client go that is there, and one that has connected and was not taken."""
     with server(top, sessions=1) as it, socket.socket(socket.AF_UNIX) as one, socket.socket(socket.AF_UNIX) as late:
         one.settimeout(SECONDS)
@@ -93,7 +93,7 @@ def stops(top):
         check(one.recv(100), b"", "what was heard")
 
 
-def stale(top):
+def stale(top) -> None:
     """What a killed server left is replaced."""
     with server(top) as it:
         it.kill()
@@ -103,7 +103,7 @@ def stale(top):
         ends(it)
 
 
-def two(top):
+def two(top) -> None:
     """A path that is served is not taken from its server."""
     with server(top) as it:
         is_refused(server(top, folder="other"), ": it is taken")
@@ -111,7 +111,7 @@ def two(top):
         ends(it)
 
 
-def something_else(top):
+def something_else(top) -> None:
     """What is there and is no socket stays, and so does the folder."""
     (top / "it.sock").write_text("mine")
     is_refused(server(top), ": it is no socket")
@@ -121,7 +121,7 @@ def something_else(top):
     check(names(top), ["it.sock", "it.sock.lock", "x" * 120 + ".lock"], "what is there")
 
 
-def replaced(top):
+def replaced(top) -> None:
     """A socket that somebody put in place of the one that was made is not removed."""
     with server(top) as it, socket.socket(socket.AF_UNIX) as other:
         (top / "it.sock").unlink()
@@ -130,7 +130,7 @@ def replaced(top):
         check(names(top), ["it.sock", "it.sock.lock"], "what is there")
 
 
-def another_user(top):
+def another_user(top) -> None:
     """Nobody else may connect, but the group of the socket."""
     if os.getuid() != 0:
         print("not run: root")
@@ -152,7 +152,7 @@ def another_user(top):
         ends(it)
 
 
-def clients(top):
+def clients(top) -> None:
     """Each client of examples/clients takes a path."""
     built = top / "client"
     source = TOP / "examples" / "clients"
@@ -174,7 +174,7 @@ def clients(top):
     raise Wrong("there is a server")
 
 
-def keeper(top):
+def keeper(top) -> None:
     """`pathserve keep` listens at a path too, and removes it."""
     folder, path = top / "data", top / "it.sock"
     folder.mkdir()
@@ -196,7 +196,7 @@ def trials():
     return [Trial(f"{it.__name__}: {it.__doc__}", in_folder("socket", it)) for it in TRIES]
 
 
-def main():
+def main() -> int:
     if given_words():
         print(__doc__, file=sys.stderr)
         return 2

@@ -348,7 +348,7 @@ def a_router(folder):
                 check((it.put("bread"), it.get()), (None, "bread"), "a buffer")
 
 
-def main():
+def main() -> int:
     words = given_words()
     if any(it.startswith("-") for it in words):
         print(__doc__, file=sys.stderr)

@@ -18,8 +18,6 @@ import json
 import pathlib
 import re
 import shutil
-import socket
-import struct
 import subprocess
 import sys
 import tempfile
@@ -29,6 +27,7 @@ import urllib.error
 import urllib.request
 
 from gate.kept import Server, Talk
+from gate.served import resets
 from gate.tried import TOP, Trial, Wrong, check, given_words, holds, run, until, whole
 from tools import status
 
@@ -212,7 +211,7 @@ def ran(folder, *words):
     told, error, before, sys.argv = io.StringIO(), io.StringIO(), sys.argv, [str(TOOL), str(folder), *words]
     with contextlib.redirect_stdout(told), contextlib.redirect_stderr(error):
         try:
-            found = status.main()
+            found: object = status.main()
         except SystemExit as it:
             found = it.code
         finally:
@@ -465,7 +464,7 @@ def a_log_of_json(folder):
     check(events(server), starts, "the log of a start")
     check(server.replies("cell", "set 3", "get"), ["done", "done 3"])
     with Talk(server, "open cell", "opened cell") as it:
-        it.socket.setsockopt(socket.SOL_SOCKET, socket.SO_LINGER, struct.pack("ii", 1, 0))
+        resets(it.socket)
     until(lambda: len(events(server)) == 4, "no client is told to be let go")
     check(events(server)[3][:2] + events(server)[3][3:], ("info", "let-go", "broke"), "the log of a client that broke")
     size, lines = len(lines_of(server, "cell")), lines_of(server, "cell").count("\n")
@@ -575,7 +574,7 @@ def trials(folder):
     return (Trial(title, attempt) for title, attempt in tries(folder))
 
 
-def main():
+def main() -> int:
     with tempfile.TemporaryDirectory() as folder:
         return run("try_status", trials(pathlib.Path(folder)), given_words())
 

@@ -375,7 +375,7 @@ def a_ledger(folder, kills, seed):
 TRIALS = (a_semaphore_of_five, a_limiter, an_inventory, a_queue_of_jobs, a_leader, a_ledger)
 
 
-def main():
+def main() -> int:
     given, words = kept.options(given_words(), kills=4, seed=1)
     return kept.run("try_tasks", TRIALS, words, **given)
 

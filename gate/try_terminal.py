@@ -73,7 +73,7 @@ def at_terminal(folder, words):
     outer, inner = pty.openpty()
     said = []
 
-    def hear():
+    def hear() -> None:
         # (the end of a terminal that nobody holds is an error)
         try:
             while piece := os.read(outer, 1 << 16):
@@ -140,7 +140,7 @@ def prompt_fault(folder):
     return None if silent == wanted else f"at a terminal, with --no-explain: expected {wanted!r}, found {silent!r}"
 
 
-def main():
+def main() -> int:
     if given_words():
         print(__doc__, file=sys.stderr)
         return 2

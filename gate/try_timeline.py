@@ -163,7 +163,7 @@ def spans(row, kind):
 class Page:
     """What the picture of a page shows."""
 
-    def __init__(self, path):
+    def __init__(self, path) -> None:
         root = tree.fromstring(path.read_bytes())
         texts = [(it.get("class") or "", float(it.get("x")), "".join(it.itertext())) for it in root.iter(SVG + "text")]
         self.ticks = [(x, int(said)) for kind, x, said in texts if kind.split()[:1] == ["tick"]]
@@ -281,7 +281,7 @@ class Page:
 class Index:
     """What an index shows: of each page its link, its events, what its bars tell, and how wide they are."""
 
-    def __init__(self, path):
+    def __init__(self, path) -> None:
         root = tree.fromstring(path.read_bytes())
         links = [it for it in root.iter(SVG + "a")]
         self.links = [("".join(it.itertext()).strip(), it.get("href")) for it in links]
@@ -478,7 +478,7 @@ def undrawn(folder, lines, line):
 class Drawn:
     """A drawn trace: its lines, and of each call its row, its kind, its start and its end."""
 
-    def __init__(self, seed, calls, sessions, at_once):
+    def __init__(self, seed, calls, sessions, at_once) -> None:
         draw = random.Random(seed)
         self.lines, self.calls, self.events, busy, idle = [*CELL], {}, 0, [], list(range(1, sessions + 1))
         # All numbers stand in their order: then nobody waits, and there is less to draw.
@@ -546,7 +546,7 @@ def waiting(folder, trace):
 class Slots:
     """A drawn trace of build_slots, and what is held in it: each with its session, the events, and its call."""
 
-    def __init__(self, seed):
+    def __init__(self, seed) -> None:
         draw, held = random.Random(seed), []
         self.lines, self.events = ["object build_slots"], 0
         self.holds: list[tuple[int, int, int | str, int]] = []
@@ -657,7 +657,7 @@ def shapes(folder):
 class Worlds:
     """The trace that a drawn script leaves in a slow world, in the same form."""
 
-    def __init__(self, seed):
+    def __init__(self, seed) -> None:
         script = Script(seed)
         script.draw_lines()
         self.lines, self.calls, self.events = list(script.world.trace_lines()), {}, 0
@@ -743,7 +743,7 @@ def trials(folder):
     return (Trial(title, attempt) for title, attempt in tries(folder))
 
 
-def main():
+def main() -> int:
     if sys.argv[1:]:
         print(__doc__, file=sys.stderr)
         return 2

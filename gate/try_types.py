@@ -1,5 +1,5 @@
-"""Looks at the Python of gate/, tools/, bench/ and clients/python as it stands: its types by mypy, and by ruff what its
-default rules find.
+"""Looks at the Python of gate/, tools/, bench/ and clients/python as it stands: whether it compiles without a warning, its
+types by mypy, and by ruff what its default rules find; and that no file changes where Python looks for modules.
 
 usage: gate/try_types [WORD ..]
 
@@ -11,11 +11,13 @@ import os
 import pathlib
 import re
 import subprocess
+import warnings
 
 from gate.tried import TOP, given_words, lacks, whole
 
 PARTS = ("gate", "tools", "bench", "clients/python/pathclient")
 SECONDS = 600
+PLACES = ".".join(("sys", "path"))
 FAULT = re.compile(r"([\w./]+\.py):\d+")
 
 
@@ -32,11 +34,24 @@ def said(*words: str) -> list[str]:
     return lines
 
 
+def compiled() -> list[str]:
+    """The faults and warnings of Python's own compiler, and each place that names what is to stay as it is."""
+    found = []
+    for name in files():
+        text = (TOP / name).read_text(encoding="utf-8")
+        found += [f"{name}:{at}: {PLACES} is named" for at, it in enumerate(text.splitlines(), 1) if PLACES in it]
+        try:
+            with warnings.catch_warnings():
+                warnings.simplefilter("error")
+                compile(text, name, "exec")
+        except (SyntaxError, Warning) as error:
+            found.append(f"{name}:{getattr(error, 'lineno', None) or 1}: {error}")
+    return found
+
+
 def main() -> int:
-    words, found = given_words(), []
+    words, found = given_words(), compiled()
     has_ruff, has_mypy = not lacks("ruff"), not lacks("mypy")
-    if not has_ruff and not has_mypy:
-        return 0
     if has_mypy:
         cache = pathlib.Path(os.environ.get("XDG_CACHE_HOME", pathlib.Path.home() / ".cache")) / "pathserve-mypy"
         found += said("mypy", "--config-file", "gate/mypy.ini", "--cache-dir", str(cache), "--no-error-summary", "--hide-error-context")

@@ -71,7 +71,7 @@ PRINTING = threading.Lock()
 LAST = threading.local()
 
 
-def say(text):
+def say(text) -> None:
     with PRINTING:
         print(text, flush=True)
 
@@ -100,7 +100,7 @@ def recorded():
     return {row.split()[0]: row.split() for row in rows if row.strip()}
 
 
-def record(lines, changes):
+def record(lines, changes) -> None:
     """Writes what was tried, and leaves out crates that are gone: a change is a line's words, or None to take it out."""
     rows = {**recorded(), **changes}
     kept = [" ".join(words) for name, words in sorted(rows.items()) if words and name in lines and edits(TOP, name)]
@@ -170,7 +170,7 @@ def load_rt():
     return made
 
 
-def copy_sources(lines, needed, to):
+def copy_sources(lines, needed, to) -> None:
     """Copies the files of these crates that git knows or would take, the wrong bodies as must-fail edits."""
     words = ["git", "-C", str(TOP), "ls-files", "-z", "--cached", "--others", "--exclude-standard"]
     listed = subprocess.run(words, check=True, capture_output=True).stdout.split(b"\0")
@@ -183,7 +183,7 @@ def copy_sources(lines, needed, to):
     (to / "crates.txt").write_text("".join(f"{lines[it]}\n" for it in needed), encoding="utf-8")
 
 
-def copy_work(name, part, to):
+def copy_work(name, part, to) -> None:
     """Copies what earlier checks left of a crate, where they left it."""
     made = TOP / "crates" / name / "out" / part
     if made.is_dir():
@@ -212,7 +212,7 @@ def prepare(rt, lines, names, to):
     return crates
 
 
-def take_kept(rt, top, crates):
+def take_kept(rt, top, crates) -> None:
     """Gives the copy the libraries that `rt ci` proved of the same sources on this machine, as far as these go from the lowest."""
     if not all(hasattr(rt, it) for it in ("Crate", "Kept", "handles_of")):
         return
@@ -230,13 +230,13 @@ def take_kept(rt, top, crates):
     rt.Crate.allowed = before
 
 
-def is_newer(library, crate):
+def is_newer(library, crate) -> bool:
     """Whether a library was made after each file of its crate."""
     files = [it for part in repository.PARTS for it in repository.files(crate / part)]
     return library.is_dir() and all(it.stat().st_mtime < library.stat().st_mtime for it in files)
 
 
-def take_unstamped(crates):
+def take_unstamped(crates) -> None:
     """Takes the libraries that `rt ci` has made in this tree for built, with a kit that keeps none of them: it stamps none.
     They fit each other alone, so only where it made all, and each after its files."""
     made = {it: TOP / "crates" / it / "out" / "rlib" for it, crate in crates.items() if not crate.is_program}
@@ -266,7 +266,7 @@ def build(crate):
     return not status
 
 
-def is_refused(rt, found):
+def is_refused(rt, found) -> bool:
     """Whether an edit was refused by the prover, and not only by one of its limits. (Older kits tell it by a truth value.)"""
     return found[0] in (True, getattr(rt, "REFUSED", True))
 
@@ -282,7 +282,7 @@ def tell(rt, crate, edit, found):
     return False
 
 
-def is_by_its_clause(rt, crate, file, edit, said, how):
+def is_by_its_clause(rt, crate, file, edit, said, how) -> bool:
     """Says of an edit that was refused by which clause, and returns whether that is the one that it names. Of the lines
     of its check those of its functions count, where these are known."""
     texts, _ = rt.read_edit(file, crate.folder)
@@ -294,8 +294,8 @@ def is_by_its_clause(rt, crate, file, edit, said, how):
     holder = holder_of(sources[edit.source].split("\n"), edit.functions[0]) if edit else ""
     edited = "\n".join(sources.get(it, "") for it in texts)
     below = (text for one in crate.below() for text in texts_in(one).values())
-    offers = sorted(found, key=lambda it: (it.kind == "loop", it.kind != "ensures"))
-    offers = list(dict.fromkeys(clauses.spelled(clauses.offered(it, holder, edited)) for it in offers))
+    likely = sorted(found, key=lambda it: (it.kind == "loop", it.kind != "ensures"))
+    offers = list(dict.fromkeys(clauses.spelled(clauses.offered(it, holder, edited)) for it in likely))
     label, named = f"{crate.name}/{os.path.basename(file)[: -len('.edit')]}", clause_of(file)
     told = ", ".join(f"`{it.goal}`" for it in found) or " ".join([it for it in said if ": error" in it][:1])[:200] or "nothing that it names"
     if not named and offers and NAMING:
@@ -419,7 +419,7 @@ def lines_of(said, function):
     return told
 
 
-def is_refused_itself(said, function):
+def is_refused_itself(said, function) -> bool:
     """Whether a check has refused a function for what it does: not for a function that it calls, and not for a name alone."""
     told = lines_of(said, function)
     return any(": error" in it and not NAMES.match(it) or it.startswith("note: src/") and "is not proved" in it for it in told)
@@ -567,7 +567,7 @@ def end(passed, failed):
 def in_own_folder(work):
     """Does the work in a process of its own, with a temporary folder that is gone afterwards, however that ends."""
 
-    def stop(number, _):
+    def stop(number, _: object) -> None:
         sys.exit(128 + number)
 
     for it in (signal.SIGINT, signal.SIGTERM, signal.SIGHUP):
@@ -605,7 +605,7 @@ def in_own_folder(work):
             time.sleep(0.1)
 
 
-def main():
+def main() -> int:
     usage = __doc__.partition("\n\n")[2].partition("\n\n")[0]
     words = argparse.ArgumentParser(prog="try_wrong_bodies", usage=usage.replace("usage: ", ""))
     words.add_argument("--all", action="store_true")

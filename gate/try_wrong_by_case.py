@@ -44,7 +44,7 @@ class Edit:
     told: list = dataclasses.field(default_factory=list)
     changes: list = dataclasses.field(default_factory=list)
 
-    def is_served(self):
+    def is_served(self) -> bool:
         """Whether its case is one of a server."""
         return self.file.startswith("cases/serve/")
 
@@ -184,7 +184,7 @@ def said_of(edit, program):
     return "its case fails otherwise:\n" + "\n".join([*(f"    gone: {it}" for it in gone), *(f"    told: {it}" for it in told)])
 
 
-def try_switched(edits, tell):
+def try_switched(edits, tell) -> None:
     """Tries edits that stand in one program, each of them off, and tells of each what is wrong."""
     with tempfile.TemporaryDirectory(prefix="wrong-by-case-") as folder:
         program, why = built(off(edits), folder)
@@ -201,7 +201,7 @@ def try_switched(edits, tell):
             with_it.unlink()
 
 
-def main():
+def main() -> int:
     os.chdir(TOP)
     lines = repository.crates()
     names = sys.argv[1:] or [it for it in lines if (TOP / "crates" / it / FOLDER).is_dir()]
@@ -212,7 +212,7 @@ def main():
         edits += [read_edit(path) for path in paths if stem in ("", path.stem)]
     said = {}
 
-    def tell(edit, fault):
+    def tell(edit, fault) -> None:
         """Says what is wrong with an edit, as soon as it is known."""
         said[edit.name] = fault
         print(f"{edit.name}: {fault or 'caught by its case'}", flush=True)

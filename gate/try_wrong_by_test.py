@@ -81,7 +81,7 @@ def try_edit(name, path, folder):
     return "its test passes" if told[test] == "ok" else None
 
 
-def main():
+def main() -> int:
     os.chdir(TOP)
     lines = repository.crates()
     looks = sys.argv[1:2] == ["--look"]

@@ -17,7 +17,7 @@ class Unread(Exception):
 class Reader:
     """Reads constants and paths of one object, from its tokens."""
 
-    def __init__(self, tokens):
+    def __init__(self, tokens) -> None:
         self.tokens, self.constants = tokens[::-1], {}
 
     def next(self, *wanted):
@@ -150,17 +150,17 @@ def events_of(calls):
 class Holding:
     """What is held at a moment."""
 
-    def __init__(self, count):
+    def __init__(self, count) -> None:
         self.holds = [Hold(None, 0) for _ in range(count)]
         self.oldest, self.own = collections.deque(self.holds), collections.defaultdict(list)
 
-    def take(self, call, place):
+    def take(self, call, place) -> None:
         one = Hold(call, place)
         self.holds.append(one)
         self.oldest.append(one)
         self.own[call.session].append(one)
 
-    def give(self, call, place):
+    def give(self, call, place) -> None:
         """A call uses up the newest of its own session, else the oldest of all: a path does not tell which."""
         own = self.own[call.session]
         for found, pop in ((own, own.pop), (self.oldest, self.oldest.popleft)):

@@ -24,7 +24,7 @@ def minutes(seconds):
 class Progress:
     """How far a run is. A crate's tests are counted as a crate that stands on what the crate stands on."""
 
-    def __init__(self, lines, now, tested=(), kept=()):
+    def __init__(self, lines, now, tested=(), kept=()) -> None:
         """`lines` are those of crates.txt by their crates, lowest first; `now` is the clock in seconds, as below; of the
         crates in `tested` the tests are proved too, and those in `kept` were proved by earlier runs."""
         self.below = {it: repository.below(lines, it) for it in lines}
@@ -73,7 +73,7 @@ class Progress:
         under_way = [it for it in self.below if it not in self.ended and self.stood(it) is not None]
         return self.line(f"next {' or '.join(under_way[:3])}" if under_way else "all proved, building", now)
 
-    def keep(self):
+    def keep(self) -> None:
         """Keeps the times for the next run, but those of crates that are gone."""
         known = {*self.below, *repository.crates()}
         lines = [f"{it} {seconds}\n" for it, seconds in self.times.items() if it.removesuffix(TESTS) in known]

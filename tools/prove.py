@@ -61,7 +61,7 @@ def reason(status, said):
     return f"{crate[1]}: {ready.reason(status, block)}"
 
 
-def prove():
+def prove() -> None:
     """Proves and builds the sources as they are now."""
     kit = ready.kit()
     ready.needed(kit, "toolchain/bin/clang", "bin/rattle-link")
@@ -86,7 +86,7 @@ def prove():
         ready.say(f"proved and built, {progress.minutes(time.monotonic() - run.begun)}")
 
 
-def work():
+def work() -> None:
     with ready.turn(ready.PROVED):
         if ready.choose() == ready.PROVED:
             ready.say("these sources are proved")
@@ -97,7 +97,7 @@ def work():
             prove()
 
 
-def main():
+def main() -> int:
     if sys.argv[1:]:
         print(__doc__, file=sys.stderr)
         return 2

@@ -42,7 +42,7 @@ class Stop(Exception):
     """Why there is no program, in one line."""
 
 
-def say(text):
+def say(text) -> None:
     print(f"pathserve: {text}", file=sys.stderr, flush=True)
 
 
@@ -54,7 +54,7 @@ def kit():
     return pathlib.Path(os.path.realpath(found)).parent.parent
 
 
-def needed(folder, *names):
+def needed(folder, *names) -> None:
     """Stops where the kit in this folder lacks one of these files."""
     for name in names:
         if not (folder / name).exists():
@@ -88,7 +88,7 @@ def digest(top, of_kit):
     its line in crates.txt and its files."""
     summed = hashlib.sha256()
 
-    def add(part):
+    def add(part) -> None:
         summed.update(b"%d:" % len(part) + part)
 
     add((of_kit / "KIT-ID").read_bytes())
@@ -102,7 +102,7 @@ def digest(top, of_kit):
     return summed.hexdigest()
 
 
-def copy_sources(to, program=PROGRAM):
+def copy_sources(to, program=PROGRAM) -> None:
     """Copies what a program is built from: the lines and the folders of its crates, but no wrong bodies, and not what was
     built of them."""
     to.mkdir(parents=True)
@@ -129,7 +129,7 @@ def text_of(file):
         return None
 
 
-def write(file, text):
+def write(file, text) -> None:
     """Writes a file so that it stands whole, or is as it was."""
     new = file.with_name(f"{file.name}.{os.getpid()}.new")
     try:
@@ -165,7 +165,7 @@ def place(program, folder):
     return summed
 
 
-def put(kind, program, of_sources):
+def put(kind, program, of_sources) -> None:
     """Has this program stand as the one of its kind, built from the sources of this digest."""
     summed = place(program, OUT / kind)
     # Until this is written, what stands there of the one before names another program.
@@ -238,7 +238,7 @@ def turn(kind):
         yield
 
 
-def is_left(folder):
+def is_left(folder) -> bool:
     """Whether no build uses this folder: each locks a file in its own."""
     try:
         with open(folder / "lock", "rb") as lock:
@@ -283,7 +283,7 @@ def keep_log(kind, said):
     return ""
 
 
-def end(number, _):
+def end(number, _: object) -> None:
     raise SystemExit(128 + number)
 
 

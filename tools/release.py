@@ -55,7 +55,7 @@ def said(*words, **more):
 class Commit:
     """The commit that is released."""
 
-    def __init__(self, is_proved):
+    def __init__(self, is_proved) -> None:
         self.name, self.time = said("git", "log", "-1", "--format=%H %ct").split()
         is_changed = bool(said("git", "status", "--porcelain").strip())
         if is_changed and is_proved:
@@ -108,7 +108,7 @@ def notices(kit):
 class Release:
     """The files of a release, by their paths below its folder: each its bytes, and whether it is a program."""
 
-    def __init__(self, is_proved):
+    def __init__(self, is_proved) -> None:
         kit = ready.kit()
         commit, (program, of_sources) = Commit(is_proved), the_program(is_proved)
         self.number = version_of(program)
@@ -134,7 +134,7 @@ class Release:
         self.files["RELEASE"] = "".join(f"{name}: {it}\n" for name, it in lines.items()).encode()
         self.files["SHA256SUMS"] = sums(self.files)
 
-    def write_archive(self, file):
+    def write_archive(self, file) -> None:
         """Writes the tar file."""
         with open(file, "wb") as raw, gzip.GzipFile("", "wb", 9, raw, self.time) as packed:
             with tarfile.TarFile(mode="w", fileobj=packed, format=tarfile.USTAR_FORMAT) as tar:
@@ -152,7 +152,7 @@ class Release:
         names = {"docs/pathserve.1": "usr/share/man/man1/pathserve.1.gz", "LICENSE": "usr/share/doc/pathserve/copyright"}
         return names.get(path, f"usr/share/doc/pathserve/{path}")
 
-    def write_package(self, file, room):
+    def write_package(self, file, room) -> None:
         """Writes Debian's package."""
         top = room / "package"
         for path, content in self.files.items():
@@ -199,13 +199,13 @@ def sums(files):
     return "".join(f"{hashlib.sha256(files[it]).hexdigest()}  {it}\n" for it in sorted(files)).encode()
 
 
-def put(file, content, is_program=False):
+def put(file, content, is_program=False) -> None:
     file.parent.mkdir(parents=True, exist_ok=True)
     file.write_bytes(content)
     file.chmod(0o755 if is_program else 0o644)
 
 
-def work(is_proved, folder):
+def work(is_proved, folder) -> None:
     release = Release(is_proved)
     folder.mkdir(parents=True, exist_ok=True)
     with ready.new_folder("release-", ready.ROOMS) as room:
@@ -225,7 +225,7 @@ def work(is_proved, folder):
             print(folder / it.name)
 
 
-def main():
+def main() -> int:
     words, is_proved = ready.given_words(), True
     if words[:1] == [UNPROVED]:
         words, is_proved = words[1:], False

@@ -46,7 +46,7 @@ def without_comments(source):
     return "".join(it for it in PIECE.findall(source) if not it.startswith("//"))
 
 
-def has_macros(source):
+def has_macros(source) -> bool:
     return "macro_rules!" in source
 
 
@@ -118,7 +118,7 @@ def without_spare_names(source):
     source = re.sub(r"(?<!pub )\bmod \w+;", "", source)
     rest = IMPORT.sub("", source)
 
-    def is_named(name):
+    def is_named(name) -> bool:
         if not re.fullmatch(r"[\w']+", name):
             return name in rest
         return re.search(rf"(?<![\w']){name}(?![\w'])", rest) is not None
@@ -391,7 +391,7 @@ def parts_named(top, lines, name, folders):
     roots = {it for it, parts in waiting.items() if it[1].name in ("Lib.antt", "lib.rt", "main.rt") or any(has_macros(part.text) for part in parts)}
     found, reached, types, words, fresh = set(), set(), set(), set(own.words), [own]
 
-    def is_named(place, by):
+    def is_named(place, by) -> bool:
         crate, path = place
         module = path.parent.name if path.stem == "mod" else path.stem
         if place in roots or module in by.named and crate == by.crate:
@@ -399,7 +399,7 @@ def parts_named(top, lines, name, folders):
         from_root = (crate, module) in by.named or (crate,) in by.named and module in by.named
         return crate != by.crate and (from_root or module in by.named and any((crate, it) in by.named for it in path.parts[1:-1]))
 
-    def is_of_types(part):
+    def is_of_types(part) -> bool:
         # An impl for a type of no crate below, as one of the kit or a parameter, is found by its trait.
         heads = {it for head, behind in part.heads for it in (behind if not behind.isdisjoint(has_impls) else head | behind)}
         return any(name in heads and (crate == part.crate or crate in part.words) for crate, name in types)
@@ -458,7 +458,7 @@ def digest(top, lines, name, kit, *more):
     counts rather than too little. gate/try_asked looks whether it does."""
     summed = hashlib.sha256()
 
-    def add(part):
+    def add(part) -> None:
         summed.update(b"%d:" % len(part) + part)
 
     found, words = parts_named(top, lines, name, (*PARTS, *more))
@@ -475,7 +475,7 @@ def digest(top, lines, name, kit, *more):
     return summed.hexdigest()
 
 
-def remember_stamps(rt):
+def remember_stamps(rt) -> None:
     """Has the kit's command make each stamp of a crate once: one hangs on those of all crates below it, which it makes
     again for each. From the next call on they are made anew. No file may change in between."""
     make, made = getattr(rt, "make_stamp", rt.rtlib.Crate.stamp), {}

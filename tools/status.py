@@ -39,7 +39,7 @@ class Unread(Exception):
 class Status:
     """What one file says."""
 
-    def __init__(self, text):
+    def __init__(self, text) -> None:
         self.text, self.numbers = text, {}
         for line in text.split("\n"):
             found = SAMPLE.fullmatch(line)
@@ -182,7 +182,7 @@ def page(status, before, now):
 class Reading:
     """The last two files of a folder, for rates."""
 
-    def __init__(self, folder):
+    def __init__(self, folder) -> None:
         self.folder, self.last, self.before, self.lock = folder, None, None, threading.Lock()
 
     def look(self):
@@ -199,7 +199,7 @@ class Server(http.server.ThreadingHTTPServer):
 
     daemon_threads = True
 
-    def __init__(self, folder, port):
+    def __init__(self, folder, port) -> None:
         super().__init__(("127.0.0.1", port), Handler)
         self.reading = Reading(folder)
 
@@ -209,7 +209,7 @@ class Handler(http.server.BaseHTTPRequestHandler):
 
     server: Server
 
-    def do_GET(self):
+    def do_GET(self) -> None:
         if self.path not in ("/", "/metrics"):
             self.send_error(404)
             return
@@ -228,17 +228,17 @@ class Handler(http.server.BaseHTTPRequestHandler):
         self.end_headers()
         self.wfile.write(told)
 
-    def log_message(self, *_):
+    def log_message(self, *_) -> None:
         pass
 
 
-def serve(folder, port):
+def serve(folder, port) -> None:
     with Server(folder, port) as server:
         print(f"listening {server.server_address[1]}", flush=True)
         server.serve_forever()
 
 
-def watch(folder, every):
+def watch(folder, every) -> None:
     reading, is_terminal = Reading(folder), sys.stdout.isatty()
     while True:
         status, before = reading.look()
@@ -248,7 +248,7 @@ def watch(folder, every):
         time.sleep(every)
 
 
-def main():
+def main() -> int:
     about, usage, rest = __doc__.split("\n\n", 2)
     parser = argparse.ArgumentParser(
         usage=usage.removeprefix("usage: "), description=f"{about}\n\n{rest}",

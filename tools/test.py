@@ -359,7 +359,7 @@ def end(gate, wanted):
     return 1 if failed else 0
 
 
-def main():
+def main() -> int:
     is_gate = sys.argv[1:] == ["--proved"]
     if not is_gate and ready.given_words():
         print(__doc__, file=sys.stderr)

@@ -118,7 +118,7 @@ class Held:
 class Page:
     """A page: its first and last event, the calls that run or wait on it, and what is held there for each `;`."""
 
-    def __init__(self, trace, first, last, calls, holds):
+    def __init__(self, trace, first, last, calls, holds) -> None:
         self.trace, self.first, self.last = trace, first, last
         self.bars, through = [], {}
         for call in calls:
@@ -222,7 +222,7 @@ def lanes(bars):
     return found, max(len(ends), 1)
 
 
-def is_well(verdict):
+def is_well(verdict) -> bool:
     """Whether an audit finds nothing wrong."""
     return verdict.startswith("legal ") or verdict.endswith(" whole")
 
@@ -230,26 +230,26 @@ def is_well(verdict):
 class Drawing:
     """What is drawn piece by piece: shapes and texts."""
 
-    def __init__(self):
+    def __init__(self) -> None:
         self.parts = []
 
-    def shape(self, name, title=None, **lengths):
+    def shape(self, name, title=None, **lengths) -> None:
         """An element with these attributes; `_class` stands for one whose name Python has itself."""
         values = {key: it if isinstance(it, str) else format(it, ".6g") for key, it in lengths.items()}
         said = " ".join(f'{key.strip("_")}="{it}"' for key, it in values.items())
         inner = None if title is None else f"<title>{escaped(title)}</title>"
         self.parts.append(f"<{name} {said}/>" if inner is None else f"<{name} {said}>{inner}</{name}>")
 
-    def text(self, x, y, said, kind=""):
+    def text(self, x, y, said, kind="") -> None:
         of_kind = f' class="{kind}"' if kind else ""
         self.parts.append(f'<text x="{x:.6g}" y="{y:.6g}"{of_kind}>{escaped(said)}</text>')
 
-    def link(self, x, y, said, target):
+    def link(self, x, y, said, target) -> None:
         self.parts.append(f'<a href="{escaped(urllib.parse.quote(target))}">')
         self.text(x, y, said)
         self.parts.append("</a>")
 
-    def summary(self, trace):
+    def summary(self, trace) -> None:
         """What is told of the whole trace."""
         more = [it for it in ("cancelled", "waiting") if trace.count[it]]
         ends = ", ".join(f"{trace.count[it]} {it}" for it in ("done", "refused", "failed", *more))
@@ -262,7 +262,7 @@ class Drawing:
         calls = "1 call" if len(trace.calls) == 1 else f"{len(trace.calls)} calls"
         self.text(LEFT, 47, f"{calls}: {ends}{runs}", "summary")
 
-    def framed(self, kind, title, box, colour="", of="bar"):
+    def framed(self, kind, title, box, colour="", of="bar") -> None:
         """A bar of this kind, in a box: what was refused is hollow, what failed has a red edge."""
         x, y, width, height = box
         edge = {"refused": 2, "failed": 3}.get(kind, 0)
@@ -280,7 +280,7 @@ class Drawing:
             at += 28 + 7 * len(KINDS[kind]) + 22
         return at
 
-    def fault(self, trace, y):
+    def fault(self, trace, y) -> None:
         if trace.fault:
             self.text(LEFT, y, f"{trace.fault}: what stands before it is drawn", "fault")
         elif trace.verdict:
@@ -297,7 +297,7 @@ class Drawing:
 class Index(Drawing):
     """The index of the pages of a trace: a row each, with how the calls ended that ended there."""
 
-    def __init__(self, trace, found, files):
+    def __init__(self, trace, found, files) -> None:
         super().__init__()
         self.trace, self.found, self.files = trace, found, files
         self.ends = [collections.Counter() for _ in found]
@@ -323,7 +323,7 @@ class Index(Drawing):
             self.row(at, page, file, ends, (place + 1, LONG / widest))
         return self.whole(self.trace.name, width, height)
 
-    def row(self, corner, page, file, ends, place):
+    def row(self, corner, page, file, ends, place) -> None:
         """The row of a page whose upper left corner is here; its place is its number, and the pixels of a call."""
         (left, top), (number, scale) = corner, place
         trace = self.trace
@@ -345,7 +345,7 @@ class Picture(Drawing):
     """The picture of a page: what is told of its place, where its links lead, and whether all pages are as wide as a
     full one."""
 
-    def __init__(self, page, told, links, most, is_one_of_many):
+    def __init__(self, page, told, links, most, is_one_of_many) -> None:
         super().__init__()
         self.page, self.trace, self.told, self.links = page, page.trace, told, links
         self.placed = page.rows()
@@ -459,7 +459,7 @@ class Picture(Drawing):
             at += wide
         return y + 14
 
-    def axis(self, top, bottom):
+    def axis(self, top, bottom) -> None:
         """The numbers of events, with rules through the rows: 1, 2 or 5 and zeros apart."""
         self.text(self.left - 8, top - 10, "event", "soft end")
         steps = (digit * 10**power for power in range(7) for digit in (1, 2, 5))
@@ -514,7 +514,7 @@ class Picture(Drawing):
             top += height
         return top
 
-    def hold(self, held, top, taken):
+    def hold(self, held, top, taken) -> None:
         """What a session holds, behind its calls, which have taken these spans."""
         left, right = self.span((held.first, held.end))
         if right <= left:
@@ -531,7 +531,7 @@ class Picture(Drawing):
         if count > 1 and right - left > wide + 8 and not any(at - 2 < end and start < at + wide + 2 for start, end in taken):
             self.text(at, top + LANE / 2 + 4, many, "label hollow")
 
-    def bar(self, bar, top):
+    def bar(self, bar, top) -> None:
         if bar.wait:
             left, right = self.span(bar.wait)
             self.shape("rect", bar.title, _class="wait", x=left, y=top + LANE / 2 - 2, width=max(right - left, 1), height=4)
@@ -556,7 +556,7 @@ def links_of(files, place, index):
     return found
 
 
-def draw(trace, file, most):
+def draw(trace, file, most) -> None:
     """Writes the picture of a trace, or its index and its pages, and says which files it wrote."""
     drawn = pages(trace, most)
     if len(drawn) == 1:
@@ -571,7 +571,7 @@ def draw(trace, file, most):
     print(f"{file}, {files[0]} to {files[-1]}: {len(trace.calls)} calls, {len(trace.events)} events")
 
 
-def draw_from(trace, file, most, first):
+def draw_from(trace, file, most, first) -> None:
     """Writes one picture that begins with an event."""
     page = page_from(trace, first, most)
     told = f"events {page.first} to {page.last} of {len(trace.events)}"
@@ -603,7 +603,7 @@ def turns_in(source, trace, is_asked):
         return []
 
 
-def main():
+def main() -> int:
     about, usage, rest = __doc__.split("\n\n", 2)
     parser = argparse.ArgumentParser(
         usage=usage.removeprefix("usage: "), description=f"{about}\n\n{rest}",

@@ -35,11 +35,11 @@ def opened(words):
     return place if "/" in place else int(place), name, options
 
 
-def say(line):
+def say(line) -> None:
     print(line, flush=True)
 
 
-def by_threads():
+def by_threads() -> None:
     it = None
     for line in map(str.rstrip, sys.stdin):
         word, *words = line.split(" ")
@@ -65,7 +65,7 @@ def by_threads():
             say(told(error))
 
 
-async def by_tasks():
+async def by_tasks() -> None:
     it, loop = None, asyncio.get_running_loop()
     while line := (await loop.run_in_executor(None, sys.stdin.readline)).rstrip():
         word, *words = line.split(" ")

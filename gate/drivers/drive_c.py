@@ -7,7 +7,7 @@ import sys
 class Terminal:
     """A run of the client, which takes its calls from standard input."""
 
-    def __init__(self, place, name):
+    def __init__(self, place, name) -> None:
         pipe = subprocess.PIPE
         self.ran = subprocess.Popen([sys.argv[1], place, name, "-"], stdin=pipe, stdout=pipe, stderr=pipe, text=True, bufsize=1)
 
@@ -29,11 +29,11 @@ class Terminal:
         words = line.rstrip("\n").removeprefix(f"{text}: ").split(" ", 2)
         return " ".join(words) if words[0] == "no" else " ".join([words[0], *words[2:]])
 
-    def close(self):
+    def close(self) -> None:
         self.ran.communicate()
 
 
-def main():
+def main() -> None:
     print("can", flush=True)
     it, place = None, None
     for line in map(str.rstrip, sys.stdin):
