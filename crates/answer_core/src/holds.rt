@@ -1,8 +1,9 @@
 //! Sources whose objects have holds, where a command does not follow them.
 
-ghost use Rattle.std.specs.Prelude.{◌≡◌, IfOk, OnOk};
+ghost use Rattle.std.specs.Prelude.{◌≡◌, IfErr, IfOk, OnOk};
 ghost use Rattle.std.specs.Io.KnownBytes.{Appends};
 ghost use Rattle.check_core.specs.Report.{fault_line};
+ghost use Rattle.answer_core.specs.Status.{IsFault};
 
 use crate::answer::REFUSED;
 use crate::explanation::Telling;
@@ -31,6 +32,7 @@ pub fn refuse_faulty<W: Write, E: Write>(
 ) -> Result<u8, Failure>
     ensures told { OnOk result (Appends (W.contents writer.old) (W.contents writer.new) (fault_line fault)) }
     ensures status { IfOk result (λ given. given ≡ 1) }
+    ensures fault { IfErr result IsFault }
 {
     let mut line = Vec::new(alloc);
     push_source_fault(&mut line, fault)?;
