@@ -1,5 +1,5 @@
 -- What standard error gets of a refused source where it is not explained, and what a command ends with.
-use Rattle.std.specs.Prelude.{◌≡◌, ℕ, ⊤, List, Option, codes, take}
+use Rattle.std.specs.Prelude.{◌≡◌, ◌++◌, ℕ, ⊤, List, Option, codes, take}
 use Rattle.std.specs.Io.KnownBytes.{Appends}
 use Rattle.answer_core.specs.declared.sources.WithoutHolds.{WithoutHolds}
 use Rattle.answer_core.specs.declared.sources.WithoutHolds.TheVariants as plains
@@ -18,3 +18,7 @@ TellsRefused (plains.Told status) = status ≡ 1
 abbrev pub IsRuledOrRefused : Ruled → Type 0
 IsRuledOrRefused (ruled.By source rules) = ⊤
 IsRuledOrRefused (ruled.Told status) = status ≡ 1
+
+-- the line on an object that has a hold, or is called again and again, and what is to be used instead
+abbrev pub held_text : List ℕ → List ℕ → List ℕ
+held_text name instead = (((codes "object " ++ name) ++ codes " has a hold or an `every`: ") ++ instead) ++ codes "\n"

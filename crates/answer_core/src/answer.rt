@@ -60,6 +60,7 @@ pub fn answer_lines<R: Read, W: Write>(
         × Appends (W.contents writer.old) (W.contents writer.new) written × IsRun text end written
         × (status ≡ paths_status end))) }
     ensures status { IfOk result (λ status. status ≤ 1) }
+    ensures fault { IfErr result IsFault }
     ensures cut { IfErr result (λ failure. IsFault failure × IfSome (R.remaining reader.old) (λ text. (written : List ℕ)
         × Appends (W.contents writer.old) (W.contents writer.new) written × IsFront text written)) }
     ensures unread { IsErrOf result ReadFault →

@@ -41,6 +41,7 @@ fn run_on<R: Read, W: Write>(
         × Appends (W.contents writer.old) (W.contents writer.new) written
         × IsScript accepted (head.now ++ rest) end written × (status ≡ script_status end))) }
     ensures status { IfOk result (λ status. status ≤ 1) }
+    ensures fault { IfErr result IsFault }
     ensures cut { IfErr result (λ failure. IsFault failure × IfSome (R.remaining reader.old) (λ rest. (written : List ℕ)
         × Appends (W.contents writer.old) (W.contents writer.new) written
         × IsFront accepted (head.now ++ rest) written)) }
@@ -58,6 +59,8 @@ fn run_on<R: Read, W: Write>(
 pub fn tell<W: Write>(line: &[u8], writer: &mut W) -> Result<u8, Failure>
     ensures ended { IfOk result (λ status. Appends (W.contents writer.old) (W.contents writer.new) line.now
         × (status ≡ REFUSED)) }
+    ensures status { IfOk result (λ status. status ≡ 1) }
+    ensures fault { IfErr result IsFault }
     ensures cut { IfErr result (λ failure. IsFault failure
         × ((count : ℕ) × Appends (W.contents writer.old) (W.contents writer.new) (take count line.now))) }
 {
@@ -88,6 +91,7 @@ pub fn answer_script<R: Read, W: Write, E: Write>(
         × Appends (W.contents writer.old) (W.contents writer.new) written
         × IsScriptRun source.now text status written)) }
     ensures status { IfOk result (λ status. status ≤ 1) }
+    ensures fault { IfErr result IsFault }
     ensures cut { IfErr result (λ failure. IsFault failure × IfSome (R.remaining reader.old) (λ text. (written : List ℕ)
         × Appends (W.contents writer.old) (W.contents writer.new) written × IsScriptFront source.now text written)) }
 {

@@ -124,6 +124,7 @@ fn run_on<R: Read, W: Write>(
         × IsHeldScript accepted (all_holds_of holds.items) (head.now ++ rest) end written
         × (status ≡ script_status end))) }
     ensures status { IfOk result (λ status. status ≤ 1) }
+    ensures fault { IfErr result IsFault }
     ensures cut { IfErr result (λ failure. IsFault failure × IfSome (R.remaining reader.old) (λ rest. (written : List ℕ)
         × Appends (W.contents writer.old) (W.contents writer.new) written
         × IsHeldFront accepted (all_holds_of holds.items) (head.now ++ rest) written)) }
@@ -155,6 +156,7 @@ pub fn run_held<R: Read, W: Write, E: Write>(
         × Appends (W.contents writer.old) (W.contents writer.new) written
         × IsHeldRun cut.now text status written)) }
     ensures status { IfOk result (λ status. status ≤ 1) }
+    ensures fault { IfErr result IsFault }
     ensures cut { IfErr result (λ failure. IsFault failure × IfSome (R.remaining reader.old) (λ text. (written : List ℕ)
         × Appends (W.contents writer.old) (W.contents writer.new) written × IsHeldRunFront cut.now text written)) }
 {
