@@ -37,5 +37,6 @@ returns-in-Ok-Told-clause-cut g c =
     c.in-Ok.ensures.taken c.in-Ok.ensures.enough (rw c.in-Ok-Told.field-0-is at c.in-Ok-Told.ensures)
     (subst (λ r. IfErr r (λ failure. IsFault failure × ((count : ℕ) × Appends (g.W.Write.contents c.args.writer.now) (g.W.Write.contents c.tell-ended.new.writer) (take count c.deref-in-Ok-Told.result.now)))) (sym c.explained_script.ensures.same) c.tell-ended.ensures.cut)
 
-pub returns-clause-cut : goal.returns-clause-cut
-returns-clause-cut g c = (tt, none_written (g.R.Read.remaining c.args.reader.now) (g.W.Write.contents c.args.writer.now) c.args.cut.now)
+pub returns-in-Err-open_script-clause-cut : goal.returns-in-Err-open_script-clause-cut
+returns-in-Err-open_script-clause-cut g c =
+    (tt, none_written (g.R.Read.remaining c.args.reader.now) (g.W.Write.contents c.args.writer.now) c.args.cut.now)
