@@ -169,7 +169,7 @@ pub fn run_held<R: Read, W: Write, E: Write>(
             let holds = holds_of(alloc, &accepted, objects, rules);
             run_on(alloc, accepted, holds, &head, reader, writer)
         }
-        Ok(Opened::Told(line)) => {
+        Ok(OpenedScript::Told(line)) => {
             let ended = tell(&line, writer);
             explained_script(alloc, ended, telling, file, cut, &head, error)
         }
