@@ -1,5 +1,5 @@
 -- What is said of the text of a trace is what an audit writes.
-use Rattle.std.proofs.Common.{◌≡◌, ◌⊎◌, inl, inr, ℕ, List, ◌++◌, refl, sym, ap, subst, ◌∙◌, append_assoc}
+use Rattle.std.proofs.Common.{◌≡◌, ◌≤◌, ◌⊎◌, arith, inl, inr, ℕ, List, ◌++◌, refl, sym, ap, subst, ◌∙◌, append_assoc}
 use Rattle.std.specs.Prelude.{codes}
 use Rattle.decl_core.specs.declared.object.Object.{Object}
 use Rattle.decl_core.specs.ObjectMap.{object_of}
@@ -40,6 +40,20 @@ pub audited_run : (source text written : List ℕ) (o : Object) (verdict : Audit
 audited_run source text written o verdict status ready is exact known s w =
     let told : IsAudited (object_of o) text verdict = record { is = is; legal = λ entries trace. told_legal verdict entries known (exact entries trace); known = known } in
     subst (λ n. IsAuditRun source text n written) (sym s) (subst (IsAuditRun source text (audit_status verdict)) (sym w) (audited o verdict ready told))
+
+-- the status is at most 1
+verdict_small : (verdict : Verdict) → audit_status verdict ≤ 1
+verdict_small (verdicts.Legal entries) = omega arith
+verdict_small (verdicts.BadLine line) = omega arith
+verdict_small (verdicts.BreaksPath line path) = omega arith
+verdict_small (verdicts.WrongReply line) = omega arith
+verdict_small (verdicts.NotRunning line) = omega arith
+verdict_small verdicts.Memory = omega arith
+
+pub run_small : (source text : List ℕ) (status : ℕ) (written : List ℕ) → IsAuditRun source text status written → status ≤ 1
+run_small source text status written (unnamed none) = omega arith
+run_small source text status written (lacking named told) = omega arith
+run_small source text status written (audited o verdict ready is) = verdict_small verdict
 
 -- a text without a line is told as one whose first line is bad
 bad_first : (source text : List ℕ) (status : ℕ) (written : List ℕ) → HasNoLine text → IsAuditRun source text status written → (status ≡ 1) × (written ≡ codes "line 1 bad\n")

@@ -25,14 +25,14 @@ chained None all head P Q is holds gives = tt
 chained (Some rest) all head P Q is holds gives = gives (head ++ rest) (subst (λ k. IfSome k Q) is holds)
 
 -- a text whose head was read is the head and the rest
-of_rest : (old new : Option (List ℕ)) (head : List ℕ) (P : List ℕ → Type 0) → Consumes old new head → IsHead head new
+pub of_rest : (old new : Option (List ℕ)) (head : List ℕ) (P : List ℕ → Type 0) → Consumes old new head → IsHead head new
     → ((rest : List ℕ) → (NoLineFeed head → length head ≤ 65536 → rest ≡ []) → P (head ++ rest)) → IfSome old P
 of_rest None new head P taken enough gives = tt
 of_rest (Some text) None head P taken enough gives = absurd taken
 of_rest (Some text) (Some rest) head P taken enough gives = subst P (sym taken) (gives rest enough)
 
 -- the same, with what is known of the rest
-with_rest : (old new : Option (List ℕ)) (head : List ℕ) (P Q : List ℕ → Type 0) → Consumes old new head → IsHead head new → IfSome new Q
+pub with_rest : (old new : Option (List ℕ)) (head : List ℕ) (P Q : List ℕ → Type 0) → Consumes old new head → IsHead head new → IfSome new Q
     → ((rest : List ℕ) → (NoLineFeed head → length head ≤ 65536 → rest ≡ []) → Q rest → P (head ++ rest)) → IfSome old P
 with_rest None new head P Q taken enough holds gives = tt
 with_rest (Some text) None head P Q taken enough holds gives = absurd taken

@@ -1,6 +1,6 @@
 //! The subcommands over any reader and writer: what they write, and the exit status that they end with.
 
-ghost use Rattle.std.specs.Prelude.{◌≡◌, ◌⊎◌, ℕ, List, IfOk, IfErr, IfSome, IsErrOf, take};
+ghost use Rattle.std.specs.Prelude.{◌≡◌, ◌≤◌, ◌⊎◌, ℕ, List, IfOk, IfErr, IfSome, IsErrOf, take};
 ghost use Rattle.std.specs.Io.KnownBytes.{Appends, Consumes, Keeps};
 ghost use Rattle.text_core.specs.declared.machine.LinesEnd.{LinesEnd};
 ghost use Rattle.path_count.specs.Run.{IsRun, IsFront, IsRunSoFar};
@@ -25,7 +25,8 @@ pub const ACCEPTED: u8 = 0;
 pub const REFUSED: u8 = 1;
 
 fn status_of_paths(end: PathsEnd) -> u8
-    ensures { result ≡ paths_status end }
+    ensures is { result ≡ paths_status end }
+    ensures small { result ≤ 1 }
 {
     match end {
         PathsEnd::Whole => ACCEPTED,
@@ -33,8 +34,10 @@ fn status_of_paths(end: PathsEnd) -> u8
     }
 }
 
-pub(crate) fn status_of_check(end: CheckEnd) -> u8
-    ensures { result ≡ check_status end }
+/// The exit status of a check that ended so: 0 where no object was refused, else 1.
+pub fn status_of_check(end: CheckEnd) -> u8
+    ensures is { result ≡ check_status end }
+    ensures small { result ≤ 1 }
 {
     match end {
         CheckEnd::Counted { refused, .. } => { if refused == 0 { ACCEPTED } else { REFUSED } }
@@ -56,6 +59,8 @@ pub fn answer_lines<R: Read, W: Write>(
         IfSome (R.remaining reader.old) (λ text. (end : LinesEnd) × (written : List ℕ)
         × Appends (W.contents writer.old) (W.contents writer.new) written × IsRun text end written
         × (status ≡ paths_status end))) }
+    ensures status { IfOk result (λ status. status ≤ 1) }
+    ensures fault { IfErr result IsFault }
     ensures cut { IfErr result (λ failure. IsFault failure × IfSome (R.remaining reader.old) (λ text. (written : List ℕ)
         × Appends (W.contents writer.old) (W.contents writer.new) written × IsFront text written)) }
     ensures unread { IsErrOf result ReadFault →
@@ -73,6 +78,7 @@ fn check_text<W: Write>(alloc: Global, source: &[u8], writer: &mut W) -> Result<
     ensures ended { IfOk result (λ status. (end : CheckEnd) × (written : List ℕ)
         × Appends (W.contents writer.old) (W.contents writer.new) written × IsCheck source.now end written
         × (status ≡ check_status end)) }
+    ensures status { IfOk result (λ status. status ≤ 1) }
     ensures fault { IfErr result (λ failure. (failure ≡ WriteFault) ⊎ (failure ≡ Memory)) }
     ensures cut { IsErrOf result WriteFault → (end : CheckEnd) × (whole : List ℕ) × (count : ℕ)
         × IsCheck source.now end whole × Appends (W.contents writer.old) (W.contents writer.new) (take count whole) }
@@ -101,6 +107,7 @@ pub fn check_source<R: Read + Drop, W: Write, E: Write>(
     ensures ended { IfOk result (λ status. IfSome (R.remaining reader) (λ text. (end : CheckEnd) × (written : List ℕ)
         × Appends (W.contents writer.old) (W.contents writer.new) written × IsCheck text end written
         × (status ≡ check_status end))) }
+    ensures status { IfOk result (λ status. status ≤ 1) }
     ensures fault { IfErr result IsFault }
     ensures cut { IsErrOf result WriteFault →
         IfSome (R.remaining reader) (λ text. (end : CheckEnd) × (whole : List ℕ) × (count : ℕ)

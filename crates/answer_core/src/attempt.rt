@@ -28,6 +28,8 @@ pub fn answer_try<R: Read, W: Write>(
     ensures ended { IfOk result (λ status. (status ≡ ACCEPTED) × IfSome (R.remaining reader.old) (λ text.
         (written : List ℕ) × Appends (W.contents writer.old) (W.contents writer.new) written
         × IsTried accepted (texts_in texts.entry) text written)) }
+    ensures status { IfOk result (λ status. status ≡ 0) }
+    ensures fault { IfErr result IsFault }
     ensures cut { IfErr result (λ failure. IsFault failure × IfSome (R.remaining reader.old) (λ text. (written : List ℕ)
         × Appends (W.contents writer.old) (W.contents writer.new) written
         × IsTriedFront accepted (texts_in texts.entry) text written)) }

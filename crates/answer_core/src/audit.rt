@@ -1,6 +1,6 @@
 //! `pathserve audit` over any reader and writer: what it writes, and the exit status that it ends with.
 
-ghost use Rattle.std.specs.Prelude.{◌≡◌, ◌++◌, ℕ, List, OnOk, IfOk, IfErr, IfSome, IsErrOf, codes, decimal, take};
+ghost use Rattle.std.specs.Prelude.{◌≡◌, ◌≤◌, ◌++◌, ℕ, List, OnOk, IfOk, IfErr, IfSome, IsErrOf, codes, decimal, take};
 ghost use Rattle.std.specs.Io.KnownBytes.{Appends, Keeps};
 ghost use Rattle.audit_core.specs.declared.verdict.AuditVerdict.TheVariants as verdicts;
 ghost use Rattle.check_core.specs.Named.{NamesObject};
@@ -148,6 +148,7 @@ pub fn audit_trace<R: Read + Drop, W: Write>(
     ensures ended { IfOk result (λ status. IfSome (R.remaining reader) (λ text. (written : List ℕ)
         × Appends (W.contents writer.old) (W.contents writer.new) written
         × IsAuditRun source.now text status written)) }
+    ensures status { IfOk result (λ status. status ≤ 1) }
     ensures fault { IfErr result IsFault }
     ensures cut { IsErrOf result WriteFault →
         IfSome (R.remaining reader) (λ text. (status : ℕ) × (whole : List ℕ) × (count : ℕ)

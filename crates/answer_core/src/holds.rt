@@ -1,8 +1,10 @@
 //! Sources whose objects have holds, where a command does not follow them.
 
-ghost use Rattle.std.specs.Prelude.{◌≡◌, IfOk, OnOk};
+ghost use Rattle.std.specs.Prelude.{◌≡◌, ℕ, List, IfErr, IfOk, OnOk};
 ghost use Rattle.std.specs.Io.KnownBytes.{Appends};
 ghost use Rattle.check_core.specs.Report.{fault_line};
+ghost use Rattle.answer_core.specs.Status.{IsFault};
+ghost use Rattle.answer_core.specs.Telling.{held_text};
 
 use crate::answer::REFUSED;
 use crate::explanation::Telling;
@@ -12,7 +14,7 @@ use check_core::report::push_source_fault;
 use decl_read::fault::DeclFault;
 use explain_fault::rules::explain_held;
 use hold_read::read::Held;
-use std::alloc::Global;
+use std::alloc::{AllocError, Global};
 use std::io::Write;
 use text_core::write_whole;
 
@@ -31,6 +33,7 @@ pub fn refuse_faulty<W: Write, E: Write>(
 ) -> Result<u8, Failure>
     ensures told { OnOk result (Appends (W.contents writer.old) (W.contents writer.new) (fault_line fault)) }
     ensures status { IfOk result (λ given. given ≡ 1) }
+    ensures fault { IfErr result IsFault }
 {
     let mut line = Vec::new(alloc);
     push_source_fault(&mut line, fault)?;
@@ -62,7 +65,37 @@ fn first_held(held: &Held) -> &[u8] {
     b""
 }
 
-/// What a command answers of a source whose objects have holds where it does not follow them, and the exit status.
+// The line on an object that has a hold, or is called again and again, and what is to be used instead.
+fn held_line(alloc: Global, name: &[u8], instead: &[u8]) -> Result<Vec<u8>, AllocError>
+    ensures { IfOk result (λ line. line.items ≡ held_text name.now instead.now) }
+{
+    let mut line = Vec::new(alloc);
+    line.extend_from_slice(b"object ")?;
+    line.extend_from_slice(name)?;
+    line.extend_from_slice(b" has a hold or an `every`: ")?;
+    line.extend_from_slice(instead)?;
+    line.extend_from_slice(b"\n")?;
+    Ok(line)
+}
+
+// Writes it, and gives the exit status.
+fn refuse_named<W: Write>(
+    alloc: Global,
+    name: &[u8],
+    instead: &[u8],
+    writer: &mut W,
+) -> Result<u8, Failure>
+    ensures told { OnOk result (Appends (W.contents writer.old) (W.contents writer.new)
+        (held_text name.now instead.now)) }
+    ensures status { IfOk result (λ given. given ≡ 1) }
+    ensures fault { IfErr result IsFault }
+{
+    let line = held_line(alloc, name, instead)?;
+    written(&line, REFUSED, writer)
+}
+
+/// What a command answers of a source whose objects have holds where it does not follow them: a line with the name of the
+/// first one that has some, and what is to be used instead; and the exit status, 1.
 ///
 /// A failure is `WriteFault` or `Memory`.
 pub fn refuse_held<W: Write>(
@@ -71,13 +104,10 @@ pub fn refuse_held<W: Write>(
     instead: &[u8],
     writer: &mut W,
 ) -> Result<u8, Failure>
-    ensures { IfOk result (λ given. given ≡ 1) }
+    ensures told { (name : List ℕ) × OnOk result (Appends (W.contents writer.old) (W.contents writer.new)
+        (held_text name instead.now)) }
+    ensures status { IfOk result (λ given. given ≡ 1) }
+    ensures fault { IfErr result IsFault }
 {
-    let mut line = Vec::new(alloc);
-    line.extend_from_slice(b"object ")?;
-    line.extend_from_slice(first_held(held))?;
-    line.extend_from_slice(b" has a hold or an `every`: ")?;
-    line.extend_from_slice(instead)?;
-    line.extend_from_slice(b"\n")?;
-    written(&line, REFUSED, writer)
+    refuse_named(alloc, first_held(held), instead, writer)
 }

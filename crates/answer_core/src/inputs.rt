@@ -1,5 +1,8 @@
 //! Files and folders that a command reads.
 
+ghost use Rattle.std.specs.Prelude.{IfErr};
+ghost use Rattle.answer_core.specs.Status.{IsFault};
+
 use crate::explanation::Telling;
 use crate::failure::Failure;
 use crate::lack::{Lacking, Wanted};
@@ -43,7 +46,9 @@ pub fn lock_folder(rt: &HostRuntime, folder: &str) -> Result<File, Lacking> {
 }
 
 /// Opens a file, which it lacks where the system does not open it.
-pub fn open_file(rt: &HostRuntime, path: &str) -> Result<File, Lacking> {
+pub fn open_file(rt: &HostRuntime, path: &str) -> Result<File, Lacking>
+    ensures { IfErr result (λ lacking. IsFault lacking.failure) }
+{
     match File::open(rt, path) {
         Ok(file) => Ok(file),
         Err(error) => Err(Lacking::of(Wanted::File, error)),
@@ -51,7 +56,9 @@ pub fn open_file(rt: &HostRuntime, path: &str) -> Result<File, Lacking> {
 }
 
 /// The source that a file has. It lacks the file where that cannot be opened, or read as a source.
-pub fn source_at(rt: &HostRuntime, path: &str) -> Result<Vec<u8>, Lacking> {
+pub fn source_at(rt: &HostRuntime, path: &str) -> Result<Vec<u8>, Lacking>
+    ensures { IfErr result (λ lacking. IsFault lacking.failure) }
+{
     match read_source(rt.alloc(), open_file(rt, path)?) {
         Ok(source) => Ok(source),
         Err(error) => Err(Lacking::of(Wanted::File, error)),
@@ -77,7 +84,11 @@ pub struct Inputs {
 }
 
 /// Reads the source, and opens the second file. Where one lacks that is told, the source first.
-pub fn inputs_of(rt: &HostRuntime, files: Files<'_>, telling: Telling) -> Result<Inputs, Failure> {
+///
+/// A failure is `ReadFault` or `Memory`.
+pub fn inputs_of(rt: &HostRuntime, files: Files<'_>, telling: Telling) -> Result<Inputs, Failure>
+    ensures { IfErr result IsFault }
+{
     let source = match source_at(rt, files.source) {
         Ok(source) => source,
         Err(lacking) => return Err(told(rt, lacking, files.source)),

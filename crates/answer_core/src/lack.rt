@@ -1,6 +1,7 @@
 //! What a command needs to read, and what standard error is told where it lacks that.
 
 ghost use Rattle.std.specs.Prelude.{◌≡◌};
+ghost use Rattle.answer_core.specs.Status.{IsFault};
 ghost use Rattle.answer_core.specs.declared.failure.Failure.TheVariants.{ReadFault};
 
 use crate::failure::Failure;
@@ -45,8 +46,10 @@ pub struct Lacking {
 }
 
 impl Lacking {
-    /// The one of an error of the system.
-    pub fn of(need: Wanted, error: io::Error) -> Lacking {
+    /// The one of an error of the system: `ReadFault`, or `Memory`.
+    pub fn of(need: Wanted, error: io::Error) -> Lacking
+        ensures { IsFault result.failure }
+    {
         let cause = error.kind();
         match Failure::from(error) {
             Failure::ReadFault => Lacking::at(need, cause),

@@ -1,6 +1,6 @@
 //! What a command tells: its lines, and what it lacks.
 
-ghost use Rattle.std.specs.Prelude.{◌≡◌, IfErr, IfOk, OnOk};
+ghost use Rattle.std.specs.Prelude.{◌≡◌, ℕ, IfErr, IfOk, OnErr, OnOk, take};
 ghost use Rattle.std.specs.Io.KnownBytes.{Appends};
 ghost use Rattle.answer_core.specs.declared.explanation.Telling.TheVariants.{Nothing, Whole};
 ghost use Rattle.command_line.specs.declared.request.Explain.TheVariants.{Always, Never};
@@ -64,6 +64,8 @@ pub fn told_unread<R: Read + Drop>(
 /// Writes what is answered, and gives the exit status. A failure is `WriteFault`, which leaves a front of the text.
 pub fn written<W: Write>(text: &[u8], status: u8, writer: &mut W) -> Result<u8, Failure>
     ensures told { OnOk result (Appends (W.contents writer.old) (W.contents writer.new) text.now) }
+    ensures cut { OnErr result ((count : ℕ)
+        × Appends (W.contents writer.old) (W.contents writer.new) (take count text.now)) }
     ensures status { IfOk result (λ given. given ≡ status) }
     ensures fault { IfErr result (λ failure. failure ≡ WriteFault) }
 {

@@ -1,6 +1,6 @@
 //! `pathserve run` over any reader and writer: what it writes, and the exit status that it ends with.
 
-ghost use Rattle.std.specs.Prelude.{◌≡◌, ◌++◌, ℕ, List, IfOk, IfErr, IfSome, take};
+ghost use Rattle.std.specs.Prelude.{◌≡◌, ◌≤◌, ◌++◌, ℕ, List, IfOk, IfErr, IfSome, take};
 ghost use Rattle.std.specs.Io.KnownBytes.{Appends};
 ghost use Rattle.world_core.specs.Run.{IsScript, IsFront};
 ghost use Rattle.world_core.specs.declared.script.ScriptEnd.{ScriptEnd as End};
@@ -18,8 +18,10 @@ use std::io::{Read, Write};
 use text_core::write_whole;
 use world_core::script::{ScriptEnd, run_script};
 
-fn status_of_script(end: ScriptEnd) -> u8
-    ensures { result ≡ script_status end }
+/// The exit status of a script that ended so: 0 where each line was answered, 1 where a bad line ended it.
+pub fn status_of_script(end: ScriptEnd) -> u8
+    ensures is { result ≡ script_status end }
+    ensures small { result ≤ 1 }
 {
     match end {
         ScriptEnd::Whole => ACCEPTED,
@@ -38,6 +40,8 @@ fn run_on<R: Read, W: Write>(
     ensures ended { IfOk result (λ status. IfSome (R.remaining reader.old) (λ rest. (end : End) × (written : List ℕ)
         × Appends (W.contents writer.old) (W.contents writer.new) written
         × IsScript accepted (head.now ++ rest) end written × (status ≡ script_status end))) }
+    ensures status { IfOk result (λ status. status ≤ 1) }
+    ensures fault { IfErr result IsFault }
     ensures cut { IfErr result (λ failure. IsFault failure × IfSome (R.remaining reader.old) (λ rest. (written : List ℕ)
         × Appends (W.contents writer.old) (W.contents writer.new) written
         × IsFront accepted (head.now ++ rest) written)) }
@@ -49,10 +53,14 @@ fn run_on<R: Read, W: Write>(
     }
 }
 
-// Writes the line that says why there is nothing to run on.
-fn tell<W: Write>(line: &[u8], writer: &mut W) -> Result<u8, Failure>
+/// Writes the line that says why there is nothing to run on, and gives the exit status, 1.
+///
+/// A failure is `WriteFault`, and leaves a front of the line.
+pub fn tell<W: Write>(line: &[u8], writer: &mut W) -> Result<u8, Failure>
     ensures ended { IfOk result (λ status. Appends (W.contents writer.old) (W.contents writer.new) line.now
         × (status ≡ REFUSED)) }
+    ensures status { IfOk result (λ status. status ≡ 1) }
+    ensures fault { IfErr result IsFault }
     ensures cut { IfErr result (λ failure. IsFault failure
         × ((count : ℕ) × Appends (W.contents writer.old) (W.contents writer.new) (take count line.now))) }
 {
@@ -82,6 +90,8 @@ pub fn answer_script<R: Read, W: Write, E: Write>(
     ensures ended { IfOk result (λ status. IfSome (R.remaining reader.old) (λ text. (written : List ℕ)
         × Appends (W.contents writer.old) (W.contents writer.new) written
         × IsScriptRun source.now text status written)) }
+    ensures status { IfOk result (λ status. status ≤ 1) }
+    ensures fault { IfErr result IsFault }
     ensures cut { IfErr result (λ failure. IsFault failure × IfSome (R.remaining reader.old) (λ text. (written : List ℕ)
         × Appends (W.contents writer.old) (W.contents writer.new) written × IsScriptFront source.now text written)) }
 {

@@ -1,5 +1,9 @@
 //! Sources whose objects may have holds: a command follows them, leaves them out, or refuses.
 
+ghost use Rattle.std.specs.Prelude.{IfErr, IfOk};
+ghost use Rattle.answer_core.specs.Status.{IsFault};
+ghost use Rattle.answer_core.specs.Telling.{IsRuledOrRefused, TellsRefused};
+
 use crate::answer::REFUSED;
 use crate::explanation::Telling;
 use crate::failure::Failure;
@@ -16,13 +20,18 @@ pub enum WithoutHolds {
     Told(u8),
 }
 
-/// A source without the holds of its objects. Where these have a fault that is told.
+/// A source without the holds of its objects. Where these have a fault that is told, with status 1.
+///
+/// A failure is `WriteFault` or `Memory`.
 pub fn without_holds(
     rt: &HostRuntime,
     source: Vec<u8>,
     telling: Telling,
     file: &str,
-) -> Result<WithoutHolds, Failure> {
+) -> Result<WithoutHolds, Failure>
+    ensures told { IfOk result TellsRefused }
+    ensures fault { IfErr result IsFault }
+{
     match look_at(rt.alloc(), &source)? {
         Look::Plain => Ok(WithoutHolds::Plain(source)),
         Look::Held(held) => Ok(WithoutHolds::Plain(held.cut)),
@@ -66,13 +75,18 @@ pub enum Ruled {
     Told(u8),
 }
 
-/// A source and its rules, for a server that follows them.
+/// A source and its rules, for a server that follows them. Where these have a fault that is told, with status 1.
+///
+/// A failure is `WriteFault` or `Memory`.
 pub fn ruled_source(
     rt: &HostRuntime,
     source: Vec<u8>,
     telling: Telling,
     file: &str,
-) -> Result<Ruled, Failure> {
+) -> Result<Ruled, Failure>
+    ensures told { IfOk result IsRuledOrRefused }
+    ensures fault { IfErr result IsFault }
+{
     match look_at(rt.alloc(), &source)? {
         Look::Plain => Ok(Ruled::By(source, Vec::new(rt.alloc()))),
         Look::Held(held) => Ok(Ruled::By(held.cut, held.rules)),

@@ -1,6 +1,6 @@
 //! `pathserve check --stuck` over any reader and writer: what it writes, and the exit status that it ends with.
 
-ghost use Rattle.std.specs.Prelude.{◌≡◌, ◌⊎◌, ℕ, Bool, List, IfOk, IfErr, IfSome, IsErrOf, take};
+ghost use Rattle.std.specs.Prelude.{◌≡◌, ◌≤◌, ◌⊎◌, ℕ, Bool, List, IfOk, IfErr, IfSome, IsErrOf, take};
 ghost use Rattle.std.specs.Io.KnownBytes.{Appends, Keeps};
 ghost use Rattle.check_core.specs.declared.report.CheckEnd.{CheckEnd};
 ghost use Rattle.check_core.specs.StuckReport.{IsStuckCheck};
@@ -18,7 +18,8 @@ use std::alloc::Global;
 use std::io::{Read, Write};
 
 fn status_of_stuck(ended: StuckEnd) -> u8
-    ensures { result ≡ stuck_status ended.end ended.lost }
+    ensures is { result ≡ stuck_status ended.end ended.lost }
+    ensures small { result ≤ 1 }
 {
     if ended.lost {
         REFUSED
@@ -32,6 +33,7 @@ fn check_text<W: Write>(alloc: Global, source: &[u8], writer: &mut W) -> Result<
     ensures ended { IfOk result (λ status. (end : CheckEnd) × (lost : Bool) × (written : List ℕ)
         × Appends (W.contents writer.old) (W.contents writer.new) written × IsStuckCheck source.now end lost written
         × (status ≡ stuck_status end lost)) }
+    ensures status { IfOk result (λ status. status ≤ 1) }
     ensures fault { IfErr result (λ failure. (failure ≡ WriteFault) ⊎ (failure ≡ Memory)) }
     ensures cut { IsErrOf result WriteFault → (end : CheckEnd) × (lost : Bool) × (whole : List ℕ) × (count : ℕ)
         × IsStuckCheck source.now end lost whole
@@ -62,6 +64,7 @@ pub fn check_stuck<R: Read + Drop, W: Write, E: Write>(
     ensures ended { IfOk result (λ status. IfSome (R.remaining reader) (λ text. (end : CheckEnd) × (lost : Bool)
         × (written : List ℕ) × Appends (W.contents writer.old) (W.contents writer.new) written
         × IsStuckCheck text end lost written × (status ≡ stuck_status end lost))) }
+    ensures status { IfOk result (λ status. status ≤ 1) }
     ensures fault { IfErr result IsFault }
     ensures cut { IsErrOf result WriteFault →
         IfSome (R.remaining reader) (λ text. (end : CheckEnd) × (lost : Bool) × (whole : List ℕ) × (count : ℕ)

@@ -1,5 +1,8 @@
 //! `pathserve try`: an object at a prompt.
 
+ghost use Rattle.std.specs.Prelude.{◌≤◌, IfErr, IfOk};
+ghost use Rattle.answer_core.specs.Status.{IsFault};
+
 use answer_core::answer::REFUSED;
 use answer_core::attempt::answer_try;
 use answer_core::explanation::{Telling, explained};
@@ -91,7 +94,10 @@ fn tell_line(
     path: &str,
     name: Option<&str>,
     telling: Telling,
-) -> Result<u8, Failure> {
+) -> Result<u8, Failure>
+    ensures status { IfOk result (λ status. status ≤ 1) }
+    ensures fault { IfErr result IsFault }
+{
     let ended = written(line, REFUSED, &mut io::writer(rt));
     let only = match name {
         Some(name) => Some(name.as_bytes()),
@@ -123,7 +129,10 @@ fn answer_input(
     again: Accepted,
     list: &[u8],
     manner: Manner,
-) -> Result<u8, Failure> {
+) -> Result<u8, Failure>
+    ensures status { IfOk result (λ status. status ≤ 1) }
+    ensures fault { IfErr result IsFault }
+{
     let mut kept = CopyingReader::new(rt.alloc(), rt.stdin(), 0);
     let mut asking = Asking::new(rt.alloc(), &mut kept, rt.stderr(), again, manner);
     let texts = Texts {
@@ -149,7 +158,10 @@ fn answer_opened(
     path: &str,
     name: Option<&str>,
     telling: Telling,
-) -> Result<u8, Failure> {
+) -> Result<u8, Failure>
+    ensures status { IfOk result (λ status. status ≤ 1) }
+    ensures fault { IfErr result IsFault }
+{
     match open(rt.alloc(), source, name)? {
         OpenedScript::Ready(again) => {
             let list = list_of(rt.alloc(), source, &again)?;
@@ -159,13 +171,20 @@ fn answer_opened(
     }
 }
 
-/// `pathserve try`, of the object of this name or the first one.
+/// `pathserve try`, of the object of this name or the first one. It gives the exit status: 0 where there is an object to
+/// call, whatever its lines were answered, 1 where there is none.
+///
+/// A failure is, in this order: `ReadFault`, which is told, where the source cannot be opened or read; `Memory`; `ReadFault`
+/// of standard input, which is told, or `WriteFault`.
 pub fn run_try(
     rt: &HostRuntime,
     path: &str,
     name: Option<&str>,
     when: Explain,
-) -> Result<u8, Failure> {
+) -> Result<u8, Failure>
+    ensures status { IfOk result (λ status. status ≤ 1) }
+    ensures fault { IfErr result IsFault }
+{
     let source = match source_at(rt, path) {
         Ok(source) => source,
         Err(lacking) => return Err(told(rt, lacking, path)),

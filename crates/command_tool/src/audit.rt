@@ -1,5 +1,8 @@
 //! `pathserve audit`, of a trace and of a folder.
 
+ghost use Rattle.std.specs.Prelude.{◌≤◌, IfErr, IfOk};
+ghost use Rattle.answer_core.specs.Status.{IsFault};
+
 use answer_core::answer::{ACCEPTED, REFUSED};
 use answer_core::audit::audit_trace;
 use answer_core::explanation::{explained, explained_audit};
@@ -24,12 +27,18 @@ fn tell_folder(
     objects: &[Accepted],
     rules: &[Rules],
     folder: &str,
-) -> Result<u8, Failure> {
+) -> Result<u8, Failure>
+    ensures status { IfOk result (λ status. status ≤ 1) }
+    ensures fault { IfErr result IsFault }
+{
     match audit_folder(rt, objects, rules, folder) {
         Ok(said) => {
             let _ = write_whole(&mut rt.stderr(), &said.notes);
-            let status = if said.is_whole { ACCEPTED } else { REFUSED };
-            written(&said.lines, status, &mut io::writer(rt))
+            if said.is_whole {
+                written(&said.lines, ACCEPTED, &mut io::writer(rt))
+            } else {
+                written(&said.lines, REFUSED, &mut io::writer(rt))
+            }
         }
         Err(FolderFault::Memory) => Err(Failure::Memory),
         Err(FolderFault::Unread(path, cause)) => {
@@ -39,7 +48,10 @@ fn tell_folder(
 }
 
 // `pathserve audit` of a folder.
-fn run_folder(rt: &HostRuntime, files: Files<'_>, when: Explain) -> Result<u8, Failure> {
+fn run_folder(rt: &HostRuntime, files: Files<'_>, when: Explain) -> Result<u8, Failure>
+    ensures status { IfOk result (λ status. status ≤ 1) }
+    ensures fault { IfErr result IsFault }
+{
     let source = match source_at(rt, files.source) {
         Ok(source) => source,
         Err(lacking) => return Err(told(rt, lacking, files.source)),
@@ -65,8 +77,15 @@ fn run_folder(rt: &HostRuntime, files: Files<'_>, when: Explain) -> Result<u8, F
     }
 }
 
-/// `pathserve audit`: of a folder where there is one, else of a trace.
-pub fn run_audit(rt: &HostRuntime, files: Files<'_>, when: Explain) -> Result<u8, Failure> {
+/// `pathserve audit`: of a folder where there is one, else of a trace. It gives the exit status: 0 where all objects are
+/// whole in the folder, or the trace is legal, else 1.
+///
+/// A failure is, in this order: `ReadFault`, which is told, where the source cannot be opened or read, and where the trace
+/// cannot be opened; `Memory`, `ReadFault` of the trace, or of a file of the folder, or `WriteFault`.
+pub fn run_audit(rt: &HostRuntime, files: Files<'_>, when: Explain) -> Result<u8, Failure>
+    ensures status { IfOk result (λ status. status ≤ 1) }
+    ensures fault { IfErr result IsFault }
+{
     if is_folder(rt, files.text) {
         return run_folder(rt, files, when);
     }

@@ -1,5 +1,8 @@
 //! `pathserve check`.
 
+ghost use Rattle.std.specs.Prelude.{◌≤◌, IfErr, IfOk};
+ghost use Rattle.answer_core.specs.Status.{IsFault};
+
 use crate::holds::check_held;
 use answer_core::answer::{ACCEPTED, REFUSED, check_source};
 use answer_core::explanation::Telling;
@@ -24,7 +27,10 @@ fn check_text(
     path: &str,
     telling: Telling,
     stuck: bool,
-) -> Result<u8, Failure> {
+) -> Result<u8, Failure>
+    ensures status { IfOk result (λ status. status ≤ 1) }
+    ensures fault { IfErr result IsFault }
+{
     if stuck {
         return match without_holds(rt, source, telling, path)? {
             WithoutHolds::Told(status) => Ok(status),
@@ -73,8 +79,16 @@ fn pairs_of(rt: &HostRuntime, source: &[u8], path: &str, when: Explain) -> Vec<u
     }
 }
 
-/// `pathserve check`.
-pub fn run_check(rt: &HostRuntime, path: &str, when: Explain, stuck: bool) -> Result<u8, Failure> {
+/// `pathserve check`: checks the objects of the file at this path, and gives the exit status: 0 where none is refused,
+/// else 1, also where the source is no file of objects, and, where it is asked what can get stuck, where an operation is
+/// lost.
+///
+/// A failure is, in this order: `ReadFault`, which is told, where the file cannot be opened or read; `Memory` or
+/// `WriteFault`.
+pub fn run_check(rt: &HostRuntime, path: &str, when: Explain, stuck: bool) -> Result<u8, Failure>
+    ensures status { IfOk result (λ status. status ≤ 1) }
+    ensures fault { IfErr result IsFault }
+{
     let file = match open_file(rt, path) {
         Ok(file) => file,
         Err(lacking) => return Err(told(rt, lacking, path)),

@@ -1,5 +1,8 @@
 //! `pathserve run`.
 
+ghost use Rattle.std.specs.Prelude.{◌≤◌, IfErr, IfOk};
+ghost use Rattle.answer_core.specs.Status.{IsFault};
+
 use crate::holds::run_held;
 use answer_core::explanation::explained_run;
 use answer_core::failure::Failure;
@@ -13,8 +16,16 @@ use hold_read::read::{Held, Look, look_at};
 use note_core::files::Files;
 use std::io;
 
-/// `pathserve run`.
-pub fn run_script(rt: &HostRuntime, files: Files<'_>, when: Explain) -> Result<u8, Failure> {
+/// `pathserve run`: runs the script in the second file on the object of the source in the first one that its first line
+/// names, and gives the exit status: 0 where each line was answered, 1 where there is nothing to run on, or a bad line
+/// ended the script.
+///
+/// A failure is, in this order: `ReadFault`, which is told, where the source cannot be opened or read, and where the script
+/// cannot be opened; `Memory`, `ReadFault` of the script or `WriteFault`, the first that was met.
+pub fn run_script(rt: &HostRuntime, files: Files<'_>, when: Explain) -> Result<u8, Failure>
+    ensures status { IfOk result (λ status. status ≤ 1) }
+    ensures fault { IfErr result IsFault }
+{
     let telling = telling_of(rt, when);
     let Inputs { source, mut kept } = inputs_of(rt, files, telling)?;
     let (ended, source) = match look_at(rt.alloc(), &source)? {

@@ -12,7 +12,7 @@ use Rattle.inside_text.specs.declared.why.CallStatus.TheVariants as states
 use Rattle.inside_text.specs.declared.why.RunningRow.{RunningRow}
 
 abbrev pub state_word : CallStatus → List ℕ
-state_word states.Running = codes "RunningRow"
+state_word states.Running = codes "Running"
 state_word states.Ended = codes "Ended"
 state_word states.Unknown = codes "Unknown"
 

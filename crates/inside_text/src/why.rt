@@ -46,7 +46,7 @@ fn word_of(state: CallStatus) -> &'static [u8]
     }
 }
 
-/// Adds `why N RunningRow`, `why N Ended` or `why N Unknown`: the call of this number does not wait.
+/// Adds `why N Running`, `why N Ended` or `why N Unknown`: the call of this number does not wait.
 pub fn push_state(out: &mut Vec<u8>, number: u64, state: CallStatus) -> Result<(), AllocError>
     ensures { OnOk result (out.new.items ≡ out.old.items ++ state_line number state) }
 {

@@ -12,4 +12,4 @@ returns-in-Ok-clause-ended g c =
     (λ text. (end : ScriptEnd) × (written : List ℕ) × Appends (g.W.Write.contents c.args.writer.now) (g.W.Write.contents c.run_script.new.writer) written × IsScript c.args.accepted text end written × (c.status_of_script.result ≡ script_status end))
     (λ text. (written : List ℕ) × Appends (g.W.Write.contents c.args.writer.now) (g.W.Write.contents c.run_script.new.writer) written × IsScript c.args.accepted text c.in-Ok.end written)
     c.chain-text.ensures.bytes c.in-Ok.ensures.known
-    (λ text told. (c.in-Ok.end, told.0, told.1, told.2, c.status_of_script.ensures))
+    (λ text told. (c.in-Ok.end, told.0, told.1, told.2, c.status_of_script.ensures.is))
