@@ -162,7 +162,7 @@ pub record EndsDesk (agrees : Assignment → Type 0) (parts_were parts_are trace
       (ended_of name opening seats slips b became damaged) before after kept_all keeps_all old new
 
 -- the same of two moments
-abbrev pub EndsIn : Moment → Moment → List ℕ → Opening → Board → Bool → Type 0
+abbrev pub EndsIn : Moment → Moment → List ℕ → ObjectOpening → Board → Bool → Type 0
 EndsIn before after name opening b closes =
     EndsDesk after.files before.parts after.parts before.traces after.traces name opening b closes before.trouble
     after.trouble before.keeps_all after.keeps_all before.written after.written

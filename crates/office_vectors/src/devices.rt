@@ -3,6 +3,7 @@
 
 use crate::make::{accepted, pins_of};
 use board_core::answer::Collected;
+use call_core::ticket::Ticket;
 use decl_core::object::Object;
 use desk_core::desk::Desk;
 use device_core::hand::{Hand, Stamp};
@@ -15,7 +16,6 @@ use page_core::save::{SaveFault, save_parts};
 use run_core::at_once::run_at_once;
 use run_core::perform::perform;
 use run_core::run::Run;
-use call_core::ticket::Ticket;
 use std::alloc::Global;
 use std::process::Abort;
 use value_core::datum::Datum;

@@ -1,5 +1,6 @@
 //! Objects, and what is made of them.
 
+use call_core::ticket::Ticket;
 use decl_core::analyse::{Accepted, analyse};
 use decl_core::object::Object;
 use decl_read::read::read_objects;
@@ -10,7 +11,6 @@ use office_core::office::Office;
 use office_core::seat::{Seat, Started, Submitted};
 use page_core::open::open_parts;
 use page_core::pins::Pins;
-use call_core::ticket::Ticket;
 use std::alloc::Global;
 use std::process::Abort;
 use std::sync::Wait;

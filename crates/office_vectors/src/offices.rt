@@ -2,6 +2,8 @@
 
 use crate::make::{office_of, seat_of, ticket_of};
 use board_core::receipt::Receipt;
+use call_core::outcome::Outcome;
+use call_core::ticket::Ticket;
 use device_core::memory::MemHand;
 use office_core::by_receipts::Resubmitted;
 use office_core::inside::CloseFault;
@@ -9,10 +11,8 @@ use office_core::named::{NameFault, ParkFault};
 use office_core::office::Office;
 use office_core::seat::{CompleteFault, Seat, Tried};
 use path_tree::name::Name;
-use call_core::outcome::Outcome;
 use run_core::perform::perform;
 use run_core::run::Run;
-use call_core::ticket::Ticket;
 use std::alloc::Global;
 use std::process::Abort;
 use std::sync::Wait;
