@@ -22,6 +22,7 @@ import subprocess
 import tempfile
 import time
 from collections.abc import Callable, Iterator, Sequence
+
 from bench import keys
 from bench.peer import Redis
 from gate.served import Server

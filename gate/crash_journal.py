@@ -42,6 +42,7 @@ FUTURES, CALLS = 4, 6
 # A call that is kept: its key, its number as it was told, the words of its answer, and its own.
 Kept = tuple[int, int, tuple[Word, ...], tuple[Word, ...]]
 
+
 def whole_number(word: Word) -> int:
     return int(bare(word))
 

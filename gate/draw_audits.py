@@ -22,6 +22,7 @@ import subprocess
 import tempfile
 from collections.abc import Iterable, Iterator, Sequence as Sequence_
 from typing import Any
+
 from gate import seeds
 from gate.cases import TOP, Case, Placed, cases_of, files
 from gate.drawn_objects import OBJECTS

@@ -23,6 +23,8 @@ import socket
 import sys
 import tempfile
 from collections.abc import Iterable, Sequence
+from typing import Any
+
 from gate.drawn_objects import OBJECTS
 from gate.kept import ROOMS, Server, options
 from gate.seeds import Drawer
@@ -120,8 +122,9 @@ class World:
         source = "".join(it.text for it in self.objects)
         self.server = Server(room, source, "--sync", sync, at_path=True)
         self.slow, self.said, self.come = Slow(self.objects), 0, 0
-        self.voices: list[Voice] = []
-        self.steps: list[str] = []
+        # (a schedule, of gate/draw_schedules, has voices and steps of its own)
+        self.voices: list[Any] = []
+        self.steps: list[Any] = []
         self.start()
 
     def start(self) -> None:
@@ -228,7 +231,7 @@ class World:
             return self.keyed(speaker)
         return self.spaced(["cancel", self.number(self.cancelled(speaker))])
 
-    def say(self, voice: Voice, *lines: str, is_whole: bool = True) -> None:
+    def say(self, voice: Any, *lines: str, is_whole: bool = True) -> None:
         """Says lines at once, or in pieces."""
         ends = ["\r\n" if self.draw.one_in(12) else "\n" for _ in lines]
         if not is_whole:
@@ -247,7 +250,7 @@ class World:
             # (behind its end the server takes nothing)
             holds(voice.speaker.has_left, f"the connection broke: {error}")
 
-    def talk(self, voice: Voice) -> None:
+    def talk(self, voice: Any) -> None:
         count = 1 if self.draw.below(4) else 1 + self.draw.below(6)
         for _ in range(count):
             lines = [self.line(voice.speaker)]
@@ -257,7 +260,7 @@ class World:
             if voice.speaker.has_left:
                 break
 
-    def part(self, voice: Voice) -> None:
+    def part(self, voice: Any) -> None:
         """A client leaves in another way than by `quit`."""
         how = self.draw.weighted({"hangs up": 4, "sends no more": 3, "is cut off": 3, "too long": 1})
         if how == "too long":

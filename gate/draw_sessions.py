@@ -19,6 +19,7 @@ import sys
 import threading
 import time
 from collections.abc import Iterator, Mapping, Sequence
+
 from gate.drawn_objects import OBJECTS
 from gate.served import Server, Told, traced_wrongly
 from gate.slow_world import written

@@ -7,6 +7,7 @@ from gate.seeds import Drawer
 from gate.slow_holds import HeldWorld
 from gate.slow_world import MOST, Datum, Ending, Object, World, finish_line, shown_lines, written
 from gate.tried import there
+
 # Lines that say nothing.
 BAD_LINES: tuple[str, ...] = ("begin", "show 1", "step 1", "call s1", "call 1 x", "steps x", "finish", "cancel s1", "drop 1", "Show", "object two")
 SESSIONS = (0, 1, 2, 3, 4, 5, 6, 1024, 1025, 2000)

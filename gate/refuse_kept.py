@@ -27,6 +27,7 @@ import threading
 import time
 from collections.abc import Iterable
 from typing import NamedTuple
+
 from gate import crowd, losing, refusing
 from gate.crowd import Crowd
 from gate.kept import ROOMS, Server, Talk, options

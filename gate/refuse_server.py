@@ -23,6 +23,7 @@ import tempfile
 import time
 from collections.abc import Sequence
 from typing import Any, Union
+
 from gate.clients import Connection, Wrong
 from gate.refusing import build
 from gate.served import Server, ended_calls, traced_wrongly
@@ -35,6 +36,7 @@ LASTS, SHORT, NONE = 10, 0.1, 1 << 20
 MOST_FAILED = 5
 # What clients do, and what they are to be told.
 Play = Union["type[One]", "type[Two]"]
+
 
 class Ran:
     """A run of a play that has ended: its status, what it wrote, what its clients were told, and whether a growth was refused."""

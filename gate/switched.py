@@ -11,6 +11,7 @@ import re
 from collections.abc import Iterable
 
 from gate.tried import there
+
 # What no edit is: this number stands in the file of a program in which none is on.
 NONE = 0x9E37_79B9_7F4A_7C15
 ASKS = f"\nfn edit_that_is_on() -> u64 {{\n    {NONE}\n}}\n"
