@@ -55,7 +55,7 @@ def with_fault(draw: random.Random, source: bytes) -> bytes:
 def checked(folder: pathlib.Path, source: bytes, *flags: str) -> tuple[int, bytes, bytes]:
     """The status of a check of a source, and what it wrote, where the file is named SOURCE."""
     (folder / "SOURCE").write_bytes(source)
-    words = [program(), "check", *flags, "SOURCE"]
+    words: list[str | pathlib.Path] = [program(), "check", *flags, "SOURCE"]
     ran = subprocess.run(words, cwd=folder, stdin=subprocess.DEVNULL, capture_output=True, timeout=SECONDS)
     return ran.returncode, ran.stdout, ran.stderr
 

@@ -100,7 +100,7 @@ class Run:
     def read(self, folder: pathlib.Path) -> None:
         """Its command line is read."""
         pasts = [it for operation in ("say", "get") for it in ("--past", f"echo:{operation}:2")]
-        words = [program(), "keep", folder / "none.pp", folder, "1", "--sync", "100", *pasts]
+        words: list[str | pathlib.Path] = [program(), "keep", folder / "none.pp", folder, "1", "--sync", "100", *pasts]
         ran = subprocess.run(words, env={**os.environ, **self.env(folder)}, capture_output=True, text=True, timeout=60)
         self.was_refused = (folder / "note").exists()
         holds(ran.returncode in self.kind.statuses, f"status {ran.returncode}, standard error {ran.stderr!r}")
