@@ -21,10 +21,12 @@ import statistics
 import subprocess
 import tempfile
 import time
+from collections.abc import Callable, Iterator, Sequence
 
 from bench import keys
 from bench.peer import Redis
 from gate.served import Server
+from gate.tried import there
 from tools.ready import program
 
 BUFFER = """object buffer;
@@ -35,6 +37,8 @@ BUFFER = """object buffer;
   entry function get : integer; begin get := first(items); take(items) end;
 end;
 """
+# Calls a second, the microseconds in which half and 99 of 100 are answered, and those of the server for a call.
+Figures = tuple[float, int, int, float]
 MANY = 10_000
 PUT = ("open cell", "call put #", "SET v #")
 GET = ("open cell", "call get", "GET v")
@@ -53,13 +57,13 @@ ROWS = (
 
 
 @contextlib.contextmanager
-def folder():
+def folder() -> Iterator[pathlib.Path]:
     with tempfile.TemporaryDirectory(prefix="bench-keep-") as name:
         yield pathlib.Path(name)
 
 
 @contextlib.contextmanager
-def kept(binary, sync, most, way="keep"):
+def kept(binary: object, sync: str, most: int, way: str = "keep") -> Iterator[Server]:
     """A server of the objects that are measured."""
     with folder() as where:
         (where / "place").mkdir()
@@ -70,15 +74,16 @@ def kept(binary, sync, most, way="keep"):
 
 
 @contextlib.contextmanager
-def redis(sync):
+def redis(sync: str) -> Iterator[Redis]:
     with folder() as where:
         words = ["--appendonly", "yes", "--appendfsync", "always" if sync == "always" else "everysec"]
         with Redis(where, *words, "--maxclients", MANY + 1_000) as it:
             yield it
 
 
-def load(options, server, connections, seconds, ahead, lines, request, first=None):
-    """Calls a second, the microseconds in which half and 99 of 100 are answered, and those of the server for a call."""
+def load(options: argparse.Namespace, server: Server | Redis, connections: int, seconds: float, ahead: int, lines: int,
+         request: str, first: str | None = None) -> Figures:
+    """What a load on a server takes."""
     used = server.microseconds()
     words = [options.lines, server.port, connections, seconds, ahead, lines, request, *([first] if first else [])]
     ran = subprocess.run([str(it) for it in words], stdout=subprocess.PIPE, text=True)
@@ -88,12 +93,12 @@ def load(options, server, connections, seconds, ahead, lines, request, first=Non
     return int(said[1]) / float(said[3]), int(said[5]), int(said[7]), (server.microseconds() - used) / int(said[1])
 
 
-def figures(name, found):
+def figures(name: str, found: Sequence[Figures]) -> str:
     rate, half, late, used = (statistics.median(it[at] for it in found) for at in range(4))
     return f"{name} {rate:,.0f} calls/s, half in {half:,.0f}, 99 % in {late:,.0f}, processor {used:.2f}"
 
 
-def say(title, names, found) -> None:
+def say(title: str, names: tuple[str, str], found: Sequence[Sequence[Figures]]) -> None:
     """Prints a row: of each server its medians, and how much more calls the first one answers."""
     first, second = ([pair[at] for pair in found] for at in (0, 1))
     ratios = sorted(one[0] / two[0] for one, two in found)
@@ -102,7 +107,7 @@ def say(title, names, found) -> None:
     print(f"{title}: {ratio:.2f} ({ratios[0]:.2f} to {ratios[-1]:.2f}); {figure}", flush=True)
 
 
-def rounds(options, title, names, one, two) -> None:
+def rounds(options: argparse.Namespace, title: str, names: tuple[str, str], one: Callable[[], Figures], two: Callable[[], Figures]) -> None:
     """Measures two servers in turn."""
     if options.only not in title:
         return
@@ -114,24 +119,24 @@ def rounds(options, title, names, one, two) -> None:
     say(title, names, found)
 
 
-def compare(options, title, sync, connections, ahead, calls) -> None:
+def compare(options: argparse.Namespace, title: str, sync: str, connections: int, ahead: int, calls: tuple[str, str, str]) -> None:
     first, own, other = calls
 
-    def one():
+    def one() -> Figures:
         with kept(options.program, sync, connections) as it:
             return load(options, it, connections, options.seconds, ahead, 2, own, first)
 
-    def two():
+    def two() -> Figures:
         with redis(sync) as it:
             return load(options, it, connections, options.seconds, ahead, 0, other)
 
     rounds(options, title, ("kept", "Redis"), one, two)
 
 
-def beside_serve(options) -> None:
+def beside_serve(options: argparse.Namespace) -> None:
     first, own, _ = GET
 
-    def measure(sync, way):
+    def measure(sync: str, way: str) -> Figures:
         with kept(options.program, sync, 16, way) as it:
             return load(options, it, 16, options.seconds, 1, 2, own, first)
 
@@ -139,14 +144,14 @@ def beside_serve(options) -> None:
     rounds(options, "get, --sync 1000, 16", names, lambda: measure("1000", "keep"), lambda: measure("", "serve"))
 
 
-def in_a_row(options) -> None:
+def in_a_row(options: argparse.Namespace) -> None:
     for sync in ("1000", "always"):
 
-        def one():
+        def one() -> Figures:
             with kept(options.program, sync, 1_000) as it:
                 return load(options, it, MANY, 1, 0, 2, PUT[1], PUT[0])
 
-        def two():
+        def two() -> Figures:
             with redis(sync) as it:
                 return load(options, it, MANY, 1, 0, 0, PUT[2])
 
@@ -154,7 +159,7 @@ def in_a_row(options) -> None:
         rounds(options, title, ("kept", "Redis"), one, two)
 
 
-def idle(options) -> None:
+def idle(options: argparse.Namespace) -> None:
     """The memory of a server over its idle connections, each with an object that is open, and one call made."""
     title = f"idle, {MANY:,}"
     if options.only not in title:
@@ -162,12 +167,12 @@ def idle(options) -> None:
     with kept(options.program, "1000", MANY) as it:
         words = [options.lines, it.port, MANY, 0, 0, 2, PUT[1], PUT[0]]
         with subprocess.Popen([str(word) for word in words], stdin=subprocess.PIPE, stdout=subprocess.PIPE, text=True) as ran:
-            ran.stdout.readline()
+            there(ran.stdout).readline()
             each = it.memory() / MANY
             used = it.microseconds()
             time.sleep(5)
             used = (it.microseconds() - used) / 5
-            ran.stdin.close()
+            there(ran.stdin).close()
         print(f"{title}: {each:.2f} KiB each, with all that the server has; processor {used / 1e4:.2f} % while idle", flush=True)
 
 

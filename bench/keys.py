@@ -19,8 +19,10 @@ import statistics
 import subprocess
 import tempfile
 import time
+from collections.abc import Callable, Iterator, Sequence
 
 from gate.served import Server
+from gate.tried import there
 from tools.ready import given_words, program
 
 CELL = """object cell;
@@ -40,21 +42,21 @@ MOST = 3_000
 class Served(Server):
     """A server of the cell, and a load on it."""
 
-    def load(self, load, group):
+    def load(self, load: pathlib.Path, group: str) -> tuple[float, float, float]:
         """Calls a second of a load, the processor time of the server for each, in microseconds, and the MiB that are
         resident when its last call is done."""
         used = self.microseconds()
         with subprocess.Popen([load, str(self.port), group], stdin=subprocess.PIPE, stdout=subprocess.PIPE, text=True) as it:
-            words = it.stdout.readline().split()
+            words = there(it.stdout).readline().split()
             if not words:
                 raise SystemExit("a call was not done")
             used, resident = self.microseconds() - used, self.memory() / 1024
-            it.stdin.close()
+            there(it.stdin).close()
         return int(words[1]) / float(words[3]), used / int(words[1]), resident
 
 
 @contextlib.contextmanager
-def served(program, sessions):
+def served(program: object, sessions: int) -> Iterator[Served]:
     """A server of the cell for so many connections, which ends with the block, as does its folder."""
     with tempfile.TemporaryDirectory(prefix="keys-") as folder:
         objects, place = pathlib.Path(folder) / "objects", pathlib.Path(folder) / "place"
@@ -67,10 +69,10 @@ def served(program, sessions):
 class Pairs:
     """Two figures of each of some runs that followed each other."""
 
-    def __init__(self, found) -> None:
+    def __init__(self, found: Sequence[Sequence[float]]) -> None:
         self.found = found
 
-    def said(self, over):
+    def said(self, over: Callable[[float, float], float]) -> str:
         """The medians, and how much more the second one is: `over` says what of two figures is their ratio."""
         first, second = (statistics.median(it[at] for it in self.found) for at in (0, 1))
         ratios = sorted(over(*it) for it in self.found)
@@ -78,13 +80,13 @@ class Pairs:
                 f"({ratios[0]:.3f} to {ratios[-1]:.3f})")
 
 
-def measured(program, load, connections, kinds, calls, name="cell"):
+def measured(program: object, load: pathlib.Path, connections: int, kinds: str, calls: int, name: str = "cell") -> tuple[float, float]:
     """Calls a second, and microseconds of the server's processor time for each."""
     with served(program, connections) as it:
         return it.load(load, f"{name}:{connections}:{min(calls // connections, MOST)}:{kinds}")[:2]
 
 
-def compare(options, load) -> None:
+def compare(options: argparse.Namespace, load: pathlib.Path) -> None:
     for title, connections, call in LOADS:
         calls = min(options.calls, MOST * connections)
         runs, again = [], []
@@ -102,7 +104,7 @@ def compare(options, load) -> None:
             print(f"{title}, asked for again: {rate:,.1f} a second, processor time {used:.1f}", flush=True)
 
 
-def memory(options, load) -> None:
+def memory(options: argparse.Namespace, load: pathlib.Path) -> None:
     """The memory of 48,000 calls of 16 connections."""
     kinds = [("plain", options.program, "cell", ""), ("under keys", options.program, "!cell", "!")]
     kinds += [("before", options.before, "cell", "")] if options.before else []
@@ -116,7 +118,7 @@ def memory(options, load) -> None:
                   f"({min(found):.2f} to {max(found):.2f})", flush=True)
 
 
-def opening(options) -> None:
+def opening(options: argparse.Namespace) -> None:
     """How long the last of 64 connections waits for the answer to its `open`, with 62 names there."""
     found = []
     for _ in range(options.runs):

@@ -11,7 +11,9 @@ import os
 import subprocess
 import threading
 import time
+from collections.abc import Iterable, Iterator
 
+from gate.tried import there
 from tools.ready import TOP, given_words, program
 
 OBJECTS = TOP / "examples" / "objects" / "cell.pp"
@@ -20,14 +22,14 @@ AT_ONCE = 1_000
 HISTORIES = (1, 30_000, 60_000)
 
 
-def lines_of(number):
+def lines_of(number: int) -> Iterator[tuple[str, str]]:
     """The three lines of a call, and the answer to each."""
     yield f"call s1 put {number}\n", f"call {number}\nstarted {number}\n"
     yield f"steps {number}\n", f"steps {number} 4\n"
     yield f"finish {number}\n", f"done {number}\n"
 
 
-def text_of(numbers):
+def text_of(numbers: Iterable[int]) -> tuple[bytes, bytes]:
     """The lines of calls, and their answers."""
     both = [line for number in numbers for line in lines_of(number)]
     return "".join(it for it, _ in both).encode(), "".join(it for _, it in both).encode()
@@ -39,16 +41,17 @@ class Script:
     def __init__(self) -> None:
         words = [program(), "run", OBJECTS, "/dev/stdin"]
         self.process = subprocess.Popen(words, stdin=subprocess.PIPE, stdout=subprocess.PIPE, bufsize=0)
-        self.process.stdin.write(b"object cell\n")
+        self.stdin, self.stdout = there(self.process.stdin), there(self.process.stdout)
+        self.stdin.write(b"object cell\n")
         self.next = 1
 
-    def ask(self, text, answer) -> None:
+    def ask(self, text: bytes, answer: bytes) -> None:
         """Sends a text and reads its answer, which has to be this one."""
-        sender = threading.Thread(target=self.process.stdin.write, args=(text,)) if len(text) > 4096 else None
-        sender.start() if sender else self.process.stdin.write(text)
+        sender = threading.Thread(target=self.stdin.write, args=(text,)) if len(text) > 4096 else None
+        sender.start() if sender else self.stdin.write(text)
         found = bytearray()
         while len(found) < len(answer):
-            piece = os.read(self.process.stdout.fileno(), 1 << 16)
+            piece = os.read(self.stdout.fileno(), 1 << 16)
             if not piece:
                 break
             found += piece
@@ -57,7 +60,7 @@ class Script:
         if found != answer:
             raise SystemExit(f"another answer: {bytes(found[:200])!r}")
 
-    def call(self, count):
+    def call(self, count: int) -> float:
         """Makes so many calls in bulk, and gives the seconds that they took."""
         text, answer = text_of(range(self.next, self.next + count))
         began = time.perf_counter()
@@ -65,7 +68,7 @@ class Script:
         self.next += count
         return time.perf_counter() - began
 
-    def call_in_turn(self, count):
+    def call_in_turn(self, count: int) -> float:
         """Makes so many calls, each line once the one before it was answered, and gives the seconds that they took."""
         asked = [(a.encode(), b.encode()) for n in range(self.next, self.next + count) for a, b in lines_of(n)]
         began = time.perf_counter()
@@ -74,14 +77,14 @@ class Script:
         self.next += count
         return time.perf_counter() - began
 
-    def reach(self, number) -> None:
+    def reach(self, number: int) -> None:
         """Makes calls until so many were made."""
         while self.next <= number:
             self.call(min(AT_ONCE, number + 1 - self.next))
 
-    def end(self):
+    def end(self) -> float:
         """Ends the script, and gives the most memory that was resident, in MB."""
-        self.process.stdin.close()
+        self.stdin.close()
         _, status, used = os.wait4(self.process.pid, 0)
         self.process.returncode = os.waitstatus_to_exitcode(status)
         if self.process.returncode:
@@ -89,7 +92,7 @@ class Script:
         return used.ru_maxrss / 1024
 
 
-def measure():
+def measure() -> list[float]:
     """The figures of one run."""
     script, figures = Script(), []
     for history in HISTORIES:

@@ -15,6 +15,7 @@ import pathlib
 import statistics
 import tempfile
 import time
+from collections.abc import Iterator
 
 from gate.kept import Server, Talk
 from gate.tried import check, given_words, holds
@@ -33,7 +34,7 @@ CALLS, LOT = 20_000, 50
 
 
 @contextlib.contextmanager
-def served(*words):
+def served(*words: str) -> Iterator[Server]:
     """A server that runs, over a folder that ends with it."""
     with tempfile.TemporaryDirectory(prefix="seen-") as folder:
         it = Server(pathlib.Path(folder), SOURCE, "--sync", "1000", "--at-once", "2000", *words)
@@ -45,7 +46,7 @@ def served(*words):
 
 
 @contextlib.contextmanager
-def waiting(server, count):
+def waiting(server: Server, count: int) -> Iterator[list[str]]:
     """So many clients that wait, as the numbers of their calls."""
     with contextlib.ExitStack() as stack:
         numbers = []
@@ -58,7 +59,7 @@ def waiting(server, count):
         yield numbers
 
 
-def ask(talk, question):
+def ask(talk: Talk, question: str) -> list[str]:
     """Asks to see something, and gives the lines of the answer."""
     talk.say(question)
     first = talk.hear()
@@ -66,7 +67,7 @@ def ask(talk, question):
     return [first, *(talk.hear() for _ in range(count))]
 
 
-def questions(options) -> None:
+def questions(options: argparse.Namespace) -> None:
     """What one question costs, by its word."""
     with served() as server, waiting(server, options.waiting) as numbers, Talk(server, "open buffer", "opened buffer") as one:
         check(ask(one, f"why {numbers[0]}")[0], f"why {numbers[0]} Waiting 1", "an answer")
@@ -83,9 +84,9 @@ def questions(options) -> None:
             print(f"{word}, {options.waiting} wait, {size:,} bytes: {statistics.median(found):.1f} microseconds ({min(found):.1f} to {max(found):.1f})", flush=True)
 
 
-def idle(options) -> None:
+def idle(options: argparse.Namespace) -> None:
     """What a status costs a second, of a server in which many wait and nobody asks."""
-    found = ([], [])
+    found: tuple[list[float], list[float]] = ([], [])
     for turn in range(options.runs):
         for at in (0, 1) if turn % 2 else (1, 0):
             with served(*("--status", "1") * at) as server, waiting(server, options.waiting):
@@ -98,9 +99,9 @@ def idle(options) -> None:
     print(f"idle, {options.waiting} wait, microseconds a second without and with --status 1: {said}; {more / 10_000:.3f} of 100 parts of a processor more", flush=True)
 
 
-def calls(options) -> None:
+def calls(options: argparse.Namespace) -> None:
     """What a call costs without and with a status."""
-    found = ([], [])
+    found: tuple[list[tuple[float, float]], list[tuple[float, float]]] = ([], [])
     for turn in range(2 * options.runs):
         for at in (0, 1) if turn % 2 else (1, 0):
             with served(*("--status", "1") * at) as server, waiting(server, options.waiting), Talk(server, "open buffer", "opened buffer") as one:

@@ -22,8 +22,10 @@ import pathlib
 import statistics
 import subprocess
 import tempfile
+from collections.abc import Callable, Container, Mapping, Sequence
 
 from gate.served import Server
+from gate.tried import there
 from tools.ready import TOP, given_words, program
 
 CELL = """object {name};
@@ -35,6 +37,8 @@ end;
 """
 SHARED = "1:([get], put)"
 BUFFER = (TOP / "examples" / "objects" / "bounded_buffer.pp").read_text(encoding="ascii")
+# What a run told: calls, seconds, the processor seconds of the server and of the load.
+Ran = tuple[int, float, float, float]
 # The calls of a connection at most.
 MOST = 3_000
 PROCESSORS = os.cpu_count() or 1
@@ -44,30 +48,30 @@ GETS, MIXED = "get", ",".join(["get"] * 9 + ["put #"])
 class Case:
     """A title, a source of objects, the groups of the load, and what the model says: a function of the numbers."""
 
-    def __init__(self, title, source, groups, rate) -> None:
+    def __init__(self, title: str, source: str, groups: Sequence[tuple[str, int, str]], rate: Callable[["Numbers"], float]) -> None:
         self.title, self.source, self.groups, self.rate = title, source, groups, rate
 
-    def words(self, calls):
+    def words(self, calls: int) -> list[str]:
         """The groups as the load takes them: the calls are spread over all connections."""
         connections = sum(it[1] for it in self.groups)
         return [f"{name}:{count}:{min(calls // connections, MOST)}:{kinds}" for name, count, kinds in self.groups]
 
 
-def counted(connections):
+def counted(connections: int) -> str:
     return f"{connections} connection{'s' * (connections > 1)}"
 
 
-def gets(connections):
+def gets(connections: int) -> Case:
     return Case(f"get of `{SHARED}`, {counted(connections)}", CELL.format(name="cell", path=SHARED), [("cell", connections, GETS)],
                 lambda it: min(connections / it.latency["get"], 1 / it.machine("get")))
 
 
-def puts(objects, connections):
+def puts(objects: int, connections: int) -> Case:
     """Puts of so many objects, over so many connections in all."""
     names = [f"cell{it}" for it in range(objects)]
     source = "".join(CELL.format(name=it, path=SHARED) for it in names)
 
-    def rate(numbers):
+    def rate(numbers: "Numbers") -> float:
         alone = connections / numbers.latency["put"]
         return alone if connections == 1 else min(alone, objects / numbers.held("put"), 1 / numbers.machine("put"))
 
@@ -101,39 +105,39 @@ CASES = [
 class Numbers:
     """The numbers of the model, in seconds, from the cases that are measured for them."""
 
-    def __init__(self, found) -> None:
-        self.latency = {name: 1 / found[it].rate for name, it in ALONE.items()}
+    def __init__(self, found: Mapping[Case, "Measured"]) -> None:
+        self.latency: dict[str, float] = {name: 1 / found[it].rate for name, it in ALONE.items()}
         self.overlap, self.turn = 1 / found[OVERLAP].rate, 1 / found[TURNS].rate
 
-    def machine(self, name):
+    def machine(self, name: str) -> float:
         return self.overlap + (self.latency[name] - self.latency["get"]) / PROCESSORS
 
-    def held(self, name):
+    def held(self, name: str) -> float:
         return self.turn + self.latency[name] - self.latency["put"]
 
 
 class Measured:
     """Calls a second, and the processor seconds of a call, of the server and of the load."""
 
-    def __init__(self, runs) -> None:
+    def __init__(self, runs: Sequence[Ran]) -> None:
         self.rates = sorted(calls / seconds for calls, seconds, _, _ in runs)
         self.rate = statistics.median(self.rates)
         self.server, self.load = (statistics.median(it[at] / it[0] for it in runs) for at in (2, 3))
 
 
-def loaded(load, server, words):
+def loaded(load: pathlib.Path, server: Server, words: Sequence[str]) -> Ran:
     """Loads a server: calls, seconds, the processor seconds of the server and of the load."""
     used = server.processor()
     with subprocess.Popen([load, server.place, *words], stdin=subprocess.PIPE, stdout=subprocess.PIPE, text=True) as it:
-        told = it.stdout.readline().split()
+        told = there(it.stdout).readline().split()
         used = server.processor() - used
-        it.stdin.close()
+        there(it.stdin).close()
         if it.wait():
             raise SystemExit("the load failed")
     return int(told[1]), float(told[3]), used, float(told[5])
 
 
-def ran(program, load, case, calls):
+def ran(program: object, load: pathlib.Path, case: Case, calls: int) -> Ran:
     """One run of a case."""
     connections = sum(it[1] for it in case.groups)
     with tempfile.TemporaryDirectory() as folder:
@@ -147,7 +151,7 @@ def ran(program, load, case, calls):
     return found
 
 
-def print_table(found, numbers, taken) -> None:
+def print_table(found: Mapping[Case, Measured], numbers: Numbers, taken: Container[Case]) -> None:
     print(f"{'case':51} {'calls a second':>14} {'least':>8} {'most':>8} {'model':>8} {'ratio':>6}  processor us of server, load")
     for case, it in found.items():
         said = case.rate(numbers)
@@ -155,7 +159,7 @@ def print_table(found, numbers, taken) -> None:
               f"{it.server * 1e6:.1f}, {it.load * 1e6:.1f}{' *' if case in taken else ''}")
 
 
-def print_rows(found, numbers, taken) -> None:
+def print_rows(found: Mapping[Case, Measured], numbers: Numbers, taken: Container[Case]) -> None:
     for case, it in found.items():
         said = case.rate(numbers)
         model = "taken from it | " if case in taken else f"{said:,.0f} | {it.rate / said:.2f} "
@@ -172,7 +176,7 @@ def main() -> None:
         load = pathlib.Path(folder) / "load"
         subprocess.run(["cc", "-O2", "-pthread", "-o", load, TOP / "bench" / "load.c"], check=True)
         # The runs go round the cases, so that what else the machine does falls on all.
-        runs = {it: [] for it in CASES}
+        runs: dict[Case, list[Ran]] = {it: [] for it in CASES}
         for _ in range(args.runs):
             for case in CASES:
                 runs[case].append(ran(program(), load, case, args.calls))

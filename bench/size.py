@@ -24,9 +24,12 @@ import shutil
 import socket
 import subprocess
 import tempfile
+from collections.abc import Callable, Iterable, Iterator, Sequence
+from typing import TypeVar
 
 from bench.peer import Redis
 from gate.served import Server
+from gate.tried import there
 from tools.ready import given_words, program
 
 OBJECTS = """object line;
@@ -72,10 +75,17 @@ BYTES = (10, 200)
 WAYS = ("run", "serve", "keep", "audit", "redis")
 ROUNDS = 3
 LOT = 16
+# A call and its answer, a request of Redis and its answer, and what calls take and what is taken without them.
+Call = tuple[str, str]
+Request = tuple[bytes, bytes]
+Taken = tuple[float, ...]
+# Of each form of body what calls take, and the steps of the last ones.
+Found = dict[str, tuple[Taken | None, list[int] | None]]
+Self = TypeVar("Self", bound="Lots")
 ENDED = re.compile(rb"(?:done|refused) \d+ ?(.*)")
 
 
-def text(number, length):
+def text(number: int, length: int) -> str:
     return f"{number:0{length}}"
 
 
@@ -83,22 +93,23 @@ class Row:
     """A form of body on an object: its title, call N (from 0) with its answer, the calls that fill the part, and the like request of
     Redis with its answer, and those that fill it, where there is one."""
 
-    def __init__(self, name, title, call, fill, request=None, filling=None) -> None:
+    def __init__(self, name: str, title: str, call: Callable[[int], Call], fill: list[str],
+                 request: Callable[[int], Request] | None = None, filling: list[Request] | None = None) -> None:
         self.name, self.title, self.call, self.fill, self.request, self.filling = name, title, call, fill, request, filling
 
 
-def asked(*words):
+def asked(*words: object) -> bytes:
     """A request of Redis."""
     texts = [str(it) for it in words]
     return f"*{len(texts)}\r\n".encode() + b"".join(f"${len(it)}\r\n{it}\r\n".encode() for it in texts)
 
 
-def told(value):
+def told(value: int | str) -> bytes:
     """What Redis answers: a number or a text."""
     return f":{value}\r\n".encode() if isinstance(value, int) else f"${len(value)}\r\n{value}\r\n".encode()
 
 
-def queue_rows(size, length):
+def queue_rows(size: int, length: int) -> Iterator[Row]:
     new, old = lambda n: text(size + n, length), lambda n: text(n, length)
     fill = [f"put '{old(it)}'" for it in range(size)]
     filling = [(asked("RPUSH", "line", old(it)), told(it + 1)) for it in range(size)]
@@ -114,7 +125,7 @@ def queue_rows(size, length):
         yield Row("line", title, call, fill, request, filling)
 
 
-def table_rows(name, size, length):
+def table_rows(name: str, size: int, length: int) -> Iterator[Row]:
     wide = length if name == "tally" else 8
     key = lambda n: text(n % size, wide)
     value = (lambda n: str(n + 1)) if name == "tally" else (lambda n: text(n, length))
@@ -135,7 +146,7 @@ def table_rows(name, size, length):
         yield Row(name, title, call, fill, request, filling)
 
 
-def array_rows(size, length):
+def array_rows(size: int, length: int) -> Iterator[Row]:
     old, new = lambda n: text(n % size, length), lambda n: text(size + n, length)
     fill = [f"put {it} '{old(it)}'" for it in range(size)]
     filling = [(asked("RPUSH", "shelf", old(it)), told(it + 1)) for it in range(size)]
@@ -147,17 +158,19 @@ def array_rows(size, length):
         yield Row("shelf", title, call, fill, request, filling)
 
 
-def rows(size, length):
+def rows(size: int, length: int) -> list[Row]:
     return [*queue_rows(size, length), *table_rows("tally", size, length), *table_rows("book", size, length), *array_rows(size, length)]
 
 
 class Running:
     """The program on scripts."""
 
-    def __init__(self, folder, options) -> None:
-        self.folder, self.options, self.steps, self.filling = folder, options, {}, {}
+    def __init__(self, folder: pathlib.Path, options: argparse.Namespace) -> None:
+        self.folder, self.options = folder, options
+        self.steps: dict[str, list[int]] = {}
+        self.filling: dict[str, float] = {}
 
-    def used(self, row, count):
+    def used(self, row: Row, count: int) -> float:
         """What a script of so many calls on a part that was filled takes: seconds of a processor, or instructions."""
         script, counts, answers, notes = (self.folder / it for it in ("script", "counts", "answers", "notes"))
         calls = row.fill + [row.call(it)[0] for it in range(count)]
@@ -170,14 +183,14 @@ class Running:
             ran = subprocess.Popen([*tool, program(), "run", self.folder / "objects", script], stdout=out, stderr=err)
             _, _, usage = os.wait4(ran.pid, 0)
         said = answers.read_bytes().split(b"\n")
-        ends = [ENDED.fullmatch(it)[1].decode() for it in said if ENDED.fullmatch(it)]
+        ends = [end[1].decode() for it in said if (end := ENDED.fullmatch(it))]
         if ends[len(row.fill) :] != [row.call(it)[1] for it in range(count)]:
             raise SystemExit(f"another answer: {said[-3:]!r}")
         if count:
             self.steps[row.title] = [int(it.split()[2]) for it in said if it.startswith(b"steps ")][-2:]
-        return int(re.search(rb"Collected : (\d+)", notes.read_bytes())[1]) if tool else usage.ru_utime + usage.ru_stime
+        return int(there(re.search(rb"Collected : (\d+)", notes.read_bytes()))[1]) if tool else usage.ru_utime + usage.ru_stime
 
-    def measure(self, row, calls):
+    def measure(self, row: Row, calls: int) -> Taken:
         # (a part is filled alike for all forms of body on its object)
         if row.name not in self.filling:
             self.filling[row.name] = self.used(row, 0)
@@ -185,12 +198,12 @@ class Running:
         return self.used(row, calls) / calls * unit, self.filling[row.name] / calls * unit
 
 
-def spelled(words):
+def spelled(words: Iterable[str]) -> bytes:
     """The bytes of texts in a value, each behind its length."""
     return b"".join(len(it).to_bytes(2, "big") + it.encode() for it in words)
 
 
-def opening(name, size, length):
+def opening(name: str, size: int, length: int) -> bytes:
     """The bytes of a part that is filled: its kind, how many entries it has, and these."""
     old = lambda n: text(n, length)
     kind, entry = {
@@ -205,10 +218,10 @@ def opening(name, size, length):
 class Auditing:
     """The program on traces."""
 
-    def __init__(self, folder, size, length) -> None:
+    def __init__(self, folder: pathlib.Path, size: int, length: int) -> None:
         self.folder, self.size, self.length = folder, size, length
 
-    def used(self, row, count):
+    def used(self, row: Row, count: int) -> float:
         """The processor time of an audit of so many calls."""
         trace, end = self.folder / "trace", "refused" if row.title.endswith("refused") else "done"
         with open(trace, "w", encoding="ascii") as out:
@@ -217,13 +230,13 @@ class Auditing:
                 call, answer = row.call(number)
                 out.write(f"start {number + 1} s1 {call}\nend {number + 1} {f'{end} {answer}'.strip()}\n")
         process = subprocess.Popen([program(), "audit", self.folder / "objects", trace], stdout=subprocess.PIPE)
-        said = process.stdout.read()
+        said = there(process.stdout).read()
         _, _, usage = os.wait4(process.pid, 0)
         if said != f"legal {count}\n".encode():
             raise SystemExit(f"another answer: {said!r}")
         return usage.ru_utime + usage.ru_stime
 
-    def measure(self, row, calls):
+    def measure(self, row: Row, calls: int) -> Taken:
         # (a call of an audit takes little beside the start of a process)
         calls *= 20
         return tuple(self.used(row, it) / calls * 1e6 for it in (calls, 0))
@@ -232,16 +245,16 @@ class Auditing:
 class Lots:
     """A connection to a server, which sends requests in lots."""
 
-    def __init__(self, port) -> None:
+    def __init__(self, port: int) -> None:
         self.wire, self.held = socket.create_connection(("127.0.0.1", port)), b""
 
-    def __enter__(self):
+    def __enter__(self: Self) -> Self:
         return self
 
-    def __exit__(self, *_) -> None:
+    def __exit__(self, *_: object) -> None:
         self.wire.close()
 
-    def line(self):
+    def line(self) -> bytes:
         while b"\n" not in self.held:
             more = self.wire.recv(1 << 16)
             if not more:
@@ -250,9 +263,9 @@ class Lots:
         line, _, self.held = self.held.partition(b"\n")
         return line
 
-    def call(self, calls):
+    def call(self, calls: Sequence[str]) -> list[str]:
         """Makes calls, and answers how each ended."""
-        found = []
+        found: list[str] = []
         for at in range(0, len(calls), LOT):
             lot = calls[at : at + LOT]
             self.wire.sendall(b"".join(f"call {it}\n".encode() for it in lot))
@@ -261,7 +274,7 @@ class Lots:
                     found.append(end[1].decode())
         return found
 
-    def ask(self, pairs) -> None:
+    def ask(self, pairs: Sequence[Request]) -> None:
         """Sends requests of Redis, each of which has this answer."""
         for at in range(0, len(pairs), LOT):
             lot = pairs[at : at + LOT]
@@ -276,10 +289,10 @@ class Lots:
 class Serving:
     """The program as a server of one session, by the way `serve` or `keep`."""
 
-    def __init__(self, folder, way) -> None:
+    def __init__(self, folder: pathlib.Path, way: str) -> None:
         self.folder, self.way = folder, way
 
-    def measure(self, row, calls):
+    def measure(self, row: Row, calls: int) -> Taken:
         with tempfile.TemporaryDirectory(dir=self.folder) as place:
             more = ["--sync", "1000"] if self.way == "keep" else ["--sessions", "1"]
             notes = self.folder / "notes"
@@ -296,20 +309,20 @@ class Serving:
 class Beside:
     """Redis, which keeps nothing."""
 
-    def __init__(self, folder) -> None:
+    def __init__(self, folder: pathlib.Path) -> None:
         self.folder = folder
 
-    def measure(self, row, calls):
+    def measure(self, row: Row, calls: int) -> Taken | None:
         if not row.request:
             return None
         with Redis(self.folder, "--appendonly", "no") as server, Lots(server.port) as it:
-            it.ask(row.filling)
+            it.ask(there(row.filling))
             used = server.microseconds()
             it.ask([row.request(n) for n in range(calls)])
             return (server.microseconds() - used) / calls, 0
 
 
-def once(way, size, length, options):
+def once(way: str, size: int, length: int, options: argparse.Namespace) -> Found:
     """Of each form of body what its calls take by this way, and what of that is taken without them, a call; and the steps of its
     last calls where it is `run`."""
     with tempfile.TemporaryDirectory(prefix="size-") as made:
@@ -322,18 +335,18 @@ def once(way, size, length, options):
             by = Auditing(folder, size, length)
         else:
             by = Beside(folder) if way == "redis" else Serving(folder, way)
-        found = {}
+        found: Found = {}
         for row in rows(size, length):
             if options.only in f"{row.name}: {row.title}":
                 found[f"{row.name}: {row.title}"] = by.measure(row, options.calls), getattr(by, "steps", {}).get(row.title)
         return found
 
 
-def measured(way, length, options):
+def measured(way: str, length: int, options: argparse.Namespace) -> list[dict[str, tuple[float, list[int] | None]]]:
     """Of each size, and of each form of body, its figure by this way, the least of all rounds, and its steps."""
     rounds = 1 if options.instructions else options.rounds
     found = [[once(way, it, length, options) for it in options.sizes] for _ in range(rounds)]
-    least = []
+    least: list[dict[str, tuple[float, list[int] | None]]] = []
     for of_size in zip(*found):
         least.append({})
         for title, (figures, steps) in of_size[0].items():
@@ -343,7 +356,7 @@ def measured(way, length, options):
     return least
 
 
-def shown(figure):
+def shown(figure: float) -> str:
     return f"{figure:,.1f}" if figure < 1_000 else f"{figure:,.0f}"
 
 
@@ -367,6 +380,6 @@ def main() -> None:
             print("| Body | " + " | ".join(f"{it:,}" for it in options.sizes) + " | Ratio |\n" + "|---" * (2 + len(options.sizes)) + "|")
             for title in found[0]:
                 row = [it[title][0] for it in found]
-                steps = [sum(it[title][1]) for it in found] if way == "run" else []
+                steps = [sum(there(it[title][1])) for it in found] if way == "run" else []
                 ratio = (f"{row[-1] / row[0]:.2f}" if row[0] > 0 else "") + (f" (steps {steps[-1] / steps[0]:.2f})" if steps else "")
                 print(f"| {title} | " + " | ".join(shown(it) for it in row) + f" | {ratio} |", flush=True)

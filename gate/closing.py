@@ -14,8 +14,9 @@ import socket
 import sys
 import threading
 import time
-from collections.abc import Mapping
-from typing import Union
+from collections.abc import Callable, Container, Iterator, Mapping, Sequence
+from types import FrameType
+from typing import Any, Union
 
 from clients.python import pathclient
 from clients.python.pathclient import Cancelled, Lost, Object
@@ -29,7 +30,7 @@ SECONDS, HELD = 30, 0.2
 WAITS, SLEEPS = {"7", "42", "44", "45", "232"}, {"230", "202"}
 
 
-def awaited(what, holds) -> None:
+def awaited(what: str, holds: Callable[[], object]) -> None:
     """Waits until this holds."""
     end = time.monotonic() + SECONDS
     while not holds():
@@ -74,10 +75,10 @@ class Answering(Fake):
                 if "then" in answers:
                     self.goes_on.wait()
 
-    def has_heard(self, word) -> bool:
+    def has_heard(self, word: str) -> bool:
         return any(it.split()[0] == word for it in list(self.heard))
 
-    def caught_up(self, place):
+    def caught_up(self, place: str) -> list[str]:
         """What it has heard in all, once it has heard all and the connections have ended."""
         self.goes_on.set()
         if self.connections[-1] is not HOLDS:
@@ -98,7 +99,7 @@ class Call:
     """A call of `get` in a thread of its own. Where `held` is given, its lines are counted, and at the one of number
     `moment` it is held, and `held` called."""
 
-    def __init__(self, cell, *arguments, moment=0, held=None, **options) -> None:
+    def __init__(self, cell: Object, *arguments: Any, moment: int = 0, held: Callable[[], object] | None = None, **options: Any) -> None:
         self.cell, self.arguments, self.options = cell, arguments, options
         self.moment, self.held, self.lines, self.place = moment, held, 0, ""
         self.came: object = None
@@ -116,12 +117,13 @@ class Call:
         finally:
             sys.settrace(None)
 
-    def watch(self, frame, event, _: object):
+    def watch(self, frame: FrameType, event: str, _: object) -> Callable[..., Any] | None:
         if frame.f_code.co_filename != pathclient.__file__:
             return None
         if event == "line":
             self.lines += 1
             if self.lines == self.moment:
+                assert self.held is not None
                 self.held()
                 self.place = f"{frame.f_code.co_name}, line {frame.f_lineno}"
         return self.watch
@@ -129,7 +131,7 @@ class Call:
     def has_ended(self) -> bool:
         return not self.thread.is_alive()
 
-    def waits(self, kinds=WAITS):
+    def waits(self, kinds: Container[str] = WAITS) -> bool:
         """Whether the thread waits in the system."""
         try:
             said = pathlib.Path(f"/proc/self/task/{self.thread.native_id}/syscall").read_text(encoding="ascii")
@@ -138,7 +140,7 @@ class Call:
             return time.monotonic() > self.begun + 5 * HELD
         return said.split()[0] in kinds
 
-    def is_lost(self, place, *others) -> None:
+    def is_lost(self, place: str, *others: object) -> None:
         """Complains where the call does not end by Lost, with its word and the call, or in one of these other ways."""
         awaited(f"the end of a call closed at {place}", self.has_ended)
         came = self.came
@@ -148,7 +150,7 @@ class Call:
             raise AssertionError(f"closed at {place}: {type(came).__name__}({came})")
 
 
-def left(server, cell, place) -> None:
+def left(server: Answering, cell: Object, place: str) -> None:
     """Complains where an object that was closed still calls, or holds a connection."""
     heard = server.caught_up(place)
     Call(cell).is_lost(f"{place}: the call after it")
@@ -157,18 +159,23 @@ def left(server, cell, place) -> None:
         raise AssertionError(f"closed at {place}: the server heard {more} after it")
 
 
+# What makes the object of a server, and the calls of it that are under way.
+Begun = Callable[..., tuple[Object, list[Call]]]
+
+
 class Scene:
     """A call, the server that it meets, and what it may be told in place of Lost where the server has heard it.
 
     `begun` gives the object, and the calls that are under way, each of which is Lost too. Where the call waits for
     ever, it does behind the server's line number `last`; where it goes on for ever, `most` of its lines are tried."""
 
-    def __init__(self, begun, *connections, others=(), last=None, most=None, **options) -> None:
+    def __init__(self, begun: Begun, *connections: Answers, others: Sequence[object] = (), last: int | None = None,
+                 most: int | None = None, **options: Any) -> None:
         self.begun, self.connections, self.others, self.options = begun, connections, others, options
         self.last, self.most = last, most
 
     @contextlib.contextmanager
-    def played(self):
+    def played(self) -> Iterator[tuple[Answering, Object, list[Call]]]:
         """A server, an object of it, and the calls that are under way."""
         server = Answering(*self.connections)
         try:
@@ -179,12 +186,13 @@ class Scene:
         finally:
             server.stop()
 
-    def lines(self):
+    def lines(self) -> int:
         """How many lines the call has."""
         with self.played() as (server, cell, _):
-            call, seen = Call(cell, held=cell.close, **self.options), []
+            call = Call(cell, held=cell.close, **self.options)
+            seen: list[int] = []
 
-            def stays():
+            def stays() -> bool:
                 """Whether nothing has come of it for a while."""
                 seen.append(call.lines)
                 stood = len(seen) > 200 and len(set(seen[-200:])) == 1
@@ -193,10 +201,11 @@ class Scene:
             awaited("the end of a call", lambda: call.has_ended() or self.last and stays())
             return call.lines
 
-    def closed_at(self, moment) -> None:
+    def closed_at(self, moment: int) -> None:
         """Closes the object at this line of the call."""
         with self.played() as (server, cell, before):
-            closer, others = threading.Thread(target=cell.close, daemon=True), []
+            closer = threading.Thread(target=cell.close, daemon=True)
+            others: list[object] = []
 
             def close() -> None:
                 closer.start()
@@ -213,7 +222,7 @@ class Scene:
                 it.is_lost(f"{call.place}: the call before it")
             left(server, cell, call.place)
 
-    def faults(self):
+    def faults(self) -> Iterator[str]:
         """What is wrong, by line."""
         count = self.most or self.lines()
         for moment in range(1, count + 1):
@@ -230,7 +239,8 @@ class Scene:
 class Wait:
     """A call that waits in the system at a server that holds at that step, behind its line number `last`."""
 
-    def __init__(self, begun, *connections, last, kinds=WAITS, arguments=(), **options) -> None:
+    def __init__(self, begun: Begun, *connections: Answers, last: int, kinds: Container[str] = WAITS,
+                 arguments: Sequence[Any] = (), **options: Any) -> None:
         self.begun, self.connections, self.last, self.kinds = begun, connections, last, kinds
         self.arguments, self.options = arguments, options
 
@@ -251,12 +261,12 @@ class Wait:
             server.stop()
 
 
-def opened(server, **options):
+def opened(server: Answering, **options: Any) -> tuple[Object, list[Call]]:
     """An object that is open."""
     return Object(server.port, "cell", **options), []
 
 
-def lost(server, **options):
+def lost(server: Answering, **options: Any) -> tuple[Object, list[Call]]:
     """An object whose connection broke."""
     cell = Object(server.port, "cell", **options)
     with contextlib.suppress(Lost):
@@ -264,7 +274,7 @@ def lost(server, **options):
     return cell, []
 
 
-def unreachable(server):
+def unreachable(server: Answering) -> tuple[Object, list[Call]]:
     """An object whose connection broke, and whose server makes no new one: its queue is full."""
     cell = Object(server.port, "cell", wait=99)
     with contextlib.suppress(Lost):
@@ -278,7 +288,7 @@ def unreachable(server):
     return cell, []
 
 
-def behind(server):
+def behind(server: Answering) -> tuple[Object, list[Call]]:
     """An object of which a call has the turn."""
     cell = Object(server.port, "cell")
     call = Call(cell)

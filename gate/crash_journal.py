@@ -21,12 +21,13 @@ import pathlib
 import subprocess
 import sys
 import tempfile
+from collections.abc import Iterable, Sequence
 
 from gate.cases import TOP
 from gate.drawn_objects import OBJECTS
 from gate.seeds import Drawer
-from gate.slow_audit import bare, datum, ending_of, value_of, words_of
-from gate.slow_world import written
+from gate.slow_audit import Word, bare, datum, ending_of, value_of, words_of
+from gate.slow_world import Contents, Object, written
 from gate.tried import Wrong, new_folder, whole
 from tools import make_ready, ready
 
@@ -38,17 +39,20 @@ KEPT = 16
 PLACES, NAMED = range(1, 7), range(1, 4)
 # What may follow a history is tried so often, by so many calls.
 FUTURES, CALLS = 4, 6
+# A call that is kept: its key, its number as it was told, the words of its answer, and its own.
+Kept = tuple[int, int, tuple[Word, ...], tuple[Word, ...]]
 
 
-def whole_number(word):
+def whole_number(word: Word) -> int:
     return int(bare(word))
 
 
 class Client:
-    def __init__(self, session, name, keys):
-        self.session, self.name, self.keys, self.kept = session, name, keys, []
+    def __init__(self, session: int, name: str, keys: int) -> None:
+        self.session, self.name, self.keys = session, name, keys
+        self.kept: list[Kept] = []
 
-    def remember(self, told, answer, call):
+    def remember(self, told: int, answer: tuple[Word, ...], call: tuple[Word, ...]) -> None:
         self.keys += 1
         self.kept = [*self.kept, (self.keys, told, answer, call)][-KEPT:]
 
@@ -56,73 +60,79 @@ class Client:
 class Epoch:
     """What a front says, and what the lines behind it make of that."""
 
-    def __init__(self, made, lines):
-        self.made, self.contents, self.past, self.clients, self.carried = made, {}, [], {}, {}
-        self.number, self.base, self.greatest, self.events, self.running = 0, 0, 0, [], None
+    def __init__(self, made: Object, lines: Iterable[bytes]) -> None:
+        self.made, self.number, self.base, self.greatest = made, 0, 0, 0
+        self.contents: Contents = {}
+        self.past: list[tuple[str, str]] = []
+        self.clients: dict[int, Client] = {}
+        self.carried: dict[int, int] = {}
+        self.events: list[tuple[str, str]] = []
+        self.running: tuple[int, int, list[Word]] | None = None
         for line in lines:
             self.hear(words_of(line))
 
-    def hear(self, words):
+    def hear(self, words: list[Word]) -> None:
         verb, *rest = words
         getattr(self, f"hear_{bare(verb)}")(rest)
 
-    def hear_object(self, words):
+    def hear_object(self, words: list[Word]) -> None:
         if bare(words[0]) != self.made.name or words[1] != b"epoch":
             raise Wrong("the front of another object")
         self.number = whole_number(words[2])
 
-    def hear_source(self, _):
+    def hear_source(self, _: object) -> None:
         pass
 
-    def hear_part(self, words):
+    def hear_part(self, words: list[Word]) -> None:
         name = bare(words[0])
         self.contents[name] = value_of(self.made.parts[name], bare(words[1]))
 
-    def hear_past(self, words):
+    def hear_past(self, words: list[Word]) -> None:
         if words[0] in (b"begin", b"end"):
             self.past.append(("start" if words[0] == b"begin" else "end", bare(words[1])))
         else:
             op = bare(words[0])
             self.past += [("start", op), ("end", op)] * whole_number(words[1])
 
-    def hear_base(self, words):
+    def hear_base(self, words: list[Word]) -> None:
         self.base = whole_number(words[0])
 
-    def hear_carried(self, words):
+    def hear_carried(self, words: list[Word]) -> None:
         self.carried[whole_number(words[0])] = whole_number(words[1])
         if whole_number(words[0]) != len(self.carried):
             raise Wrong("a carried call that has not the number of its place")
 
-    def hear_client(self, words):
+    def hear_client(self, words: list[Word]) -> None:
         session = int(bare(words[0])[1:])
         self.clients[session] = Client(session, bare(words[1]), whole_number(words[2]))
 
-    def hear_kept(self, words):
+    def hear_kept(self, words: list[Word]) -> None:
         client = self.clients[int(bare(words[0])[1:])]
         count = 1 if words[3] in (b"cancelled",) or words[3:4] == [b"done"] and self.is_call(words[4:]) else 2
         client.kept.append((whole_number(words[1]), whole_number(words[2]), tuple(words[3 : 3 + count]), tuple(words[3 + count :])))
 
-    def is_call(self, words):
+    def is_call(self, words: list[Word]) -> bool:
         """Whether an operation and arguments that fit it stand here."""
         if not words or isinstance(words[0], str) or bare(words[0]) not in self.made.operations:
             return False
         return self.made.operations[bare(words[0])].takes([datum(it) for it in words[1:]])
 
-    def told(self, number):
+    def told(self, number: int) -> int:
         return self.carried.get(number, self.base + number)
 
-    def hear_name(self, words):
+    def hear_name(self, words: list[Word]) -> None:
         session, name = int(bare(words[0])[1:]), bare(words[1])
         self.clients = {it.session: it for it in self.clients.values() if it.name != name}
         self.clients[session] = Client(session, name, 0)
 
-    def hear_start(self, words):
+    def hear_start(self, words: list[Word]) -> None:
         if self.running is not None:
             raise Wrong("a call starts where another one runs")
         self.running = whole_number(words[0]), int(bare(words[1])[1:]), words[2:]
         self.events.append(("start", bare(words[2])))
 
-    def hear_end(self, words):
+    def hear_end(self, words: list[Word]) -> None:
+        assert self.running is not None
         number, session, call = self.running
         self.running = None
         if number != whole_number(words[0]):
@@ -134,26 +144,27 @@ class Epoch:
             raise Wrong(f"call {number} has another reply")
         self.count(number, session, tuple(words[1:]), tuple(call))
 
-    def hear_cancel(self, words):
+    def hear_cancel(self, words: list[Word]) -> None:
         self.count(whole_number(words[0]), int(bare(words[1])[1:]), (b"cancelled",), tuple(words[2:]))
 
-    def count(self, number, session, answer, call):
+    def count(self, number: int, session: int, answer: tuple[Word, ...], call: tuple[Word, ...]) -> None:
         self.greatest = max(self.greatest, number)
         if session in self.clients:
             self.clients[session].remember(self.told(number), answer, call)
 
-    def names(self):
+    def names(self) -> dict[str, tuple[int, int, tuple[Kept, ...]]]:
         return {it.name: (it.session, it.keys, tuple(it.kept)) for it in self.clients.values()}
 
 
-def followers(draw, made, running=()):
+def followers(draw: Drawer, made: Object, running: Sequence[object] = ()) -> list[str]:
     """Calls that might follow, one after the other."""
     return [draw.of(tuple(made.operations)) for _ in range(CALLS)]
 
 
-def admitted(made, history, calls):
+def admitted(made: Object, history: list[tuple[str, str]], calls: Iterable[str]) -> list[bool]:
     """Which of these calls the paths admit behind a history, one after the other."""
-    history, found = list(history), []
+    history = list(history)
+    found: list[bool] = []
     for op in calls:
         found.append(made.admits([*history, ("start", op)]))
         if found[-1]:
@@ -164,9 +175,12 @@ def admitted(made, history, calls):
 class Printed:
     """What crash_trial printed: the lines of each epoch, and of each state the epoch, the length and the front."""
 
-    def __init__(self, text):
-        self.epochs, self.states, self.faults, self.crashes, self.refused = [], [], [], 0, 0
-        into = None
+    def __init__(self, text: bytes) -> None:
+        self.epochs: list[list[bytes]] = []
+        self.states: list[tuple[int, int, list[bytes]]] = []
+        self.faults: list[str] = []
+        self.crashes, self.refused = 0, 0
+        into: list[bytes] | None = None
         for line in text.split(b"\n")[:-1]:
             words = line.split(b" ")
             if words[0] == b"epoch":
@@ -184,10 +198,14 @@ class Printed:
             elif words[0] in (b"wrong", b"wrong,", b"line", b"no"):
                 self.faults.append(line.decode())
             else:
+                assert into is not None
                 into.append(line)
 
 
-def judge_state(made, printed, epoch, length, front, draw):
+Judged = tuple[list[str], Printed]
+
+
+def judge_state(made: Object, printed: Printed, epoch: int, length: int, front: list[bytes], draw: Drawer) -> None:
     lines = printed.epochs[epoch - 1]
     text = b"".join(it + b"\n" for it in lines)[:length]
     if not text.endswith(b"\n"):
@@ -210,7 +228,7 @@ def judge_state(made, printed, epoch, length, front, draw):
             raise Wrong(f"behind the past another future: {calls}")
 
 
-def judge(made, text, draw):
+def judge(made: Object, text: bytes, draw: Drawer) -> Judged:
     """The faults of what was printed, and how many states there were."""
     printed = Printed(text)
     faults = printed.faults
@@ -230,7 +248,7 @@ def judge(made, text, draw):
     return faults, printed
 
 
-def scenario(seed):
+def scenario(seed: int) -> tuple[Object, str]:
     """The object and the lines of the scenario of a seed."""
     draw = Drawer(seed)
     made = OBJECTS[seed % len(OBJECTS)]
@@ -254,12 +272,12 @@ def scenario(seed):
     return made, "".join(it + "\n" for it in lines)
 
 
-def tried(file, crashes, seed):
+def tried(file: pathlib.Path, crashes: int, seed: int) -> Judged:
     made, lines = scenario(seed)
     with tempfile.TemporaryDirectory() as folder:
         source = pathlib.Path(folder) / "object.pp"
         source.write_text(made.text, encoding="ascii")
-        words = [file, source, str(crashes), str(seed)]
+        words: list[str | pathlib.Path] = [file, source, str(crashes), str(seed)]
         run = subprocess.run(words, input=lines.encode(), stdout=subprocess.PIPE, timeout=SECONDS)
     faults, printed = judge(made, run.stdout, Drawer(seed))
     if run.returncode and not faults:
@@ -267,7 +285,7 @@ def tried(file, crashes, seed):
     return faults, printed
 
 
-def kept():
+def kept() -> Judged:
     """What the gate has crash_trial print, judged."""
     name = (TRIAL / "stdin").read_text(encoding="ascii").split("\n")[0].split(" ")[1]
     made = next(it for it in OBJECTS if it.name == name)
@@ -289,7 +307,7 @@ def main() -> int:
         return told((f"seed {it}", tried(file, int(words[1]), int(it))) for it in words[2:])
 
 
-def told(runs):
+def told(runs: Iterable[tuple[str, Judged]]) -> int:
     passed = failed = crashes = 0
     for name, (faults, printed) in runs:
         crashes += printed.crashes

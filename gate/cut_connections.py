@@ -12,18 +12,20 @@ values of the first; files with other names stay.
 The program is the one that ./pathserve runs, or FILE. The last line is `cut_connections: N passed, M failed`; the exit status is 0
 where M is 0 and N is not.
 """
+import pathlib
 import random
 import select
 import socket
 import sys
 import threading
 import time
+from collections.abc import Sequence
 
 from gate import returning
 from gate.drawn_objects import OBJECTS
 from gate.served import Server, Told, resets, traced_wrongly
-from gate.slow_world import written
-from gate.tried import Wrong, given_words, new_folder, whole
+from gate.slow_world import Object, written
+from gate.tried import Wrong, given_words, new_folder, there, whole
 
 SEEDS = (1, 2)
 CONNECTIONS = 64
@@ -37,14 +39,15 @@ KINDS = ("polite", "cut", "reset", "slow", "silent", "ahead", "deaf", "canceller
 class Connection(threading.Thread):
     """One client: what it sends follows from its number, and what it is told is kept."""
 
-    def __init__(self, seed, number, port):
+    def __init__(self, seed: int, number: int, port: int) -> None:
         super().__init__()
         self.random, self.port = random.Random(seed * 1000 + number), port
         self.kind = KINDS[number % len(KINDS)]
-        self.made, self.told = None, Told()
+        self.made: Object | None = None
+        self.told = Told()
         self.rest, self.end = b"", time.monotonic() + LASTS
 
-    def run(self):
+    def run(self) -> None:
         try:
             with socket.create_connection(("127.0.0.1", self.port), timeout=LASTS) as it:
                 self.it = it
@@ -52,17 +55,17 @@ class Connection(threading.Thread):
         except (OSError, EOFError, TimeoutError):
             pass
 
-    def left(self):
+    def left(self) -> float:
         left = self.end - time.monotonic()
         if left <= 0:
             raise TimeoutError
         return left
 
-    def send(self, *lines):
+    def send(self, *lines: str) -> None:
         self.it.settimeout(self.left())
         self.it.sendall(b"".join(line.encode() + b"\n" for line in lines))
 
-    def line(self):
+    def line(self) -> str:
         """The next line, what it tells being kept."""
         while b"\n" not in self.rest:
             self.it.settimeout(self.left())
@@ -75,43 +78,44 @@ class Connection(threading.Thread):
         self.told.hear(line)
         return line
 
-    def open(self):
+    def open(self) -> None:
         self.made = self.random.choice(OBJECTS)
         self.send(f"open {self.made.name}")
         self.line()
 
-    def call(self):
-        op = self.random.choice(list(self.made.operations))
-        arguments = [self.random.choice(it) for it in self.made.operations[op].draws]
+    def call(self) -> str:
+        made = there(self.made)
+        op = self.random.choice(list(made.operations))
+        arguments = [self.random.choice(it) for it in made.operations[op].draws]
         return " ".join(["call", op, *map(written, arguments)])
 
-    def calls(self):
+    def calls(self) -> None:
         """Calls one after the other, each to its last line."""
         for _ in range(self.random.randrange(40)):
             self.send(self.call())
             if self.line().startswith("accepted"):
                 self.line()
 
-    def polite(self):
+    def polite(self) -> None:
         self.open()
         self.calls()
         self.send("quit")
         while True:
             self.line()
 
-    def cut(self):
+    def cut(self) -> None:
         self.open()
         self.calls()
         self.send(self.call())
 
-    def reset(self):
+    def reset(self) -> None:
         """It ends with a reset in place of an end."""
         self.open()
         self.calls()
         resets(self.it)
         self.send(self.call())
 
-    def slow(self):
+    def slow(self) -> None:
         """One byte at a time."""
         self.open()
         for byte in (self.call() + "\n" + self.call() + "\nqui").encode():
@@ -120,26 +124,26 @@ class Connection(threading.Thread):
         while True:
             self.line()
 
-    def silent(self):
+    def silent(self) -> None:
         if self.random.randrange(2):
             self.open()
         select.select([self.it], [], [], self.left())
 
-    def ahead(self):
+    def ahead(self) -> None:
         """Many calls at once, and then all that comes."""
         self.open()
         self.send(*(self.call() for _ in range(100)))
         while True:
             self.line()
 
-    def deaf(self):
+    def deaf(self) -> None:
         """It reads nothing."""
         self.open()
         for _ in range(20):
             self.send(*(self.call() for _ in range(50)))
         time.sleep(self.random.random())
 
-    def canceller(self):
+    def canceller(self) -> None:
         """It cancels calls of others."""
         self.open()
         for _ in range(30):
@@ -148,7 +152,7 @@ class Connection(threading.Thread):
         while True:
             self.line()
 
-    def hasty(self):
+    def hasty(self) -> None:
         """It says `quit` behind calls that may wait, and is gone; every other one by a reset."""
         self.open()
         self.send(*(self.call() for _ in range(10)), "quit")
@@ -157,7 +161,7 @@ class Connection(threading.Thread):
         if self.random.randrange(2):
             resets(self.it)
 
-    def loud(self):
+    def loud(self) -> None:
         """Lines that mean nothing, and at last one that is too long."""
         self.send("call get", "cancel 1", "dance", "open nothing", "it's", "call", "\x01")
         self.open()
@@ -168,11 +172,11 @@ class Connection(threading.Thread):
             self.line()
 
 
-def value_numbers(place):
+def value_numbers(place: pathlib.Path) -> list[int]:
     return sorted(int(it.stem) for it in place.glob("*.val") if it.name not in OTHERS)
 
 
-def ended_wrongly(out, objects, place, all_told):
+def ended_wrongly(out: str, objects: pathlib.Path, place: pathlib.Path, all_told: Sequence[Told]) -> list[str]:
     """What is wrong with the lines with which a server ended, and with the traces that it left."""
     lines = [it.partition(" entries ") for it in out.splitlines()]
     if [it[0] for it in lines] != [it.name for it in OBJECTS] or not all(it[2].isdigit() for it in lines):
@@ -180,7 +184,7 @@ def ended_wrongly(out, objects, place, all_told):
     return [wrong for name, _, count in lines for wrong in traced_wrongly(objects, place, name, all_told, int(count))]
 
 
-def second_start(objects, place):
+def second_start(objects: pathlib.Path, place: pathlib.Path) -> list[str]:
     """What is wrong with a server on the folder of one that has ended."""
     before = {it.name: it.read_bytes() for it in place.glob("*.part")}
     with Server("serve", objects, place, "--sessions", 1) as server:
@@ -193,7 +197,7 @@ def second_start(objects, place):
     return said
 
 
-def tried(seed):
+def tried(seed: int) -> tuple[list[str], int]:
     """What is wrong after one server, and how many calls were told."""
     with new_folder("cut-") as folder:
         objects, place = folder / "objects", folder / "place"
@@ -225,7 +229,7 @@ def tried(seed):
         return [f"seed {seed}: {it}" for it in said], told
 
 
-def names_failed(words):
+def names_failed(words: Sequence[str]) -> tuple[int, int]:
     """How many of the trials of clients that have a name there are, and how many of them fail."""
     chosen = [it for it in returning.TRIALS if all(word in it for word in words)]
     failed = 0

@@ -20,9 +20,11 @@ import dataclasses
 import pathlib
 import subprocess
 import tempfile
+from collections.abc import Iterable, Iterator, Sequence as Sequence_
+from typing import Any
 
 from gate import seeds
-from gate.cases import TOP, Placed, cases_of, files
+from gate.cases import TOP, Case, Placed, cases_of, files
 from gate.drawn_objects import OBJECTS
 from gate.drawn_scripts import Script
 from gate.seeds import Drawer
@@ -40,11 +42,11 @@ DIGITS = b"01234567899a"
 LATER = 3
 
 
-def ended_in(events):
+def ended_in(events: Iterable[tuple[Any, ...]]) -> int:
     return sum(it[0] == "end" for it in events)
 
 
-def has_sequence(node) -> bool:
+def has_sequence(node: object) -> bool:
     """Whether a sequence stands in a path: it counts what was before, too."""
     inner = [*getattr(node, "members", ()), *([node.inner] if hasattr(node, "inner") else ())]
     return isinstance(node, Sequence) or any(map(has_sequence, inner))
@@ -53,7 +55,7 @@ def has_sequence(node) -> bool:
 class Trace:
     """The trace that the drawn script of a seed leaves: its lines, and how many calls have ended."""
 
-    def __init__(self, seed) -> None:
+    def __init__(self, seed: int) -> None:
         self.seed, self.draw = seed, Drawer(seed)
         self.script = Script(seed)
         self.script.draw_lines()
@@ -62,7 +64,7 @@ class Trace:
         self.lines = [it.encode("ascii") for it in (f"object {world.made.name}", *parts, *world.event_lines())]
         self.ends = ended_in(world.trace)
 
-    def respelled(self):
+    def respelled(self) -> bytes:
         """The text with other spaces, letters, zeros and line ends: it says the same."""
         lines = []
         for line in self.lines:
@@ -82,14 +84,14 @@ class Trace:
         ends[-1] = self.draw.of((b"", b"\n", b"\r\n"))
         return b"".join(line + end for line, end in zip(lines, ends))
 
-    def changed(self, line, places, choices):
+    def changed(self, line: bytes, places: Sequence_[int], choices: Iterable[int]) -> bytes:
         """The line with a byte at one of these places changed to one of these: mostly at one of the last places of many."""
         last = 24 if self.draw.below(3) else len(places)
         at = self.draw.of(places[-last:])
         byte = self.draw.of([it for it in choices if it != line[at]])
         return line[:at] + bytes([byte]) + line[at + 1 :] + b"\n"
 
-    def later(self):
+    def later(self) -> Iterator[tuple[str, list[bytes], int]]:
         """The trace from an event on before which nothing runs, and how many calls end in it. A path that counts only what is open
         says the same of it."""
         world, made = self.script.world, self.script.made
@@ -113,12 +115,12 @@ class Trace:
                 yield f"from event {at + 1} on, in format {format}", [it.encode("ascii") for it in lines], ended_in(events)
 
     @staticmethod
-    def fitting(format, held):
+    def fitting(format: int, held: Any) -> int:
         """A format in which a value can be written: this one, unless a text is too long for it."""
         texts = [it for it in (*held, *(held.values() if isinstance(held, dict) else ())) if isinstance(it, str)]
         return format if all(len(it) <= LONGEST[format] for it in texts) else WRITTEN
 
-    def texts(self):
+    def texts(self) -> Iterator[tuple[str, bytes, int | None]]:
         """The trace and its changes: what was done, the bytes, and how many calls end in it where it has to be legal."""
         whole = [it + b"\n" for it in self.lines]
         yield "as it is", b"".join(whole), self.ends
@@ -136,7 +138,7 @@ class Trace:
         for what, text in self.changes(whole):
             yield what, text, None
 
-    def changes(self, whole):
+    def changes(self, whole: list[bytes]) -> Iterator[tuple[str, bytes]]:
         """The trace with one of its lines changed."""
         for at, line in enumerate(whole):
             before, after = b"".join(whole[:at]), b"".join(whole[at + 1 :])
@@ -150,16 +152,16 @@ class Trace:
                 yield f"with a digit of line {at + 1} changed", before + self.changed(self.lines[at], digits, DIGITS) + after
 
 
-def title(trace):
+def title(trace: Trace) -> str:
     return f"seed {trace.seed}, object {trace.script.made.name}"
 
 
-def shown(line):
+def shown(line: bytes) -> str:
     text = line.decode("ascii", "backslashreplace")
     return text if len(text) <= WIDTH else f"{text[:WIDTH]}.. ({len(text)} characters)"
 
 
-def fault(place, text, wanted, status):
+def fault(place: tuple[pathlib.Path, pathlib.Path], text: bytes, wanted: str, status: int) -> str | None:
     """What is wrong with what the program says of a trace, or none."""
     objects, file = place
     file.write_bytes(text)
@@ -173,7 +175,7 @@ def fault(place, text, wanted, status):
     return f"expected {wanted!r} and status {status}, answered {found!r} and {ran.stderr!r} with status {ran.returncode}"
 
 
-def tried(seed):
+def tried(seed: int) -> tuple[int, list[tuple[str, bytes]]]:
     """How many audits of a seed passed, and what is said of those that failed."""
     trace, passed, said = Trace(seed), 0, []
     with tempfile.TemporaryDirectory(prefix="draw-") as folder:
@@ -192,7 +194,7 @@ def tried(seed):
     return passed, said
 
 
-def scripts():
+def scripts() -> Iterator[Case]:
     """The cases of `run` whose script is read to its end."""
     for case in (it for path in files([TOP / "cases" / "run"]) for it in cases_of(path)):
         is_plain = case.words[:1] + case.words[2:] == ["run", "SCRIPT"] and case.kind == "output" and case.status == 0
@@ -201,7 +203,7 @@ def scripts():
             yield case
 
 
-def left(case):
+def left(case: Case) -> str | None:
     """What is said of the trace that the script of a case leaves, or none where it is legal."""
     traced = dataclasses.replace(case, inputs={**case.inputs, "SCRIPT": case.inputs["SCRIPT"] + b"\ntrace\n"})
     with tempfile.TemporaryDirectory(prefix="draw-") as folder:
@@ -215,7 +217,7 @@ def left(case):
     return f"the trace of {case.name()}: {wrong}" if wrong else None
 
 
-def shown_trace(seed):
+def shown_trace(seed: int) -> str:
     trace = Trace(seed)
     lines = [f"{number:4} {shown(line)}" for number, line in enumerate(trace.lines, 1)]
     lines += [f"\n==== {title(trace)}", *(f"{what}: {answer(OBJECTS, text)[0]}" for what, text, _ in trace.texts())]

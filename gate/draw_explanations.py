@@ -34,12 +34,12 @@ NO_ROOM = b"no further path has room"
 NEVER = b"` never calls `"
 
 
-def drawn_source(seed):
+def drawn_source(seed: int) -> bytes:
     """The source that gate/draw_objects draws from this seed."""
     return source_of(seed)[0].encode("ascii")
 
 
-def with_fault(draw, source):
+def with_fault(draw: random.Random, source: bytes) -> bytes:
     """The source cut, or with a byte, a stretch or a piece changed: mostly one with a fault."""
     at = draw.randrange(len(source))
     kind = draw.randrange(4)
@@ -52,28 +52,28 @@ def with_fault(draw, source):
     return source[:at] + draw.choice(PIECES) + source[at:]
 
 
-def checked(folder, source, *flags):
+def checked(folder: pathlib.Path, source: bytes, *flags: str) -> tuple[int, bytes, bytes]:
     """The status of a check of a source, and what it wrote, where the file is named SOURCE."""
     (folder / "SOURCE").write_bytes(source)
-    words = [program(), "check", *flags, "SOURCE"]
+    words: list[str | pathlib.Path] = [program(), "check", *flags, "SOURCE"]
     ran = subprocess.run(words, cwd=folder, stdin=subprocess.DEVNULL, capture_output=True, timeout=SECONDS)
     return ran.returncode, ran.stdout, ran.stderr
 
 
-def place(source, at):
+def place(source: bytes, at: int) -> bytes:
     """How a note at a byte begins."""
     front = source[:at]
     return b"SOURCE:%d:%d: " % (front.count(b"\n") + 1, at - (front.rfind(b"\n") + 1) + 1)
 
 
-def with_path(source, line, column, path):
+def with_path(source: bytes, line: int, column: int, path: bytes) -> bytes:
     """The source with a path at this line and column."""
     lines = source.split(b"\n")
     at = sum(len(it) + 1 for it in lines[: line - 1]) + column - 1
     return source[:at] + b" " + path + source[at:]
 
 
-def fault_of(folder, source):
+def fault_of(folder: pathlib.Path, source: bytes) -> str | None:
     """What is wrong with the explanation of a source, or none."""
     status, output, error = checked(folder, source, "--no-explain")
     explained, hinted = checked(folder, source, "--explain"), checked(folder, source)
@@ -104,7 +104,7 @@ def fault_of(folder, source):
     return None
 
 
-def tried(seed):
+def tried(seed: int) -> tuple[int, list[str]]:
     """How many sources of a seed passed, and what is said of those that failed."""
     draw, drawn = random.Random(seed), drawn_source(seed)
     sources = [drawn] + [with_fault(draw, drawn) for _ in range(FAULTY)]

@@ -22,13 +22,15 @@ import shutil
 import socket
 import sys
 import tempfile
+from collections.abc import Iterable, Sequence
+from typing import Any
 
 from gate.drawn_objects import OBJECTS
 from gate.kept import ROOMS, Server, options
 from gate.seeds import Drawer
-from gate.slow_kept import LONGEST, UNTOLD, Number, OneOf, Slow, Speaker
-from gate.slow_world import written
-from gate.tried import Wrong, check, given_words, holds, program, whole
+from gate.slow_kept import LONGEST, UNTOLD, Call, Hall, Number, OneOf, Slow, Speaker
+from gate.slow_world import Datum, Object, written
+from gate.tried import Wrong, check, given_words, holds, program, there, whole
 
 # So many conversations are held over one folder, so many clients speak at most, and so long a line may be awaited, in
 # seconds.
@@ -45,7 +47,7 @@ BAD_LINES = ("dance", "", " ", "open", "open 7", "open cell as end", "open cell 
 class Voice:
     """A connection to the server, and the speaker that it is to the slow one."""
 
-    def __init__(self, server, name="observer") -> None:
+    def __init__(self, server: Server, name: str = "observer") -> None:
         self.it, self.speaker, self.name = server.connect(LATE), Speaker(), name
         self.rest, self.heard, self.is_over, self.is_shut = b"", 0, False, False
 
@@ -59,7 +61,7 @@ class Voice:
         self.rest += piece
         self.is_over = not piece
 
-    def line(self):
+    def line(self) -> str:
         while b"\n" not in self.rest and not self.is_over:
             self.read()
         line, _, self.rest = self.rest.partition(b"\n")
@@ -90,7 +92,7 @@ class Voice:
         check(self.rest, b"", "what comes that nobody expects")
 
 
-def learn(words, line) -> None:
+def learn(words: Sequence[object], line: str) -> None:
     """Learns the numbers of a life from the first one that is told, and which of several words came."""
     for at, word in enumerate(words):
         if isinstance(word, OneOf) and line.split(" ")[at : at + 1] and line.split(" ")[at] in word.words:
@@ -105,21 +107,24 @@ def learn(words, line) -> None:
             word.life.base = base
 
 
-def text_of(words):
+def text_of(words: Iterable[object]) -> str:
     return " ".join(str(it.value()) if isinstance(it, Number) else str(it) for it in words)
 
 
 class World:
     """A server over a folder, and the slow one."""
 
-    def __init__(self, room, seed) -> None:
+    def __init__(self, room: pathlib.Path, seed: int) -> None:
         self.draw = Drawer(seed)
         count = 1 + self.draw.below(3)
         self.objects = [OBJECTS[it] for it in sorted({self.draw.below(len(OBJECTS)) for _ in range(count)})]
         sync = self.draw.of(("always", "always", "1", "60000"))
         source = "".join(it.text for it in self.objects)
         self.server = Server(room, source, "--sync", sync, at_path=True)
-        self.slow, self.voices, self.said, self.steps, self.come = Slow(self.objects), [], 0, [], 0
+        self.slow, self.said, self.come = Slow(self.objects), 0, 0
+        # (a schedule, of gate/draw_schedules, has voices and steps of its own)
+        self.voices: list[Any] = []
+        self.steps: list[Any] = []
         self.start()
 
     def start(self) -> None:
@@ -145,30 +150,30 @@ class World:
             it.it.close()
             self.voices.remove(it)
 
-    def cased(self, name):
+    def cased(self, name: str) -> str:
         return self.draw.of((name, name, name.upper(), name.capitalize()))
 
-    def number(self, number):
+    def number(self, number: int) -> str:
         return self.draw.of(("", "", "", "0", "000")) + str(number)
 
-    def spaced(self, words):
+    def spaced(self, words: Sequence[str]) -> str:
         if not self.draw.one_in(8):
             return " ".join(words)
         line = "".join(" " * self.draw.below(3) + " " + word for word in words) + " " * self.draw.below(2)
         return line[self.draw.below(2) :]
 
-    def hall(self):
+    def hall(self) -> Hall:
         return self.slow.halls[self.draw.of(self.objects).name]
 
-    def opening(self):
+    def opening(self) -> str:
         name = self.draw.of([it.name for it in self.objects] * 8 + ["nothing", "as"])
         words = ["open", self.cased(name)]
         return self.spaced(words + ["as", self.cased(self.draw.of(NAMES))] if self.draw.below(3) else words)
 
-    def operation(self, made):
+    def operation(self, made: Object) -> str:
         return self.draw.weighted({name: it.weight for name, it in made.operations.items()})
 
-    def call(self, made):
+    def call(self, made: Object) -> list[str]:
         """The words of a call that mostly may be made."""
         op = self.operation(made)
         arguments = [self.draw.of(it) for it in made.operations[op].draws]
@@ -178,12 +183,12 @@ class World:
             op = self.draw.of(("nothing", "v", "end", "x1"))
         return self.spoken(op, arguments)
 
-    def spoken(self, op, arguments):
+    def spoken(self, op: str, arguments: Iterable[Datum]) -> list[str]:
         return [self.cased(op), *(self.number(it) if isinstance(it, int) else written(it) for it in arguments)]
 
-    def keyed(self, speaker):
+    def keyed(self, speaker: Speaker) -> str:
         """A call under a key: mostly the next one, or one that is known."""
-        made, guest = speaker.hall.made, speaker.guest
+        made, guest = there(speaker.hall).made, speaker.guest
         after = 1 + (guest.used if guest else speaker.calls) + len(speaker.held) + (speaker.waits is not None)
         kind = self.draw.weighted({"next": 10, "again": 8, "old": 2, "past": 1, "reused": 2})
         key, call = after, self.call(made)
@@ -196,17 +201,17 @@ class World:
             key = after + 1 + self.draw.below(9)
         return self.spaced(["call", f"#{self.number(key)}", *call])
 
-    def cancelled(self, speaker):
-        hall = speaker.hall
+    def cancelled(self, speaker: Speaker) -> int:
+        hall = there(speaker.hall)
         hall.note_greatest()
-        known = [it.number.value() for it in hall.waiting if it.number.value()]
+        known = [number for it in hall.waiting if (number := it.number.value())]
         if known and self.draw.below(3):
             return self.draw.of(known)
         # (what has not been told is not known to be told of another call)
         past = [0] if hall.life.base is None else [0, hall.greatest + 1, hall.greatest + 100_000]
         return self.draw.of([*past, 1 + self.draw.below(hall.greatest)] if hall.greatest else past)
 
-    def line(self, speaker):
+    def line(self, speaker: Speaker) -> str:
         """A line of a client."""
         if speaker.hall is None:
             kind = self.draw.weighted({"open": 30, "bad": 2, "early": 1, "quit": 1})
@@ -221,12 +226,12 @@ class World:
         if kind == "quit":
             return self.spaced(["quit"])
         if kind == "call":
-            return self.spaced(["call", *self.call(speaker.hall.made)])
+            return self.spaced(["call", *self.call(there(speaker.hall).made)])
         if kind == "keyed":
             return self.keyed(speaker)
         return self.spaced(["cancel", self.number(self.cancelled(speaker))])
 
-    def say(self, voice, *lines, is_whole=True) -> None:
+    def say(self, voice: Any, *lines: str, is_whole: bool = True) -> None:
         """Says lines at once, or in pieces."""
         ends = ["\r\n" if self.draw.one_in(12) else "\n" for _ in lines]
         if not is_whole:
@@ -245,7 +250,7 @@ class World:
             # (behind its end the server takes nothing)
             holds(voice.speaker.has_left, f"the connection broke: {error}")
 
-    def talk(self, voice) -> None:
+    def talk(self, voice: Any) -> None:
         count = 1 if self.draw.below(4) else 1 + self.draw.below(6)
         for _ in range(count):
             lines = [self.line(voice.speaker)]
@@ -255,7 +260,7 @@ class World:
             if voice.speaker.has_left:
                 break
 
-    def part(self, voice) -> None:
+    def part(self, voice: Any) -> None:
         """A client leaves in another way than by `quit`."""
         how = self.draw.weighted({"hangs up": 4, "sends no more": 3, "is cut off": 3, "too long": 1})
         if how == "too long":
@@ -293,7 +298,7 @@ class World:
 
     # Ends.
 
-    def restart(self, is_killed) -> None:
+    def restart(self, is_killed: bool) -> None:
         self.steps.append("the server is killed" if is_killed else "the server ends")
         if is_killed:
             self.server.kill()
@@ -325,7 +330,7 @@ class World:
             self.compare_one(hall)
         self.server.kill()
 
-    def compare_one(self, hall) -> None:
+    def compare_one(self, hall: Hall) -> None:
         text = (self.server.folder / f"{hall.made.name}.journal").read_bytes().partition(b"\0")[0].decode()
         lines = [it.split(" ", 2) for it in text.splitlines()]
         values = {it[1]: it[2] for it in lines if it[0] == "part"}
@@ -347,11 +352,11 @@ class World:
             self.server.kill()
 
 
-def kept_words(call, ending):
+def kept_words(call: Call, ending: Iterable[str]) -> tuple[str, str]:
     return str(call.number.value()), " ".join([*ending, call.op, *map(written, call.arguments)])
 
 
-def tried(seed, count, tells):
+def tried(seed: int, count: int, tells: int) -> str | None:
     """Holds so many conversations over one folder; and what is wrong, if anything."""
     room = pathlib.Path(tempfile.mkdtemp(prefix="kept-", dir=ROOMS))
     try:

@@ -14,8 +14,11 @@ import collections
 import pathlib
 import subprocess
 import tempfile
+from collections.abc import Sequence
+from typing import NamedTuple
 
 from gate import seeds
+from gate.seeds import Drawer
 from gate.tried import program, whole
 
 SEEDS = range(1, 626)
@@ -37,20 +40,38 @@ KINDS = (
     "refused for others than the first operation alone",
 )
 
-# A node of a path: how deep it stands, which operations are named in it, and its form: `one` is a
-# bound of 1.
-# The nodes of a path stand in a row, each before those in it: its content is those behind it that stand deeper, up to
-# the first that does not.
-Node = collections.namedtuple("Node", "depth names form")
-# What a text touches: the parts that it names, and those of them that it changes.
-Touched = collections.namedtuple("Touched", "names changes")
-Drawn = collections.namedtuple("Drawn", "name text parts operations paths")
 
+class Node(NamedTuple):
+    """A node of a path: how deep it stands, which operations are named in it, and its form: `one` is a bound of 1.
+
+    The nodes of a path stand in a row, each before those in it: its content is those behind it that stand deeper, up to
+    the first that does not."""
+
+    depth: int
+    names: set[str]
+    form: str
+
+
+class Touched(NamedTuple):
+    """What a text touches: the parts that it names, and those of them that it changes."""
+
+    names: set[str]
+    changes: set[str]
+
+
+class Drawn(NamedTuple):
+    """An object that was drawn."""
+
+    name: str
+    text: str
+    parts: str
+    operations: dict[str, Touched]
+    paths: list[list[Node]]
 
 FORMS = {"one": ("1:(", ")"), "more": ("2:(", ")"), "burst": ("[", "]")}
 
 
-def node_text(draw, nodes, names, depth, place):
+def node_text(draw: Drawer, nodes: list[Node], names: list[str], depth: int, place: str) -> str:
     """Draws a node over these names, and those in it. It stands alone, in a list, or in a sequence."""
     kind = draw.below(10) if LEVELS - depth > 2 else 9
     if kind > 4:
@@ -61,7 +82,7 @@ def node_text(draw, nodes, names, depth, place):
     return front + node_text(draw, nodes, names, depth + 1, "alone") + back
 
 
-def row_text(draw, nodes, names, depth, place):
+def row_text(draw: Drawer, nodes: list[Node], names: list[str], depth: int, place: str) -> str:
     """Draws a name, a list or a sequence, with parentheses where it needs them or where they are drawn."""
     nodes.append(Node(depth, set(names), "row"))
     is_list = draw.one_in(2)
@@ -69,7 +90,8 @@ def row_text(draw, nodes, names, depth, place):
     if len(names) == 1:
         text = names[0]
     else:
-        place, rest, members = "list" if is_list else "sequence", list(names), []
+        place, rest = "list" if is_list else "sequence", list(names)
+        members: list[str] = []
         while rest:
             member = draw.some_of(rest)
             if LEVELS - depth < 3 or member == names:
@@ -80,9 +102,9 @@ def row_text(draw, nodes, names, depth, place):
     return f"({text})" if needed or draw.one_in(6) else text
 
 
-def path_of(draw, names):
+def path_of(draw: Drawer, names: list[str]) -> tuple[str, list[Node]]:
     """The text of a path, and its nodes."""
-    nodes = []
+    nodes: list[Node] = []
     named = names if draw.one_in(2) else draw.some_of(names)
     return f"path {node_text(draw, nodes, named, 0, 'alone')} end; ", nodes
 
@@ -90,36 +112,37 @@ def path_of(draw, names):
 class Body:
     """The text of an operation, whose parts are noted while it is drawn."""
 
-    def __init__(self, draw, name, parts) -> None:
+    def __init__(self, draw: Drawer, name: str, parts: str) -> None:
         self.draw, self.name, self.parts = draw, name, parts
         self.replies, self.may_change = draw.one_in(2), draw.one_in(2)
-        self.names, self.changes = set(), set()
+        self.names: set[str] = set()
+        self.changes: set[str] = set()
         front = f"entry function {name} : integer" if self.replies else f"entry procedure {name}"
         statements = "; ".join(self.statement() for _ in range(1 + draw.below(3)))
         self.text = f"{front}; begin {statements} end; "
 
-    def part(self):
+    def part(self) -> str:
         part = self.parts[self.draw.below(len(self.parts))]
         self.names.add(part)
         return part
 
-    def term(self):
+    def term(self) -> str:
         kind = self.draw.below(4)
         if kind < 2:
             return "7"
         return f"count({self.part()})" if kind == 2 else f"{self.part()}[0]"
 
-    def expression(self):
+    def expression(self) -> str:
         kind = self.draw.below(4)
         if kind < 2:
             return self.term()
         return f"{self.part()}[{self.term()}]" if kind == 2 else f"1 + ({self.term()} - {self.term()})"
 
-    def condition(self):
+    def condition(self) -> str:
         front = "not " if self.draw.one_in(3) else ""
         return f"{front}{self.expression()} {'<' if self.draw.one_in(2) else '='} {self.expression()}"
 
-    def step(self):
+    def step(self) -> str:
         if self.may_change and self.draw.one_in(2):
             part = self.part()
             self.changes.add(part)
@@ -128,7 +151,7 @@ class Body:
             return f"{self.name} := {self.expression()}"
         return "refuse('no')"
 
-    def statement(self):
+    def statement(self) -> str:
         kind = self.draw.below(4)
         if kind == 0:
             return self.step()
@@ -139,7 +162,7 @@ class Body:
         return f"begin {self.step()}; if {self.condition()} then begin ; {self.step()} end; end"
 
 
-def object_of(draw, name):
+def object_of(draw: Drawer, name: str) -> Drawn:
     names = OPERATIONS[: 1 + draw.below(len(OPERATIONS))]
     parts = PARTS[: 1 + draw.below(len(PARTS))]
     paths = [path_of(draw, list(names)) for _ in range(1 + draw.below(3))]
@@ -150,9 +173,10 @@ def object_of(draw, name):
     return Drawn(name, text, parts, operations, [nodes for _, nodes in paths])
 
 
-def separates(nodes, at, both):
+def separates(nodes: Sequence[Node], at: int, both: set[str]) -> bool:
     """Whether a node separates these operations: it is a bound of 1 that names them, and no burst in it names them."""
-    bound, inner = nodes[at], []
+    bound = nodes[at]
+    inner: list[Node] = []
     for it in nodes[at + 1 :]:
         if it.depth <= bound.depth:
             break
@@ -160,13 +184,13 @@ def separates(nodes, at, both):
     return bound.form == "one" and both <= bound.names and not any(it.form == "burst" and both <= it.names for it in inner)
 
 
-def contested(drawn, a, b):
+def contested(drawn: Drawn, a: str, b: str) -> str | None:
     """The first part that one of two operations changes and the other one names."""
     one, other = drawn.operations[a], drawn.operations[b]
     return next((it for it in drawn.parts if it in one.changes & other.names or it in other.changes & one.names), None)
 
 
-def report_of(drawn, tally):
+def report_of(drawn: Drawn, tally: "collections.Counter[str]") -> list[str]:
     """The lines of an object."""
     lines, names = [f"object {drawn.name} accepted"], list(drawn.operations)
     for at, a in enumerate(names):
@@ -187,16 +211,17 @@ def report_of(drawn, tally):
     return lines
 
 
-def source_of(seed):
+def source_of(seed: int) -> tuple[str, str, "collections.Counter[str]"]:
     """The source of a seed, its report, and how often each kind of answer came up in it."""
-    draw, tally = seeds.Drawer(seed), collections.Counter()
+    draw = Drawer(seed)
+    tally: collections.Counter[str] = collections.Counter()
     objects = [object_of(draw, f"o{it}") for it in range(OBJECTS)]
     lines = [line for it in objects for line in report_of(it, tally)]
     report = [*lines, f"{OBJECTS} objects, {tally['refused']} refused"]
     return "".join(it.text for it in objects), "".join(it + "\n" for it in report), tally
 
 
-def tried(seed):
+def tried(seed: int) -> seeds.Tallied:
     """What is said of a source that fails, or none, and its tally."""
     text, report, tally = source_of(seed)
     with tempfile.TemporaryDirectory(prefix="draw-") as folder:
@@ -212,7 +237,7 @@ def tried(seed):
     return f"seed {seed}: of\n{text}expected status {status} and\n{report}ended with {ran.returncode} and\n{answer}{ran.stderr!r}", tally
 
 
-def shown_source(seed):
+def shown_source(seed: int) -> str:
     text, report, _ = source_of(seed)
     return f"{text}\n{report}"
 

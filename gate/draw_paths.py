@@ -12,10 +12,11 @@ where M is 0 and N is not.
 """
 import collections
 import subprocess
+from collections.abc import Sequence as Sequence_
 
 from gate import seeds
-from gate.seeds import Drawer
-from gate.slow_world import Any, Bound, Burst, Name, Sequence
+from gate.seeds import Drawer, Tallied
+from gate.slow_world import Any, Bound, Burst, Name, Node, Sequence
 from gate.tried import program, whole
 
 SEEDS = range(1, 501)
@@ -32,18 +33,21 @@ KINDS = ("list", "sequence", "bound", "burst", "burst in a burst", "started", "b
 class Paths:
     """The paths of a seed, as texts and as what they say."""
 
-    def __init__(self, draw) -> None:
-        self.draw, self.tally, self.texts, self.nodes = draw, collections.Counter(), [], []
+    def __init__(self, draw: Drawer) -> None:
+        self.draw = draw
+        self.tally: collections.Counter[str] = collections.Counter()
+        self.texts: list[str] = []
+        self.nodes: list[Node] = []
         for _ in range(1 + draw.below(3)):
             text, node = self.node(self.some_of(OPERATIONS), 0, "alone", False)
             self.texts.append(f"path {text} end")
             self.nodes.append(node)
 
-    def some_of(self, names):
+    def some_of(self, names: Sequence_[str]) -> list[str]:
         """Some of these, one at least."""
         return [it for it in names if self.draw.one_in(2)] or [self.draw.of(names)]
 
-    def node(self, names, depth, place, in_burst):
+    def node(self, names: Sequence_[str], depth: int, place: str, in_burst: bool) -> tuple[str, Node]:
         """A node over these names. It stands alone, in a list or in a sequence."""
         form = self.draw.of(("bound", "burst", "row", "row")) if LEVELS - depth > 2 else "row"
         if form == "row":
@@ -56,13 +60,14 @@ class Paths:
         most = 1 + self.draw.below(3)
         return f"{most}:({text})", Bound(most, inner)
 
-    def row(self, names, depth, place, in_burst):
+    def row(self, names: Sequence_[str], depth: int, place: str, in_burst: bool) -> tuple[str, Node]:
         """A name, a list or a sequence, with parentheses where it needs them."""
         if len(names) == 1:
             return names[0], Name(names[0])
         form = self.draw.of(("list", "sequence"))
         self.tally[form] += 1
-        rest, members = list(names), []
+        rest = list(names)
+        members: list[tuple[str, Node]] = []
         while rest:
             member = self.some_of(rest)
             if LEVELS - depth < 3 or len(member) == len(names):
@@ -71,17 +76,19 @@ class Paths:
             rest = [it for it in rest if it not in member]
         text = (", " if form == "list" else "; ").join(it for it, _ in members)
         is_needed = place == "sequence" or place == form == "list"
-        made = (Any if form == "list" else Sequence)(*(it for _, it in members))
+        kind: type[Any] | type[Sequence] = Any if form == "list" else Sequence
+        made = kind(*(it for _, it in members))
         return f"({text})" if is_needed else text, made
 
 
-def drawn(seed):
+def drawn(seed: int) -> tuple[str, str, "collections.Counter[str]"]:
     """The lines of a seed, their answers, and how often each kind came up."""
     draw = Drawer(seed)
     paths = Paths(draw)
     lines = [f"ops {' '.join(OPERATIONS)}", *paths.texts]
     answers = [f"ops {len(OPERATIONS)}", *paths.texts]
-    trace, running = [], collections.Counter()
+    trace: list[tuple[str, str]] = []
+    running: collections.Counter[str] = collections.Counter()
     for _ in range(LINES):
         op = draw.of(OPERATIONS)
         if draw.below(5) < 3:
@@ -100,7 +107,7 @@ def drawn(seed):
     return "".join(f"{it}\n" for it in lines), "".join(f"{it}\n" for it in answers), paths.tally
 
 
-def tried(seed):
+def tried(seed: int) -> Tallied:
     """What is said of the lines of a seed where they fail, or none, and its tally."""
     lines, answers, tally = drawn(seed)
     try:
@@ -113,7 +120,7 @@ def tried(seed):
     return f"seed {seed}: of\n{lines}expected\n{answers}ended with {ran.returncode} and\n{found}{ran.stderr!r}", tally
 
 
-def shown_lines(seed):
+def shown_lines(seed: int) -> str:
     lines, answers, _ = drawn(seed)
     return f"{lines}\n{answers}"
 

@@ -26,15 +26,16 @@ import pathlib
 import subprocess
 import sys
 import tempfile
-from collections.abc import Mapping
+from collections.abc import Iterable, Mapping, Sequence as Sequence_
+from typing import NamedTuple
 
 from gate.cases import TOP
 from gate.crash_journal import Epoch, Wrong
 from gate.draw_kept import World, text_of
 from gate.drawn_objects import OBJECTS
 from gate.seeds import Drawer
-from gate.slow_kept import LONGEST, Hall, Slow, Speaker
-from gate.slow_world import Sequence
+from gate.slow_kept import LONGEST, Call, Hall, Slow, Speaker
+from gate.slow_world import Object, Sequence
 from gate.tried import new_folder, whole
 from tools import make_ready, ready
 
@@ -45,12 +46,16 @@ GATE, TOGETHER, SECONDS, MOST_OWED = ("cell", "buffer", "book"), 8, 300, 60_000
 REFUSALS = ("unadded", "unstored", "unstored")
 # Behind so many calls a new epoch begins: an object has a past of nearly as many in one of so many schedules.
 NEW_EPOCH, ONE_IN = 60_000, 8
+# A step of a schedule: its word, its two numbers and the bytes behind them; and what was printed of one: its word, its
+# number and the bytes behind them.
+Step = tuple[str, int, int, bytes]
+Seen = tuple[str, int, bytes]
 
 
 # What is drawn.
 
 
-def counts(node):
+def counts(node: object) -> bool:
     """Whether a path has a `;`: so it counts what was done before."""
     below = getattr(node, "members", [node.inner] if hasattr(node, "inner") else [])
     return isinstance(node, Sequence) or any(map(counts, below))
@@ -59,16 +64,18 @@ def counts(node):
 class Voice:
     """A connection, as the one who draws sees it."""
 
-    def __init__(self, place) -> None:
+    def __init__(self, place: int) -> None:
         self.place, self.speaker, self.says, self.takes, self.is_over = place, Speaker(), 0, 0, False
 
 
 class Schedule(World):
     """A schedule, as long as it grows. What is said is drawn by a slow server that hears it at once."""
 
-    def __init__(self, objects, seed) -> None:
+    def __init__(self, objects: list[Object], seed: int) -> None:
         self.draw, self.objects, self.slow = Drawer(seed), objects, Slow(objects)
-        self.steps, self.voices, self.second = [], [], 0
+        self.steps: list[bytes] = []
+        self.voices: list[Voice] = []
+        self.second = 0
         self.places, self.waits = self.draw.of((1, 2, 3, 8, 64, 64)), 0 if self.draw.one_in(5) else 1
         if seed % ONE_IN == 0 and not any(map(counts, objects[0].paths)):
             # (its first object has a new epoch, mostly, or one that cannot begin)
@@ -80,7 +87,7 @@ class Schedule(World):
             self.step()
         self.end()
 
-    def add(self, word, place=0, number=0, behind=b"") -> None:
+    def add(self, word: str, place: int = 0, number: int = 0, behind: bytes = b"") -> None:
         self.steps.append(f"{word} {place} {number}\n".encode() + behind)
 
     def step(self) -> None:
@@ -111,13 +118,13 @@ class Schedule(World):
         else:
             self.add(what)
 
-    def comes(self):
+    def comes(self) -> Voice:
         voice = Voice(len(self.voices))
         self.voices.append(voice)
         self.add("come")
         return voice
 
-    def say(self, voice, *lines, is_whole=True) -> None:
+    def say(self, voice: Voice, *lines: str, is_whole: bool = True) -> None:
         """Says lines in pieces, between which the loop may wait."""
         ends = ["\r\n" if self.draw.one_in(12) else "\n" for _ in lines]
         if not is_whole:
@@ -133,7 +140,7 @@ class Schedule(World):
             if self.draw.one_in(4):
                 self.add("wait")
 
-    def part(self, voice) -> None:
+    def part(self, voice: Voice) -> None:
         how = self.draw.weighted({"end": 4, "break": 3, "cut off": 3, "too long": 1})
         voice.is_over = True
         if how == "too long":
@@ -156,7 +163,7 @@ class Schedule(World):
                 self.add("take", it.place, 1 << 30)
             self.add("wait")
 
-    def text(self):
+    def text(self) -> bytes:
         return b"".join(self.steps) + f"run {self.places} {self.waits}\n".encode()
 
 
@@ -166,16 +173,17 @@ class Schedule(World):
 class Found(Hall):
     """A kept object that counts the lines of its journal, and knows in which order calls ended."""
 
-    def __init__(self, made) -> None:
+    def __init__(self, made: Object) -> None:
         super().__init__(made)
-        self.lines, self.order = 0, []
+        self.lines = 0
+        self.order: list[int] = []
 
-    def do(self, call) -> None:
+    def do(self, call: Call) -> None:
         super().do(call)
         self.lines += 2
         self.order.append(call.number.place)
 
-    def cancel(self, call) -> None:
+    def cancel(self, call: Call) -> None:
         super().cancel(call)
         self.lines += 1 if call.guest else 0
 
@@ -185,11 +193,11 @@ class Heard(Slow):
 
     halls: Mapping[str, Found]
 
-    def __init__(self, objects) -> None:
+    def __init__(self, objects: list[Object]) -> None:
         super().__init__(objects)
         self.halls = {it.name: Found(it) for it in objects}
 
-    def open(self, speaker, name, client) -> None:
+    def open(self, speaker: Speaker, name: str, client: str | None) -> None:
         names = {it: len(hall.guests) for it, hall in self.halls.items()}
         super().open(speaker, name, client)
         for it, hall in self.halls.items():
@@ -202,22 +210,25 @@ class Wire:
 
     def __init__(self) -> None:
         self.speaker, self.said, self.rest, self.is_deaf, self.written = Speaker(), b"", b"", False, b""
-        self.told, self.needs = b"", []
+        self.told = b""
+        self.needs: list[tuple[int, list[int]]] = []
 
 
 class Journal:
     """What was handed to a journal since its last front, how many lines were handed to it in all and stored, and the epochs
     before."""
 
-    def __init__(self, front) -> None:
+    def __init__(self, front: bytes) -> None:
         self.front, self.text, self.handed, self.stored, self.is_new = front, b"", 0, 0, True
 
 
 class Judge:
     """All that was seen of a schedule, beside the slow server."""
 
-    def __init__(self, objects, schedule, seen) -> None:
-        self.objects, self.slow, self.wires, self.order = objects, Heard(objects), {}, []
+    def __init__(self, objects: list[Object], schedule: bytes, seen: list[Seen]) -> None:
+        self.objects, self.slow = objects, Heard(objects)
+        self.wires: dict[int, Wire] = {}
+        self.order: list[int] = []
         self.steps, (self.places, self.waits) = steps_of(schedule)
         self.journals = [Journal(text) for word, _, text in seen if word == "front"]
         self.seen = [it for it in seen if it[0] != "front"]
@@ -241,13 +252,13 @@ class Judge:
 
     # Turns.
 
-    def hear_joins(self, who, _: object) -> None:
+    def hear_joins(self, who: int, _: object) -> None:
         if len([it for it in self.wires.values() if not it.speaker.has_left]) >= self.places or who in self.wires:
             raise Wrong("a connection is taken for which there is no place")
         self.wires[who] = Wire()
         self.order.append(who)
 
-    def hear_came(self, who, text) -> None:
+    def hear_came(self, who: int, text: bytes) -> None:
         wire = self.wires[who]
         if wire.is_deaf or wire.speaker.has_left:
             raise Wrong("a connection is read that is over")
@@ -260,7 +271,7 @@ class Judge:
         if not wire.is_deaf and not wire.speaker.has_left and len(wire.rest) > LONGEST:
             self.say(wire, wire.rest, False)
 
-    def say(self, wire, line, is_whole) -> None:
+    def say(self, wire: Wire, line: bytes, is_whole: bool) -> None:
         if len(line) > LONGEST:
             # (it leaves once all are heard)
             wire.is_deaf = True
@@ -268,16 +279,16 @@ class Judge:
         else:
             self.slow.say(wire.speaker, line.decode("ascii"), is_whole)
 
-    def hear_end(self, who, _: object) -> None:
+    def hear_end(self, who: int, _: object) -> None:
         wire = self.wires[who]
         if wire.rest:
             self.say(wire, wire.rest, False)
         wire.is_deaf = True
 
-    def hear_broke(self, who, _: object) -> None:
+    def hear_broke(self, who: int, _: object) -> None:
         self.wires[who].is_deaf = True
 
-    def hear_leaves(self, who, _: object) -> None:
+    def hear_leaves(self, who: int, _: object) -> None:
         self.slow.leave(self.wires[who].speaker)
         self.slow.go_on()
 
@@ -286,7 +297,7 @@ class Judge:
             self.slow.leave(self.wires[who].speaker)
         self.slow.go_on()
 
-    def hear_ticks(self, *_) -> None:
+    def hear_ticks(self, *_: object) -> None:
         pass
 
     def turn_ends(self) -> None:
@@ -301,7 +312,7 @@ class Judge:
 
     # What is written and kept.
 
-    def hear_wrote(self, who, text) -> None:
+    def hear_wrote(self, who: int, text: bytes) -> None:
         wire = self.wires[who]
         wire.written += text
         if not wire.told.startswith(wire.written):
@@ -311,15 +322,15 @@ class Judge:
             if start < len(wire.written) and any(it > has for it, has in zip(needs, kept)):
                 raise Wrong(f"{who} was written what needs {needs} lines, and {kept} are kept")
 
-    def hear_added(self, at, text) -> None:
+    def hear_added(self, at: int, text: bytes) -> None:
         journal = self.journals[at]
         journal.text += text
         journal.handed += text.count(b"\n")
 
-    def hear_stored(self, at, _: object) -> None:
+    def hear_stored(self, at: int, _: object) -> None:
         self.journals[at].stored = self.journals[at].handed
 
-    def hear_changed(self, at, text) -> None:
+    def hear_changed(self, at: int, text: bytes) -> None:
         """A new front says what the slow server holds."""
         journal, hall = self.journals[at], self.slow.halls[self.objects[at].name]
         front = Epoch(hall.made, text.split(b"\n")[:-1])
@@ -331,7 +342,7 @@ class Judge:
 
     # Ends.
 
-    def judge_fault(self, at) -> None:
+    def judge_fault(self, at: int) -> None:
         """A journal failed: where answers wait for it, that it was handed lines, or began anew, was the last that happened."""
         word, number, _ = self.seen[-2]
         if self.waits and (word not in ("added", "changed") or number != at):
@@ -363,7 +374,7 @@ class Judge:
         tail = len(before) - len("".join("w" if it == "wait" else "x" for it in before).rstrip("w"))
         return tail >= 10 and words.count("come") <= self.places
 
-    def judge_journal(self, hall, journal, is_whole) -> None:
+    def judge_journal(self, hall: Found, journal: Journal, is_whole: bool) -> None:
         """What a journal was handed is the history of its object."""
         text = (journal.front + journal.text).decode("ascii").encode()
         stood = Epoch(hall.made, text.split(b"\n")[:-1])
@@ -378,18 +389,18 @@ class Judge:
                 raise Wrong(f"{hall.made.name} has other clients in its journal: {used_in(stood)}")
 
 
-def used_in(epoch):
+def used_in(epoch: Epoch) -> dict[str, int]:
     """How many keys each client has used, by what an epoch tells."""
     return {it.name: it.keys for it in epoch.clients.values()}
 
 
-def used_by(hall):
+def used_by(hall: Hall) -> dict[str, int]:
     return {name: guest.used for name, guest in hall.guests.items()}
 
 
-def steps_of(text):
+def steps_of(text: bytes) -> tuple[list[Step], tuple[int, bool]]:
     """The steps of a schedule, with the bytes behind each, and of its last line the places and whether answers wait."""
-    steps = []
+    steps: list[Step] = []
     while text:
         line, _, text = text.partition(b"\n")
         word, place, number = line.decode().split(" ")
@@ -401,7 +412,7 @@ def steps_of(text):
     raise Wrong("a schedule without its end")
 
 
-def schedules_of(text):
+def schedules_of(text: bytes) -> list[bytes]:
     """The texts of schedules, one behind the other."""
     found = []
     while text:
@@ -417,9 +428,10 @@ def schedules_of(text):
     return found
 
 
-def seen_of(text):
+def seen_of(text: bytes) -> list[list[Seen]]:
     """Of each schedule all that was printed."""
-    found, blocks = [], []
+    found: list[list[Seen]] = []
+    blocks: list[Seen] = []
     while text:
         line, _, text = text.partition(b"\n")
         word, number, size = line.decode().split(" ")
@@ -431,12 +443,20 @@ def seen_of(text):
     return found
 
 
-Count = collections.namedtuple("Count", "passed failed faults words")
+class Count(NamedTuple):
+    """How many schedules were right and how many were not, what was wrong, and how often each word was printed."""
+
+    passed: int
+    failed: int
+    faults: list[str]
+    words: "collections.Counter[str]"
 
 
-def judged(name, objects, schedules, printed):
+def judged(name: str, objects: list[Object], schedules: Sequence_[bytes], printed: bytes) -> Count:
     """How many schedules were right, and what is wrong with the others."""
-    seen, passed, faults, words = seen_of(printed), 0, [], collections.Counter()
+    seen, passed = seen_of(printed), 0
+    faults: list[str] = []
+    words: collections.Counter[str] = collections.Counter()
     if len(seen) != len(schedules):
         return Count(0, 1, [f"{name}: {len(seen)} of {len(schedules)} schedules were played"], words)
     for at, (schedule, found) in enumerate(zip(schedules, seen)):
@@ -451,13 +471,13 @@ def judged(name, objects, schedules, printed):
     return Count(passed, len(faults), faults, words)
 
 
-def drawn_objects(seed):
+def drawn_objects(seed: int) -> list[Object]:
     draw = Drawer(seed)
     places = sorted({draw.below(len(OBJECTS)) for _ in range(1 + draw.below(3))})
     return [OBJECTS[it] for it in places]
 
 
-def tried(program, seed, count):
+def tried(program: pathlib.Path, seed: int, count: int) -> Count:
     """Plays so many schedules over the objects of a seed, twice."""
     objects = drawn_objects(seed)
     schedules = [Schedule(objects, seed + at).text() for at in range(count)]
@@ -476,34 +496,34 @@ def tried(program, seed, count):
     return found
 
 
-def played(program, source, text):
+def played(program: pathlib.Path, source: pathlib.Path, text: bytes) -> "subprocess.CompletedProcess[bytes]":
     return subprocess.run([program, source], input=text, stdout=subprocess.PIPE, timeout=SECONDS)
 
 
-def gate_objects():
+def gate_objects() -> list[Object]:
     return [next(it for it in OBJECTS if it.name == name) for name in GATE]
 
 
-def gate_schedules(count, seed):
+def gate_schedules(count: int, seed: int) -> bytes:
     return b"".join(Schedule(gate_objects(), seed + at).text() for at in range(count))
 
 
-def draw_all(program, count, seed):
+def draw_all(program: pathlib.Path, count: int, seed: int) -> int:
     seeds = range(seed, seed + count, TOGETHER)
     with concurrent.futures.ProcessPoolExecutor(len(os.sched_getaffinity(0))) as pool:
         sizes = [min(TOGETHER, seed + count - it) for it in seeds]
         return told(pool.map(tried, [program] * len(seeds), seeds, sizes))
 
 
-def built_and_drawn(count, seed):
+def built_and_drawn(count: int, seed: int) -> int:
     with new_folder() as folder:
         ready.copy_sources(folder / "repo", TRIAL.name)
         return draw_all(make_ready.built(folder, TRIAL.name), count, seed)
 
 
-def told(counts):
+def told(counts: Iterable[Count]) -> int:
     passed = failed = 0
-    words = collections.Counter()
+    words: collections.Counter[str] = collections.Counter()
     for it in counts:
         passed, failed = passed + it.passed, failed + it.failed
         words += it.words

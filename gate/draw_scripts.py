@@ -19,7 +19,7 @@ import subprocess
 import tempfile
 
 from gate import seeds
-from gate.drawn_scripts import FIRST_HOLD, script_of, source_of
+from gate.drawn_scripts import FIRST_HOLD, Script, script_of, source_of
 from gate.slow_world import Disagreement
 from gate.tried import given_words, program, whole
 
@@ -35,21 +35,21 @@ ANSWERS = ("resume", "no NoSession", "no BadKey", "no KeyReused", "repeat waitin
 TIMES = 20
 
 
-def shown(line):
+def shown(line: str) -> str:
     return line if len(line) <= WIDTH else f"{line[:WIDTH]}.. ({len(line)} characters)"
 
 
-def difference(wanted, found):
+def difference(wanted: str, found: str) -> list[str]:
     a, b = ([shown(it) for it in text.splitlines()] for text in (wanted, found))
     lines = list(difflib.unified_diff(a, b, "expected", "answered", lineterm="", n=3))[2:]
     return [f"    {it}" for it in lines[:20] or ["the same but for line ends or the ends of long lines"]]
 
 
-def title(script):
+def title(script: Script) -> str:
     return f"seed {script.seed}, object {script.made.name}"
 
 
-def counted(seed):
+def counted(seed: int) -> tuple[str | None, dict[str, int]]:
     """What is said of the script of a seed where it fails, or none; and how often each of the answers has to come in it."""
     try:
         script = script_of(seed)
@@ -59,7 +59,7 @@ def counted(seed):
     return tried(script), {it: sum(f"{line} ".startswith(f"{it} ") for line in told) for it in ANSWERS}
 
 
-def tried(script):
+def tried(script: Script) -> str | None:
     """What is said of a script that fails, or none."""
     with tempfile.TemporaryDirectory(prefix="draw-") as folder:
         objects, lines = pathlib.Path(folder) / "objects", pathlib.Path(folder) / "script"
@@ -84,7 +84,7 @@ def tried(script):
     return "\n".join([*said, "  the script:", *script_lines])
 
 
-def shown_script(seed):
+def shown_script(seed: int) -> str:
     script = script_of(seed)
     text = script.text().decode("ascii")
     return f"{text}\n==== {title(script)}: status {script.status}, and\n{script.wanted()}"
@@ -96,7 +96,7 @@ def main() -> int:
         return 0
     named = seeds.asked(__doc__, "--script", shown_script)
     found = seeds.each(counted, named or SEEDS)
-    counts = sum((collections.Counter(it) for _, it in found), collections.Counter())
+    counts: collections.Counter[str] = sum((collections.Counter(it) for _, it in found), collections.Counter())
     print(", ".join(f"{it} {counts[it]}" for it in ANSWERS))
     failed = [it for it, _ in found if it]
     seeds.tell(failed)

@@ -18,11 +18,12 @@ import socket
 import sys
 import threading
 import time
+from collections.abc import Iterator, Mapping, Sequence
 
 from gate.drawn_objects import OBJECTS
 from gate.served import Server, Told, traced_wrongly
 from gate.slow_world import written
-from gate.tried import Wrong, given_words, new_folder, whole
+from gate.tried import Wrong, given_words, new_folder, there, whole
 
 SEEDS = (1, 2, 3)
 CLIENTS, LINES = 32, 40
@@ -42,11 +43,12 @@ KEYED = {"past": "no BadKey", "reused": "no KeyReused", "unknown": "no UnknownOp
 class Client(threading.Thread):
     """A connection, and all lines that came."""
 
-    def __init__(self, port, end) -> None:
+    def __init__(self, port: int, end: float) -> None:
         super().__init__(daemon=True)
         self.it, self.end = socket.create_connection(("127.0.0.1", port), LASTS), end
         self.it.setsockopt(socket.IPPROTO_TCP, socket.TCP_NODELAY, 1)
-        self.told, self.heard, self.is_over = Told(), [], False
+        self.told, self.is_over = Told(), False
+        self.heard: list[str] = []
 
     def run(self) -> None:
         self.it.settimeout(max(self.end - time.monotonic(), 0.01))
@@ -63,27 +65,28 @@ class Client(threading.Thread):
 class Line:
     """A line of a client: its kind, and for a call that is asked for again its key."""
 
-    def __init__(self, text, kind, key=None) -> None:
+    def __init__(self, text: str, kind: str, key: int | None = None) -> None:
         self.text, self.kind, self.key = text, kind, key
 
 
 class Speaker(Client):
     """A client that says drawn lines."""
 
-    def __init__(self, seed, number, port, end) -> None:
+    def __init__(self, seed: int, number: int, port: int, end: float) -> None:
         super().__init__(port, end)
         self.random = random.Random(seed * 1000 + number)
         self.made, self.client = self.random.choice(OBJECTS), f"c{number}" if number % 2 else None
         # The calls that are accepted, by their keys from 1, and the last line that came of each.
-        self.calls, self.lasts = [], []
+        self.calls: list[str] = []
+        self.lasts: list[str] = []
         self.lines = [Line(self.opening(), "open"), *(self.drawn() for _ in range(self.random.randrange(LINES))), Line("quit", "quit")]
 
-    def opening(self):
+    def opening(self) -> str:
         if not self.client:
             return f"open {self.made.name}"
         return f"open {self.made.name} as {self.random.choice((self.client, self.client.upper()))}"
 
-    def drawn(self):
+    def drawn(self) -> Line:
         kind = self.random.randrange(10)
         if kind == 0:
             text = self.random.choice(list(REFUSED))
@@ -95,11 +98,11 @@ class Speaker(Client):
         self.calls.append(self.call())
         return Line(f"call {self.calls[-1]}", "call")
 
-    def call(self):
+    def call(self) -> str:
         op = self.random.choice(list(self.made.operations))
         return " ".join([op, *(written(self.random.choice(it)) for it in self.made.operations[op].draws)])
 
-    def keyed(self):
+    def keyed(self) -> Line:
         """A call under a key: the next one, one that a call has already, or one that is wrong."""
         kind, after = self.random.choice(("call", "again", "again", "past", "reused", "unknown")), len(self.calls) + 1
         key = self.random.randrange(1, after) if kind in ("again", "reused") and self.calls else after
@@ -128,7 +131,7 @@ class Speaker(Client):
         except OSError:
             pass
 
-    def faults(self):
+    def faults(self) -> list[str]:
         """What is wrong with what it heard."""
         if not self.is_over:
             return [f"{len(self.lines)} lines, and after {LASTS} seconds no end: {self.heard[-3:]}"]
@@ -137,7 +140,7 @@ class Speaker(Client):
         said = [] if [it.rpartition(" ")[0] for it in cancels] == wanted else [f"{wanted} were answered {cancels}"]
         return self.told.wrong + said + self.disorder([it for it in self.heard if not it.startswith("cancel ")])
 
-    def disorder(self, heard):
+    def disorder(self, heard: list[str]) -> list[str]:
         """What is wrong with the answers to the lines that are no cancels."""
         rest = iter(heard)
         for line in self.lines:
@@ -147,14 +150,14 @@ class Speaker(Client):
                     return [f"{line.text!r} was answered {found!r}, among {heard[-6:]}"]
         return []
 
-    def is_right(self, line, found, rest) -> bool:
+    def is_right(self, line: Line, found: str, rest: Iterator[str]) -> bool:
         """Whether a line is answered by this one, and by what comes behind it."""
         if line.kind == "open":
             return found == f"opened {self.made.name}" + (f" next {len(self.lasts) + 1}" if self.client else "")
         if line.kind == "quit":
             return found == "bye" and next(rest, None) is None
         if line.kind == "again":
-            return found == f"repeat {self.lasts[line.key - 1]}"
+            return found == f"repeat {self.lasts[there(line.key) - 1]}"
         if line.kind != "call":
             return found == KEYED.get(line.kind, REFUSED.get(line.text))
         number = found.removeprefix("accepted ")
@@ -165,7 +168,7 @@ class Speaker(Client):
 class Returned(Speaker):
     """A client that comes back by the name of one that has ended, and asks again for each of its calls, and for one more."""
 
-    def __init__(self, first, port, end) -> None:
+    def __init__(self, first: Speaker, port: int, end: float) -> None:
         Client.__init__(self, port, end)
         self.random, self.made, self.client, self.lasts = first.random, first.made, first.client, list(first.lasts)
         again = [Line(f"call #{key} {it}", "again", key) for key, it in enumerate(first.calls, 1)]
@@ -185,11 +188,11 @@ class Returned(Speaker):
         except OSError:
             pass
 
-    def disorder(self, heard):
+    def disorder(self, heard: list[str]) -> list[str]:
         return super().disorder([it for it in heard if it != "no InUse"])
 
 
-def cancel_all(client, name, speakers) -> None:
+def cancel_all(client: Client, name: str, speakers: Sequence[Speaker]) -> None:
     """Cancels the calls that wait or run in an object, until all speakers are done."""
     try:
         client.it.sendall(f"open {name}\n".encode())
@@ -202,20 +205,20 @@ def cancel_all(client, name, speakers) -> None:
         pass
 
 
-def begin(clients, works) -> None:
+def begin(clients: Sequence[Client], works: Sequence[threading.Thread]) -> None:
     """Starts clients, and what they say."""
     for it in [*clients, *works]:
         it.start()
 
 
-def await_end(clients, works, end) -> None:
+def await_end(clients: Sequence[Client], works: Sequence[threading.Thread], end: float) -> None:
     for it in [*clients, *works]:
         it.join(max(end - time.monotonic(), 0) + 1)
     for it in clients:
         it.it.close()
 
 
-def talk(seed, port):
+def talk(seed: int, port: int) -> tuple[list[Speaker], list[str]]:
     """Has all clients of a server talk to their ends, and then those that have a name once more."""
     end = time.monotonic() + LASTS
     speakers = [Speaker(seed, number, port, end) for number in range(CLIENTS)]
@@ -235,7 +238,7 @@ def talk(seed, port):
     return [*speakers, *returned], said
 
 
-def tried(seed):
+def tried(seed: int) -> tuple[list[str], int, Mapping[str, int]]:
     """What is wrong with what the clients of one server heard, how many lines they heard, and how many of each kind they said."""
     with new_folder("draw-") as folder:
         objects, place = folder / "objects", folder / "place"

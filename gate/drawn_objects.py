@@ -5,7 +5,7 @@ import random
 
 from gate.slow_holds import Hold
 from gate.slow_world import (
-    MOST, Any, Array, Bound, Burst, Object, Queue, Refusal, Sequence, Table, append, element, first, lookup, set_element, whole,
+    MOST, Any, Array, Bound, Burst, Contents, Object, Queue, Refusal, Sequence, Table, append, element, first, lookup, set_element, whole,
 )
 
 EXAMPLES = pathlib.Path(__file__).resolve().parent.parent / "examples" / "objects"
@@ -32,91 +32,91 @@ SPANS = (0, 1, 199, 254, 254, 255, 256, 510, 511, 766, 767, 1022, 1023)
 LENGTHS = random.Random(1024).sample(range(200, 1025), 3)
 
 
-def example(name):
+def example(name: str) -> str:
     """The text of an object of examples/objects."""
     return (EXAMPLES / f"{name}.pp").read_text(encoding="ascii")
 
 
-def cell_bump(c, x) -> None:
+def cell_bump(c: Contents, x: int) -> None:
     c["v"][0] = whole(c["v"][0] + x)
 
 
-def buffer_remove(c):
+def buffer_remove(c: Contents) -> int:
     oldest = first(c["box"])
     del c["box"][0]
     return oldest
 
 
-def book_write(c, k, x) -> None:
+def book_write(c: Contents, k: str, x: str) -> None:
     if k in c["t"]:
         raise Refusal("taken")
     c["t"][k] = x
 
 
-def book_wipe(c, k) -> None:
+def book_wipe(c: Contents, k: str) -> None:
     lookup(c["t"], k)
     del c["t"][k]
 
 
-def one_more(c) -> None:
+def one_more(c: Contents) -> None:
     c["v"][0] = whole(c["v"][0] + 1)
 
 
-def ledger_add(c, i, x) -> None:
+def ledger_add(c: Contents, i: int, x: int) -> None:
     set_element(c["tally"], i, whole(element(c["tally"], i) + x))
 
 
-def ledger_fill(c, x, y) -> None:
+def ledger_fill(c: Contents, x: str, y: str) -> None:
     c["page"] = [x] + [y] * 32
 
 
-def ledger_move(c, i, j) -> None:
+def ledger_move(c: Contents, i: int, j: int) -> None:
     set_element(c["tally"], i, whole(element(c["tally"], i) - 1))
     set_element(c["tally"], j, whole(element(c["tally"], j) + 1))
     set_element(c["page"], j, element(c["page"], i))
 
 
-def ledger_idle(_: object, x):
+def ledger_idle(_: object, x: int) -> int:
     if x < 3:
         raise Refusal("small")
     return whole(x - 3)
 
 
-def wide_pick(c, i, j):
+def wide_pick(c: Contents, i: int, j: int) -> int:
     first_one = element(c["v"], i)
     return element(c["v"], first_one if first_one else j)
 
 
-def wide_copy(c, i, j) -> None:
+def wide_copy(c: Contents, i: int, j: int) -> None:
     set_element(c["v"], i, element(c["v"], j))
     set_element(c["v"], j, whole(element(c["v"], i) + 1))
 
 
-def wide_both(c, x, y) -> None:
+def wide_both(c: Contents, x: int, y: int) -> None:
     set_element(c["v"], 0, x)
     set_element(c["v"], 1023, y)
 
 
-def spans_get(c, i, j):
+def spans_get(c: Contents, i: int, j: int) -> int:
     return whole(element(c["b"], i) + element(c["e"], j))
 
 
-def spans_put(c, i, x) -> None:
+def spans_put(c: Contents, i: int, x: int) -> None:
     set_element(c["c"], i, x)
     set_element(c["e"], i, x)
 
 
-def spans_move(c, i, j) -> None:
+def spans_move(c: Contents, i: int, j: int) -> None:
     set_element(c["d"], i, element(c["a"], j))
     set_element(c["a"], j, whole(element(c["e"], i) + 1))
     set_element(c["e"], j, element(c["d"], i))
 
 
-def spans_count(c, i):
+def spans_count(c: Contents, i: int) -> int:
     return whole(len(c["a"]) + len(c["b"]) + len(c["c"]) + len(c["e"]) + element(c["d"], i))
 
 
-def spans(length):
+def spans(length: int) -> Object:
     """An object with arrays that fill their last page, miss it by an element, or end within it."""
     return Object(
         f"spans{length}",
@@ -150,36 +150,36 @@ end;
     )
 
 
-def shelves_pour(c, x) -> None:
+def shelves_pour(c: Contents, x: str) -> None:
     for _ in range(16):
         append(c["line"], x)
 
 
-def shelves_drain(c) -> None:
+def shelves_drain(c: Contents) -> None:
     for _ in range(16):
         first(c["line"])
         del c["line"][0]
 
 
-def shelves_fill(c, x) -> None:
+def shelves_fill(c: Contents, x: str) -> None:
     c["held"].update({f"k{at:02}": x for at in range(32)})
 
 
-def shelves_drop(c, k) -> None:
+def shelves_drop(c: Contents, k: str) -> None:
     lookup(c["held"], k)
     del c["held"][k]
 
 
-def shelves_move(c, k) -> None:
+def shelves_move(c: Contents, k: str) -> None:
     c["held"][k] = first(c["line"])
     del c["line"][0]
 
 
-def hall_come(c, x) -> None:
+def hall_come(c: Contents, x: int) -> None:
     c["seats"][0] = whole(c["seats"][0] + x)
 
 
-def hall_leave(c) -> None:
+def hall_leave(c: Contents) -> None:
     c["seats"][0] = whole(c["seats"][0] - 1)
 
 
@@ -187,30 +187,30 @@ def hall_never(_: object) -> None:
     raise Refusal("never")
 
 
-def hall_clear(c) -> None:
+def hall_clear(c: Contents) -> None:
     first(c["log"])
     del c["log"][0]
 
 
-def jobs_claim(c):
+def jobs_claim(c: Contents) -> str:
     oldest = first(c["line"])
     del c["line"][0]
     return oldest
 
 
-def jobs_finish(c, x) -> None:
+def jobs_finish(c: Contents, x: str) -> None:
     if x == "it's":
         raise Refusal("never")
     c["tally"][0] = whole(c["tally"][0] + 1)
 
 
-def seats_book(c, i, x) -> None:
+def seats_book(c: Contents, i: int, x: str) -> None:
     if element(c["who"], i) != "":
         raise Refusal("taken")
     set_element(c["who"], i, x)
 
 
-def seats_free(c, i, x) -> None:
+def seats_free(c: Contents, i: int, x: str) -> None:
     if element(c["who"], i) != x:
         raise Refusal("other")
     set_element(c["who"], i, "")

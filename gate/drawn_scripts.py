@@ -1,9 +1,12 @@
 """The scripts that are drawn from seeds, each with what it has to answer. A script follows from its seed, so each run draws
 the same ones."""
+from collections.abc import Iterable, Sequence
+
 from gate.drawn_objects import HOLDING, OBJECTS
 from gate.seeds import Drawer
 from gate.slow_holds import HeldWorld
-from gate.slow_world import MOST, Object, World, finish_line, shown_lines, written
+from gate.slow_world import MOST, Datum, Ending, Object, World, finish_line, shown_lines, written
+from gate.tried import there
 
 # Lines that say nothing.
 BAD_LINES: tuple[str, ...] = ("begin", "show 1", "step 1", "call s1", "call 1 x", "steps x", "finish", "cancel s1", "drop 1", "Show", "object two")
@@ -34,35 +37,37 @@ class Script:
     # Lines that say nothing, of which one ends a script of so many.
     bad_lines, bad_in = BAD_LINES, 12
 
-    def __init__(self, seed) -> None:
+    def __init__(self, seed: int) -> None:
         self.seed, self.draw = seed, Drawer(seed)
         self.made = self.objects[seed % len(self.objects)]
         self.world = self.world_of(self.made)
-        self.lines, self.answers, self.status = [], [], 0
+        self.lines: list[str] = []
+        self.answers: list[str] = []
+        self.status = 0
         # How each `do` was answered: what its last line, or that before those of the calls that it started, begins with.
-        self.dones = []
+        self.dones: list[str] = []
         # How lines end, or none where each ends as it likes; and whether the last one lacks its end.
         self.ends = self.draw.of((b"\n", b"\n", b"\r\n", None))
         self.is_open = self.draw.one_in(4)
 
-    def cased(self, name):
+    def cased(self, name: str) -> str:
         return self.draw.of((name, name, name.upper(), name.capitalize(), name.swapcase()))
 
-    def number(self, number):
+    def number(self, number: int | str) -> str:
         return self.draw.of(("", "", "", "", "", "0", "000")) + str(number)
 
-    def spaced(self, words):
+    def spaced(self, words: Sequence[str]) -> str:
         """The words as a line, with more spaces now and then."""
         if not self.draw.one_in(6):
             return " ".join(words)
         blanks = [" " * self.draw.below(3), *(" " * (1 + self.draw.below(3)) for _ in words[1:]), " " * self.draw.below(3)]
         return "".join(blank + word for blank, word in zip(blanks, words)) + blanks[-1]
 
-    def add(self, words, answer) -> None:
+    def add(self, words: Sequence[str], answer: Iterable[str]) -> None:
         self.lines.append(self.spaced(words))
         self.answers += answer
 
-    def text(self):
+    def text(self) -> bytes:
         """The bytes of the script."""
         either = Drawer(self.seed)
         ends = [self.ends or either.of((b"\n", b"\r\n")) for _ in self.lines]
@@ -73,7 +78,7 @@ class Script:
     def open(self) -> None:
         self.add(["object", self.cased(self.made.name)], [])
 
-    def session(self):
+    def session(self) -> int:
         """Mostly one that is free."""
         busy = {it.session for it in self.world.calls if it.state in ("waiting", "running")} | self.world.gone
         free = [it for it in SESSIONS if 1 <= it <= 1024 and it not in busy]
@@ -81,68 +86,69 @@ class Script:
             return self.draw.of(free)
         return self.draw.of(SESSIONS)
 
-    def operation(self, names):
+    def operation(self, names: Iterable[str]) -> str:
         return self.draw.weighted({name: self.made.operations[name].weight for name in names})
 
-    def arguments(self, op):
+    def arguments(self, op: str) -> list[Datum]:
         return [self.draw.of(it) for it in self.made.operations[op].draws]
 
-    def wrong(self, arguments):
+    def wrong(self, arguments: Sequence[Datum]) -> Sequence[Datum]:
         """Arguments that may not fit."""
         how = self.draw.below(3)
         if how == 0 or not arguments:
-            return [*arguments, self.draw.of((0, 7, "", "x"))]
+            others: tuple[Datum, ...] = (0, 7, "", "x")
+            return [*arguments, self.draw.of(others)]
         if how == 1:
             return arguments[:-1]
         at = self.draw.below(len(arguments))
         return [*arguments[:at], "7" if isinstance(arguments[at], int) else 7, *arguments[at + 1 :]]
 
-    def texts(self, arguments):
+    def texts(self, arguments: Iterable[Datum]) -> list[str]:
         return [self.number(it) if isinstance(it, int) else written(it) for it in arguments]
 
-    def wished(self):
+    def wished(self) -> tuple[int, str, Sequence[Datum]]:
         """A session, and what it would call: now and then with arguments that do not fit, or what there is not."""
         op, session = self.operation(self.made.operations), self.session()
-        arguments = self.arguments(op)
+        arguments: Sequence[Datum] = self.arguments(op)
         if self.draw.one_in(12):
             arguments = self.wrong(arguments)
         if self.draw.one_in(12):
             op = self.draw.of(UNKNOWN)
         return session, op, arguments
 
-    def add_call(self, session, op, arguments) -> None:
+    def add_call(self, session: int, op: str, arguments: Sequence[Datum]) -> None:
         texts = self.texts(arguments)
         answer = self.world.call(session, op, arguments)
         self.add(["call", "s" + self.number(session), op, *texts], answer)
 
     def draw_call(self) -> None:
         op = self.operation(self.made.operations)
-        arguments = self.arguments(op)
+        arguments: Sequence[Datum] = self.arguments(op)
         if self.draw.one_in(20):
             arguments = self.wrong(arguments)
         if self.draw.one_in(20):
             op = self.draw.of(UNKNOWN)
         self.add_call(self.session(), self.cased(op), arguments)
 
-    def any_number(self):
+    def any_number(self) -> int:
         count = len(self.world.calls)
         return self.draw.of((0, 1, count, count + 1, 65537, MOST, 1 + self.draw.below(count + 1)))
 
-    def running_number(self):
+    def running_number(self) -> int:
         found = self.world.numbered("running")
         return self.draw.of(found) if found and not self.draw.one_in(4) else self.any_number()
 
-    def step_number(self):
+    def step_number(self) -> int:
         """Mostly that of a call whose run has steps left."""
-        found = [it for it in self.world.numbered("running") if self.world.running(it).needs]
+        found = [it for it in self.world.numbered("running") if there(self.world.running(it)).needs]
         return self.draw.of(found) if found and not self.draw.one_in(12) else self.running_number()
 
-    def finish_number(self):
+    def finish_number(self) -> int:
         """Mostly that of a call whose run has ended."""
-        found = [it for it in self.world.numbered("running") if not self.world.running(it).needs]
+        found = [it for it in self.world.numbered("running") if not there(self.world.running(it)).needs]
         return self.draw.of(found) if found and not self.draw.one_in(12) else self.running_number()
 
-    def cancel_number(self):
+    def cancel_number(self) -> int:
         found = self.world.numbered("waiting")
         return self.draw.of(found) if found and not self.draw.one_in(3) else self.any_number()
 
@@ -198,10 +204,10 @@ class Script:
             self.add(["show"], self.world.show())
             self.add(["trace"], self.world.trace_lines())
 
-    def wanted(self):
+    def wanted(self) -> str:
         return "".join(it + "\n" for it in self.answers)
 
-    def judged(self, answer):
+    def judged(self, answer: str) -> str:
         """The part of an answer that is compared."""
         return answer
 
@@ -212,7 +218,8 @@ class InTurn(Script):
 
     def draw_lines(self) -> None:
         self.open()
-        contents, trace, number = self.made.opening(), [], 0
+        contents, number = self.made.opening(), 0
+        trace: list[tuple[str, str]] = []
         for _ in range(1 + self.draw.below(45)):
             able = [it for it in self.made.operations if self.made.admits([*trace, ("start", it)])]
             if not able:
@@ -226,17 +233,17 @@ class InTurn(Script):
                 self.add(["show"], shown_lines(self.made, contents))
         self.add(["show"], shown_lines(self.made, contents))
 
-    def add_turn(self, number, op, arguments, ending) -> None:
+    def add_turn(self, number: int, op: str, arguments: Sequence[Datum], ending: Ending) -> None:
         """A call from its beginning to its end."""
         texts = self.texts(arguments)
         self.add(["call", f"s{1 + self.draw.below(6)}", self.cased(op), *texts], [])
         self.add_end(number, ending)
 
-    def add_end(self, number, ending) -> None:
+    def add_end(self, number: int, ending: Ending) -> None:
         self.add(["steps", str(number)], [])
         self.add(["finish", str(number)], [finish_line(number, ending)])
 
-    def judged(self, answer):
+    def judged(self, answer: str) -> str:
         told = ("done ", "refused ", "failed ", "repeat ", *(f"{name} = " for name in self.made.parts))
         kept = [it for it in answer.splitlines(keepends=True) if it.startswith(told)]
         return "".join(kept)
@@ -268,16 +275,16 @@ class Returning(Script):
             session = self.draw.of(gone if gone and not self.draw.one_in(4) else SESSIONS)
             self.add(["resume", "s" + self.number(session)], self.world.resume(session))
 
-    def add_keyed(self, session, key, op, arguments) -> None:
+    def add_keyed(self, session: int, key: int, op: str, arguments: Sequence[Datum]) -> None:
         answer = self.world.keyed_call(session, key, op, arguments)
         words = ["call", "s" + self.number(session), "#" + self.number(key), self.cased(op)]
         self.add([*words, *self.texts(arguments)], answer)
 
-    def key_of(self, session, number):
+    def key_of(self, session: int, number: int) -> int:
         """The place of a call among the calls of its session; that of the next one where no call has this number yet."""
         return sum(it.session == session for it in self.world.calls[: number - 1]) + 1
 
-    def next_key(self, session):
+    def next_key(self, session: int) -> int:
         return self.key_of(session, len(self.world.calls) + 1)
 
     def draw_new(self) -> None:
@@ -290,7 +297,7 @@ class Returning(Script):
         if not self.world.calls:
             self.draw_new()
             return
-        alike = {}
+        alike: dict[str, list[int]] = {}
         for number, it in enumerate(self.world.calls, 1):
             alike.setdefault(it.ending[0] if it.ending else it.state, []).append(number)
         number = self.draw.of(alike[self.draw.of(sorted(alike))])
@@ -313,11 +320,11 @@ class InTurnAgain(InTurn):
     """A script in turn in which calls have keys, sessions come back, and calls that were done are asked for again: each
     answer to that is their finish line, which follows from the sequential object alone."""
 
-    def __init__(self, seed) -> None:
+    def __init__(self, seed: int) -> None:
         super().__init__(seed)
-        self.done = {}
+        self.done: dict[int, list[tuple[int, str, Sequence[Datum], Ending]]] = {}
 
-    def add_turn(self, number, op, arguments, ending) -> None:
+    def add_turn(self, number: int, op: str, arguments: Sequence[Datum], ending: Ending) -> None:
         session = 1 + self.draw.below(6)
         done = self.done.setdefault(session, [])
         if self.draw.one_in(3):
@@ -346,7 +353,7 @@ class Doing(Returning):
             return
         self.add_done(*self.wished())
 
-    def add_done(self, session, op, arguments) -> None:
+    def add_done(self, session: int, op: str, arguments: Sequence[Datum]) -> None:
         texts = self.texts(arguments)
         answer = self.world.do(session, op, arguments)
         told = [it for it in answer if not it.startswith("started ")]
@@ -357,7 +364,7 @@ class Doing(Returning):
 class DoingInTurn(InTurn):
     """A script in turn in which a call is done in one line, or in three."""
 
-    def add_turn(self, number, op, arguments, ending) -> None:
+    def add_turn(self, number: int, op: str, arguments: Sequence[Datum], ending: Ending) -> None:
         if self.draw.one_in(3):
             super().add_turn(number, op, arguments, ending)
             return
@@ -370,7 +377,7 @@ class Asking(Doing):
 
     bad_lines = BAD_QUESTIONS
 
-    def why_number(self):
+    def why_number(self) -> int:
         """Mostly that of a call that waits."""
         found = self.world.numbered("waiting")
         return self.draw.of(found) if found and not self.draw.one_in(3) else self.any_number()
@@ -414,7 +421,7 @@ FIRST_ASK = 641
 FIRST_HOLD = 801
 
 
-def script_of(seed):
+def script_of(seed: int) -> Script:
     """The script of a seed: one of seven is in turn. From a seed on sessions come back, and calls have keys; from a later
     one on many calls are done at once; then it is asked why calls wait; and the last ones are on objects with holds."""
     kinds = (Script, InTurn) if seed < FIRST_RETURN else (Returning, InTurnAgain) if seed < FIRST_DO else (Doing, DoingInTurn)
@@ -425,6 +432,6 @@ def script_of(seed):
     return script
 
 
-def source_of(seed):
+def source_of(seed: int) -> str:
     """The text of the objects among which that of the script of a seed is."""
     return "".join(it.text for it in (OBJECTS if seed < FIRST_HOLD else OBJECTS + HOLDING))

@@ -11,6 +11,7 @@ import argparse
 import re
 import subprocess
 import sys
+from collections.abc import Iterable, Iterator
 
 from gate.tried import TOP, given_words, program
 
@@ -19,7 +20,7 @@ VERSION = re.compile(r"\bpathserve (\d+\.\d+\.\d+)\b")
 FOLDER = "## The folder of a server"
 
 
-def help_of(program, *words):
+def help_of(program: str, *words: str) -> str:
     """What the program says for `--help` of a subcommand, or of itself."""
     ran = subprocess.run([program, *words, "--help"], capture_output=True, text=True, timeout=60, check=False)
     if ran.returncode or ran.stderr:
@@ -27,9 +28,10 @@ def help_of(program, *words):
     return ran.stdout.rstrip("\n")
 
 
-def sections(text):
+def sections(text: str) -> dict[str, list[str]]:
     """The parts of a help text: what the command does, its usage, the lines below each heading, and what follows."""
-    found, name = {"about": [], "rest": []}, "about"
+    found: dict[str, list[str]] = {"about": [], "rest": []}
+    name = "about"
     for line in text.split("\n"):
         heading = re.fullmatch(r"(Commands|Arguments|Options):", line)
         if heading:
@@ -48,26 +50,26 @@ def sections(text):
     return found
 
 
-def escaped(text):
+def escaped(text: str) -> str:
     """A text in the notation of manual pages, with `words` in bold."""
     text = text.replace("\\", r"\e").replace("-", r"\-")
     text = re.sub(r"`([^`]*)`", r"\\fB\1\\fR", text)
     return re.sub(r"(?m)^([.'])", r"\\&\1", text)
 
 
-def entries(lines):
+def entries(lines: Iterable[str]) -> Iterator[tuple[str, str]]:
     """The words and the text of each line of a list: `  <FILE>  The file ..`."""
     for line in lines:
         word, _, text = line.strip().partition("  ")
         yield word.strip(), text.strip()
 
 
-def put_list(page, lines) -> None:
+def put_list(page: list[str], lines: Iterable[str]) -> None:
     for word, text in entries(lines):
         page += [".TP", rf"\fB{escaped(word)}\fR", escaped(text)]
 
 
-def put_text(page, lines) -> None:
+def put_text(page: list[str], lines: Iterable[str]) -> None:
     """Paragraphs, and lines that are indented as they stand."""
     text = "\n".join(lines)
     for block in re.split(r"\n\s*\n", text):
@@ -84,7 +86,7 @@ def put_text(page, lines) -> None:
             at = end
 
 
-def files_of_a_folder():
+def files_of_a_folder() -> Iterator[list[str]]:
     """The names and the contents of the table of a server's folder in docs/FORMATS.md."""
     text = (TOP / "docs" / "FORMATS.md").read_text(encoding="utf-8")
     section = text[text.index(FOLDER) :].split("\n## ")[0]
@@ -94,7 +96,7 @@ def files_of_a_folder():
             yield cells
 
 
-def page_of(program):
+def page_of(program: str) -> str:
     """The text of the page."""
     whole = sections(help_of(program))
     names = [word for word, _ in entries(whole["Commands"]) if word != "help"]

@@ -30,11 +30,14 @@ import re
 import struct
 import subprocess
 import tempfile
+from collections.abc import Container, Iterable, Iterator, Mapping, Sequence
 
-from gate.tried import TOP, whole
+from gate.tried import TOP, there, whole
 from tools import make_ready, ready, repository
 
 TABLE = TOP / "gate" / "public_calls.txt"
+# What is looked at by its name, and what is wrong with it, or none.
+Looked = tuple[str, str | None]
 PROGRAM = "pathserve"
 TESTS = "_vectors"
 # Parts of the gate that count as cases: what they try no case can say.
@@ -47,15 +50,15 @@ ENUM = re.compile(r"^pub enum (\w+)[^{\n]*\{\n(.*?)^\}", re.M | re.S)
 VARIANT = re.compile(r"^    ([A-Z]\w*)", re.M)
 
 
-def libraries():
+def libraries() -> list[str]:
     """The crates that are no tests and no program."""
     # (a program has no call that another crate makes)
     return [it for it in repository.crates() if not it.endswith(TESTS) and (TOP / "crates" / it / "src" / "lib.rt").exists()]
 
 
-def sources(crate):
+def sources(crate: str) -> Iterator[tuple[list[str], str]]:
     """The public modules of a crate: the names that lead to each, and its text."""
-    waiting = [([], TOP / "crates" / crate / "src" / "lib.rt", TOP / "crates" / crate / "src")]
+    waiting: list[tuple[list[str], pathlib.Path, pathlib.Path]] = [([], TOP / "crates" / crate / "src" / "lib.rt", TOP / "crates" / crate / "src")]
     while waiting:
         names, file, folder = waiting.pop(0)
         text = file.read_text(encoding="utf-8")
@@ -65,7 +68,7 @@ def sources(crate):
             waiting.append(([*names, name], inner if inner.exists() else folder / name / "mod.rt", folder / name))
 
 
-def type_of(line):
+def type_of(line: str) -> str | None:
     """The type to whose own functions an `impl` line leads, or None."""
     head, depth = line.removeprefix("impl").strip(), 0
     if head.startswith("<"):
@@ -74,10 +77,10 @@ def type_of(line):
             if not depth:
                 head = head[at + 1 :].strip()
                 break
-    return None if re.search(r"\bfor\b", head) else re.match(r"\w+", head)[0]
+    return None if re.search(r"\bfor\b", head) else there(re.match(r"\w+", head))[0]
 
 
-def functions_of(crate):
+def functions_of(crate: str) -> Iterator[str]:
     """The public functions of a crate that have a body, each by its path; with the type in place of its module, since
     functions of a type may stand in other modules."""
     for names, text in sources(crate):
@@ -97,7 +100,7 @@ def functions_of(crate):
             yield f"{crate}::{here}::{told[2]}" if told[1] else "::".join([crate, *names, told[2]])
 
 
-def refusals_of(crate):
+def refusals_of(crate: str) -> Iterator[str]:
     """The faults and refusals of a crate, each as `crate Enum::Variant`."""
     for _, text in sources(crate):
         for name, body in ENUM.findall(text):
@@ -105,7 +108,7 @@ def refusals_of(crate):
                 yield from (f"{crate} {name}::{it}" for it in VARIANT.findall(body) if it != "Memory")
 
 
-def read_table():
+def read_table() -> tuple[dict[str, str], dict[str, tuple[str, str]]]:
     """The functions that no case runs, each with what calls it, and the faults, each with a file and a text."""
     calls, shown = {}, {}
     for line in TABLE.read_text(encoding="utf-8").splitlines():
@@ -119,12 +122,12 @@ def read_table():
     return calls, shown
 
 
-def test_text(crate):
+def test_text(crate: str) -> str:
     """The sources of a test crate."""
     return "\n".join(it.read_text(encoding="utf-8") for it in repository.files(TOP / "crates" / crate / "src"))
 
 
-def looks(functions, refusals, calls, shown):
+def looks(functions: Container[str], refusals: Sequence[str], calls: Mapping[str, str], shown: Mapping[str, tuple[str, str]]) -> Iterator[Looked]:
     """What is wrong with the table, for each of its lines and for each fault that it lacks; None where it is right."""
     for name, told in calls.items():
         where, _, by = told.partition(" by ")
@@ -150,7 +153,7 @@ def looks(functions, refusals, calls, shown):
             yield name, None
 
 
-def counting(folder):
+def counting(folder: pathlib.Path) -> pathlib.Path:
     """Builds the program that notes which of its functions run."""
     kit = ready.kit()
     ready.copy_sources(folder / "repo")
@@ -168,18 +171,18 @@ def counting(folder):
     return taken / PROGRAM
 
 
-def plain(symbol):
+def plain(symbol: str) -> str:
     """The path of a function, without what it was made for."""
     return re.sub(r"::<.*", "", symbol)
 
 
-def path_of(symbol):
+def path_of(symbol: str) -> str:
     """The path of a function as the table has it: `crate::Type::function`, or with all its modules."""
     parts = plain(symbol).split("::")
     return f"{parts[0]}::{parts[-2]}::{parts[-1]}" if len(parts) > 2 and parts[-2][:1].isupper() else "::".join(parts)
 
 
-def symbols(program):
+def symbols(program: pathlib.Path) -> tuple[list[int], list[str], int]:
     """The addresses of the functions of a program, in order, their paths, and the address from which callers count."""
     said = subprocess.run(["nm", program], capture_output=True, text=True, check=True).stdout
     rows = sorted((int(it[:16], 16), it[19:]) for it in said.splitlines() if it[17:18] in tuple("tT"))
@@ -187,12 +190,12 @@ def symbols(program):
     return [at for at, _ in rows], [path_of(name) for _, name in rows], base
 
 
-def counted(program, folder):
+def counted(program: pathlib.Path, folder: pathlib.Path) -> dict[str, str]:
     """The functions that run in the cases, each with the first file of cases in which it does."""
     starts, paths, base = symbols(program)
-    found = {}
+    found: dict[str, str] = {}
     notes = folder / "notes"
-    runs = [(f"gate/{it}", [TOP / "gate" / it, "--program", program]) for it in PARTS]
+    runs: list[tuple[str, list[str | pathlib.Path]]] = [(f"gate/{it}", [TOP / "gate" / it, "--program", program]) for it in PARTS]
     for file in sorted((TOP / "cases").rglob("*.cases")):
         name = str(file.relative_to(TOP))
         tool = "run_sessions" if file.parent.name == "serve" else "run_cases"
@@ -209,7 +212,7 @@ def counted(program, folder):
     return found
 
 
-def counts(functions, calls, is_listed):
+def counts(functions: Iterable[str], calls: Mapping[str, str], is_listed: bool) -> Iterator[Looked]:
     """What is wrong with each function, by what ran in the cases; None where it is right."""
     with tempfile.TemporaryDirectory(prefix="public-calls-") as name:
         folder = pathlib.Path(name)
@@ -225,7 +228,7 @@ def counts(functions, calls, is_listed):
             yield it, None
 
 
-def opens(calls):
+def opens(calls: Mapping[str, str]) -> dict[str, str | None]:
     """The crates that are open; what is wrong with each, or None."""
     below = set(repository.below(repository.crates(), PROGRAM))
     return {it: "is open, and the program stands on it" if it in below else None for it, told in calls.items() if told == "open"}

@@ -14,25 +14,37 @@ given; with `--runs 0` each number is tried, from the first one given on. KIND l
 have these words. Where there is no `cc` nothing is run. The program is the one that ./pathserve runs, or FILE. The last
 line is `refuse_kept: N passed, M failed`; the exit status is 0 where M is 0 and N is not.
 """
-import collections
 import concurrent.futures
 import contextlib
 import errno
 import os
 import pathlib
 import random
+import socket
 import subprocess
 import tempfile
 import threading
 import time
+from collections.abc import Iterable
+from typing import NamedTuple
 
 from gate import crowd, losing, refusing
 from gate.crowd import Crowd
 from gate.kept import ROOMS, Server, Talk, options
 from gate.tried import Wrong, check, given_words, holds, lacks, program, whole
 
-# What fails, how, and with which statuses the server may end: where it goes on it ends in order, with 0.
-Kind = collections.namedtuple("Kind", "name env statuses play", defaults=("calls",))
+
+class Kind(NamedTuple):
+    """What fails, how, and with which statuses the server may end: where it goes on it ends in order, with 0."""
+
+    name: str
+    env: dict[str, str]
+    statuses: tuple[int, ...]
+    play: str = "calls"
+
+
+# The libraries that have calls of the system fail, and that refuse growths.
+Libraries = tuple[pathlib.Path, pathlib.Path]
 DISK = ("open", "read", "write", "seek", "size", "sync", "rename", "link", "unlink")
 CONNECTIONS = (("accept", "EMFILE"), ("accept", "ECONNABORTED"), ("accept", "EINTR"), ("recv", "ECONNRESET"),
                ("recv", "EINTR"), ("recv", "EIO"), ("send", "EPIPE"), ("send", "EINTR"), ("send", "EIO"),
@@ -43,7 +55,7 @@ CALLS, PUMPED, ROUNDS = 12, 3300, 2400
 KILLED = -9
 
 
-def kinds():
+def kinds() -> list[Kind]:
     """All kinds, those of which a change of epochs is tried too at the end."""
     found = []
     for call in DISK:
@@ -66,10 +78,11 @@ def kinds():
 class Run:
     """A server of which one call fails, and what came of it."""
 
-    def __init__(self, libraries, kind, number):
-        self.kind, self.number, self.libraries, self.wrong, self.was_refused = kind, number, libraries, None, False
+    def __init__(self, libraries: Libraries, kind: Kind, number: int) -> None:
+        self.kind, self.number, self.libraries, self.was_refused = kind, number, libraries, False
+        self.wrong: str | None = None
 
-    def go(self):
+    def go(self) -> "Run":
         with tempfile.TemporaryDirectory(prefix="refuse-", dir=ROOMS) as folder:
             try:
                 (self.read if self.kind.play == "options" else self.tried)(pathlib.Path(folder))
@@ -77,17 +90,17 @@ class Run:
                 self.wrong = f"{type(wrong).__name__} {wrong}"
         return self
 
-    def env(self, folder):
+    def env(self, folder: pathlib.Path) -> dict[str, str]:
         note, own = str(folder / "note"), {"LOSE_FROM": str(folder / "kept")}
         if not self.kind.env:
             return {"LD_PRELOAD": str(self.libraries[1]), "REFUSE_NOTE": note, "REFUSE_GROWTH": str(self.number)}
         own |= {"LD_PRELOAD": str(self.libraries[0]), "FAIL_NOTE": note, "FAIL_NUMBER": str(self.number)}
         return own | self.kind.env
 
-    def read(self, folder):
+    def read(self, folder: pathlib.Path) -> None:
         """Its command line is read."""
         pasts = [it for operation in ("say", "get") for it in ("--past", f"echo:{operation}:2")]
-        words = [program(), "keep", folder / "none.pp", folder, "1", "--sync", "100", *pasts]
+        words: list[str | pathlib.Path] = [program(), "keep", folder / "none.pp", folder, "1", "--sync", "100", *pasts]
         ran = subprocess.run(words, env={**os.environ, **self.env(folder)}, capture_output=True, text=True, timeout=60)
         self.was_refused = (folder / "note").exists()
         holds(ran.returncode in self.kind.statuses, f"status {ran.returncode}, standard error {ran.stderr!r}")
@@ -97,7 +110,7 @@ class Run:
         check(ran.stderr.splitlines()[-1:], [last], "the last line of standard error")
         holds(self.was_refused or ran.returncode == 3, "nothing was refused, and it is out of memory")
 
-    def tried(self, folder):
+    def tried(self, folder: pathlib.Path) -> None:
         # What was kept before has to be there too.
         server = Server(folder, crowd.SOURCE, at_path=True)
         server.start()
@@ -113,11 +126,11 @@ class Run:
             if server.runs():
                 server.kill()
 
-    def play(self, folder, server, clients):
+    def play(self, folder: pathlib.Path, server: Server, clients: Crowd) -> None:
         server.env = self.env(folder)
         server.begin()
         line = server.line()
-        eve = None
+        eve: Pumping | None = None
         if line:
             check(line, f"listening {server.place}\n", "the first line")
             eve = Pumping(server) if self.kind.play == "epochs" else None
@@ -128,6 +141,7 @@ class Run:
             if eve:
                 eve.join()
         self.was_refused = (folder / "note").exists()
+        status: int | None
         if server.runs():
             out, status = server.end()
         else:
@@ -152,12 +166,13 @@ class Run:
 class Pumping(threading.Thread):
     """A client of one object that has so much said that its journal begins anew, and one with a name there."""
 
-    def __init__(self, server):
+    def __init__(self, server: Server) -> None:
         super().__init__(daemon=True)
-        self.server, self.done, self.answers = server, 0, []
+        self.server, self.done = server, 0
+        self.answers: list[str] = []
         self.start()
 
-    def run(self):
+    def run(self) -> None:
         with contextlib.suppress(OSError, EOFError, Wrong):
             for turn in range(3):
                 self.named(turn)
@@ -165,7 +180,7 @@ class Pumping(threading.Thread):
                     self.pump(it)
             self.named(3)
 
-    def named(self, turn):
+    def named(self, turn: int) -> None:
         with Talk(self.server) as it:
             # (her connection before may not have been seen to end)
             while not self.answer(it, "open echo as eve").startswith("opened "):
@@ -174,7 +189,7 @@ class Pumping(threading.Thread):
                 self.answers.append(self.answer(it, f"call #{key} say 'e{key}'"))
 
     @staticmethod
-    def answer(it, line):
+    def answer(it: Talk, line: str) -> str:
         """The last line that answers one, which is said again where memory was refused."""
         answer = "no Memory"
         while answer == "no Memory":
@@ -187,7 +202,7 @@ class Pumping(threading.Thread):
         return answer
 
     @staticmethod
-    def pump(it):
+    def pump(it: Talk) -> None:
         text = f"call say '{crowd.LONG}'\n".encode() * PUMPED
         saying = threading.Thread(target=send, args=(it.socket, text), daemon=True)
         saying.start()
@@ -199,7 +214,7 @@ class Pumping(threading.Thread):
             left -= line.startswith(("done", "no", "failed"))
         saying.join()
 
-    def look(self, server):
+    def look(self, server: Server) -> None:
         """What was answered is known, and nothing is known that was not asked."""
         with Talk(server, "open echo as eve") as it:
             line = it.hear()
@@ -212,12 +227,12 @@ class Pumping(threading.Thread):
                 check(it.hear(), f"repeat {answer.removeprefix('repeat ')}", f"the answer of eve's call {key}")
 
 
-def send(it, text):
+def send(it: socket.socket, text: bytes) -> None:
     with contextlib.suppress(OSError):
         it.sendall(text)
 
 
-def spread(count):
+def spread(count: int) -> list[int]:
     """So many numbers from 1 on, further and further apart."""
     number, found = 1, []
     for at in range(count):
@@ -226,7 +241,7 @@ def spread(count):
     return found
 
 
-def each_of(pool, libraries, kind, numbers, jobs):
+def each_of(pool: concurrent.futures.Executor, libraries: Libraries, kind: Kind, numbers: Iterable[int], jobs: int) -> tuple[int, int]:
     """Tries these numbers of a kind, as long as something is refused."""
     passed = failed = 0
     numbers, goes_on = iter(numbers), True

@@ -21,6 +21,8 @@ import pathlib
 import re
 import subprocess
 import tempfile
+from collections.abc import Callable, Iterator
+from typing import NamedTuple
 
 from gate import cases
 from gate.refusing import build
@@ -29,13 +31,24 @@ from gate.tried import TOP, given_words, lacks, program, whole
 SECONDS = 60
 MOST_GROWTHS = 100_000
 MOST_FAILED = 5
-# A command whose growths are refused in turn: its name, its words, its standard input, and whether an answer is right.
-Tried = collections.namedtuple("Tried", "name words stdin is_right")
+Ran = subprocess.CompletedProcess[bytes]
+# A run, or none where it hangs, and whether a growth was refused.
+Refused = tuple[Ran | None, bool]
 
 
-def refused(library, note, number, tried):
+class Tried(NamedTuple):
+    """A command whose growths are refused in turn, and whether an answer is right."""
+
+    name: str
+    words: list[str]
+    stdin: bytes
+    is_right: Callable[[Ran, bool], bool]
+
+
+def refused(library: pathlib.Path, note: pathlib.Path, number: int, tried: Tried) -> Refused:
     """Runs a command with one growth refused: the finished process, or None where it hangs, and whether it was refused."""
     more = {"LD_PRELOAD": str(library), "REFUSE_NOTE": str(note), "REFUSE_GROWTH": str(number)}
+    ran: Ran | None
     try:
         ran = subprocess.run(tried.words, input=tried.stdin, capture_output=True, env={**os.environ, **more}, timeout=SECONDS)
     except subprocess.TimeoutExpired:
@@ -45,11 +58,11 @@ def refused(library, note, number, tried):
     return ran, was_refused
 
 
-def each_growth(pool, ahead, library, folder, tried):
+def each_growth(pool: concurrent.futures.Executor, ahead: int, library: pathlib.Path, folder: pathlib.Path, tried: Tried) -> tuple[int, int]:
     """Refuses each growth of a command in turn, some runs ahead of the one that is looked at, and counts
     the runs that passed and failed."""
-    numbers, waiting = iter(range(1, MOST_GROWTHS)), collections.deque()
-    passed, failed = 0, 0
+    numbers, passed, failed = iter(range(1, MOST_GROWTHS)), 0, 0
+    waiting: collections.deque[tuple[int, concurrent.futures.Future[Refused]]] = collections.deque()
     while failed < MOST_FAILED:
         for number in itertools.islice(numbers, ahead - len(waiting)):
             waiting.append((number, pool.submit(refused, library, folder / f"note{number}", number, tried)))
@@ -72,7 +85,7 @@ def each_growth(pool, ahead, library, folder, tried):
     return passed, failed
 
 
-def has_failed_call(whole, found) -> bool:
+def has_failed_call(whole: bytes, found: bytes) -> bool:
     """Whether a run is the whole one up to a line `failed N memory`, but for the answers to lines `step N` and `steps N`."""
     was, now = whole.splitlines(), found.splitlines()
     at = next((at for at, (first, second) in enumerate(zip(was, now)) if first != second), len(now))
@@ -88,7 +101,7 @@ def has_failed_call(whole, found) -> bool:
     return all(first == second or (stepped.fullmatch(first) and stepped.fullmatch(second)) for first, second in pairs)
 
 
-def runs(folder):
+def runs(folder: pathlib.Path) -> Iterator[tuple[str, list[str], bytes]]:
     """The runs of the program: a name, the command, and what stands on its standard input. What is written
     for them lies in the folder."""
     for number, case in enumerate(it for path in cases.files([]) for it in cases.cases_of(path) if it.growths):
@@ -98,12 +111,12 @@ def runs(folder):
         yield case.name(), placed.words, placed.input
 
 
-def program_runs(folder):
+def program_runs(folder: pathlib.Path) -> Iterator[Tried]:
     """The runs of the program, each with what tells whether it ran right: as when all the memory that it wants is there."""
     for name, words, stdin in runs(folder):
         whole = subprocess.run(words, input=stdin, capture_output=True, timeout=SECONDS)
 
-        def is_right(ran, was_refused, whole=whole, explains="--no-explain" not in words) -> bool:
+        def is_right(ran: Ran, was_refused: bool, whole: Ran = whole, explains: bool = "--no-explain" not in words) -> bool:
             same = (ran.returncode, ran.stdout, ran.stderr) == (whole.returncode, whole.stdout, whole.stderr)
             before = ran.stderr.removesuffix(b"out of memory\n")
             is_front = not before or (explains and whole.stderr.startswith(before))

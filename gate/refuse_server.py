@@ -21,6 +21,8 @@ import re
 import socket
 import tempfile
 import time
+from collections.abc import Sequence
+from typing import Any, Union
 
 from gate.clients import Connection, Wrong
 from gate.refusing import build
@@ -32,14 +34,18 @@ CALLS = [it.removeprefix("call ") for it in LINES if it.startswith("call ")]
 # How long a run may last, how long an answer is waited for that may not come, in seconds, and a number of a growth that none has.
 LASTS, SHORT, NONE = 10, 0.1, 1 << 20
 MOST_FAILED = 5
+# What clients do, and what they are to be told.
+Play = Union["type[One]", "type[Two]"]
 
 
 class Ran:
     """A run of a play that has ended: its status, what it wrote, what its clients were told, and whether a growth was refused."""
 
-    def __init__(self, library, folder, play, number) -> None:
+    def __init__(self, library: pathlib.Path, folder: str, play: Play, number: int) -> None:
         self.name, self.is_whole = play.name, number == NONE
-        self.folder, self.lines, self.clients = pathlib.Path(folder), [], []
+        self.folder = pathlib.Path(folder)
+        self.lines: list[str] = []
+        self.clients: list[Connection] = []
         self.objects = self.folder / "objects.pp"
         self.objects.write_text(play.source, encoding="ascii")
         self.end = time.monotonic() + LASTS
@@ -61,7 +67,7 @@ class Ran:
                 it.close()
         self.was_refused = note.exists()
 
-    def connection(self):
+    def connection(self) -> Connection | None:
         """A connection, or none where the server is gone."""
         try:
             client = Connection(self.port, LASTS)
@@ -70,7 +76,7 @@ class Ran:
         client.end = self.end
         return client
 
-    def faults(self, play):
+    def faults(self, play: Play) -> list[str]:
         """What is wrong with it."""
         said = []
         if self.status not in (0, 1, 4) or self.error != ("out of memory\n" if self.status == 4 else ""):
@@ -90,7 +96,7 @@ class Ran:
         return said + play.answered_wrongly(self.lines)
 
 
-def say(client, *lines):
+def say(client: Connection, *lines: str) -> bool:
     """Sends lines. It answers whether the connection stood."""
     try:
         client.send("".join(f"{it}\n" for it in lines).encode(), 0)
@@ -99,7 +105,7 @@ def say(client, *lines):
         return False
 
 
-def hear(client):
+def hear(client: Connection) -> str | None:
     """The next line that is not `accepted N`, or none where no more comes."""
     try:
         while (line := client.line()) and line.startswith(b"accepted "):
@@ -109,7 +115,7 @@ def hear(client):
         return None
 
 
-def hear_on(client, seconds) -> None:
+def hear_on(client: Connection, seconds: float) -> None:
     """Hears so long, or until no more comes."""
     last, client.end = client.end, min(client.end, time.monotonic() + seconds)
     try:
@@ -120,13 +126,13 @@ def hear_on(client, seconds) -> None:
     client.end = last
 
 
-def hear_until(client, ends) -> None:
+def hear_until(client: Connection, ends: dict[int, str]) -> None:
     """Hears until the client was told these ends of its calls, or no more comes."""
     while client.told.ends != ends and hear(client):
         pass
 
 
-def send_no_more(client) -> None:
+def send_no_more(client: Connection) -> None:
     try:
         client.it.shutdown(socket.SHUT_WR)
     except OSError:
@@ -149,32 +155,34 @@ end;
     ends = [{1: "done", 2: "done 7", 3: "done", 4: "done 12"}]
 
     @staticmethod
-    def talk(run, client=None) -> None:
+    def talk(run: Ran, client: Connection | None = None) -> None:
         for line in LINES if client else ():
+            assert client is not None
             if not say(client, line) or not (answer := hear(client)):
                 return
             run.lines.append(answer)
 
     @staticmethod
-    def bytes(value):
+    def bytes(value: int) -> str:
         """What is saved of it, in hexadecimal digits."""
         return f"0201012c{value:08x}{298 * '00000000'}{value:08x}"
 
     @staticmethod
-    def value(value, call):
+    def value(value: int, call: str) -> int:
         """The value of the cell after a call that was done."""
         name, _, number = call.partition(" ")
         return {"put": int(number or 0), "bump": value + int(number or 0), "get": value}[name]
 
     @staticmethod
-    def is_cut_off(lines) -> bool:
+    def is_cut_off(lines: list[str]) -> bool:
         """Whether the client was not told all."""
         return lines[-1:] != ["bye"]
 
     @classmethod
-    def answered_wrongly(cls, lines):
+    def answered_wrongly(cls, lines: list[str]) -> list[str]:
         ends = [it for it in lines if it.startswith(("done ", "failed ", "refused ", "no Memory", "no BadArgs"))]
-        wanted, value = [], 0
+        wanted: list[str] = []
+        value = 0
         for end, call in zip(ends, CALLS):
             if end == "no Memory" or re.fullmatch(r"failed \d+ memory", end):
                 wanted.append(end)
@@ -195,8 +203,9 @@ class Two:
     ends = [{1: "done", 3: "done"}, {2: "done"}]
 
     @classmethod
-    def talk(cls, run, waits=None, other=None) -> None:
-        for client, *lines in (waits, "open two", "call b", "cancel 9", "call a"), (other, "open two", "call a", "quit"):
+    def talk(cls, run: Ran, waits: Connection | None = None, other: Connection | None = None) -> None:
+        said: tuple[tuple[Any, ...], ...] = (waits, "open two", "call b", "cancel 9", "call a"), (other, "open two", "call a", "quit")
+        for client, *lines in said:
             if client and say(client, *lines):
                 hear_on(client, SHORT)
         # A client that sends no more takes back a call that waits.
@@ -210,11 +219,11 @@ class Two:
                 pass
 
     @staticmethod
-    def bytes(value):
+    def bytes(value: int) -> str:
         return f"02010001{value:08x}"
 
     @staticmethod
-    def value(value, _: object):
+    def value(value: int, _: object) -> int:
         """Both operations add one."""
         return value + 1
 
@@ -223,7 +232,7 @@ class Two:
         return False
 
     @staticmethod
-    def answered_wrongly(_: object):
+    def answered_wrongly(_: object) -> list[str]:
         return []
 
 
@@ -235,8 +244,8 @@ class Again(One):
     calls = ("put 7", "bump 5", "get")
 
     @classmethod
-    def talk(cls, run, *clients) -> None:
-        known = {}
+    def talk(cls, run: Ran, *clients: Any) -> None:
+        known: dict[int, str] = {}
         for client in clients:
             run.lines += cls.visited(client, known)
             send_no_more(client)
@@ -244,14 +253,15 @@ class Again(One):
                 pass
 
     @classmethod
-    def visited(cls, client, known):
+    def visited(cls, client: Connection, known: dict[int, str]) -> list[str]:
         """What is wrong with what a visit is told, and at last its `bye`. `known` has the last lines by keys."""
         opened = hear(client) if say(client, "open cell as ann") else None
         if not opened:
             return []
         if opened not in [f"opened cell next {len(known) + it}" for it in (1, 2)]:
             return [f"it was told {opened!r}, where {known} was known"]
-        key, said = int(opened.rpartition(" ")[2]), []
+        key = int(opened.rpartition(" ")[2])
+        said: list[str] = []
         for at, call in enumerate(cls.calls, 1):
             answer = hear(client) if say(client, f"call #{at} {call}") else None
             if answer == "no Memory":
@@ -269,15 +279,15 @@ class Again(One):
         return [*said, "bye"]
 
     @staticmethod
-    def is_cut_off(lines) -> bool:
+    def is_cut_off(lines: list[str]) -> bool:
         return lines.count("bye") != 2
 
     @classmethod
-    def answered_wrongly(cls, lines):
+    def answered_wrongly(cls, lines: list[str]) -> list[str]:
         return [it for it in lines if it != "bye"]
 
 
-def saved_wrongly(part, trace, play):
+def saved_wrongly(part: pathlib.Path, trace: str, play: Play) -> list[str]:
     """What is wrong with the saved value: it is the one to which the trace leads."""
     if not part.exists():
         return [f"no {part.name}"]
@@ -288,7 +298,7 @@ def saved_wrongly(part, trace, play):
     return [] if saved == play.bytes(value) else [f"{saved} was saved, and the trace leads to {value}"]
 
 
-def tried(library, play, number):
+def tried(library: pathlib.Path, play: Play, number: int) -> tuple[list[str], bool]:
     """What is wrong with a run, and whether a growth was refused in it."""
     with tempfile.TemporaryDirectory(prefix="refuse-") as folder:
         try:
@@ -301,7 +311,7 @@ def tried(library, play, number):
         return said, it.was_refused
 
 
-def each_growth(pool, ahead, library, play, given):
+def each_growth(pool: concurrent.futures.Executor, ahead: int, library: pathlib.Path, play: Play, given: Sequence[int]) -> tuple[int, int]:
     """Refuses each growth of a play in turn, or those that are given, and counts the runs that passed and failed."""
     number = given[0] if given else 1
     end = given[-1] if given else NONE
@@ -332,7 +342,8 @@ def main() -> int:
     program()
     with tempfile.TemporaryDirectory() as folder, concurrent.futures.ThreadPoolExecutor(given.jobs) as pool:
         library = build(folder)
-        counts = [each_growth(pool, 8 * given.jobs, library, play, given.numbers) for play in (One, Two, Again)]
+        plays: tuple[Play, ...] = (One, Two, Again)
+        counts = [each_growth(pool, 8 * given.jobs, library, play, given.numbers) for play in plays]
     passed, failed = (sum(it[at] for it in counts) for at in (0, 1))
     print(f"refuse_server: {passed} passed, {failed} failed")
     return 1 if failed or not passed else 0

@@ -16,42 +16,45 @@ import sys
 import tempfile
 import termios
 import time
-from typing import BinaryIO
+from typing import IO, BinaryIO
 
-from gate.cases import TOP, BadCase, Placed, cases_of, chosen_cases
+from gate.cases import TOP, BadCase, Case, Placed, cases_of, chosen_cases
 from gate.difference import difference, shown
-from gate.tried import given_words, program, whole
+from gate.tried import given_words, program, there, whole
 
 SECONDS = 60
+# The status of a run, and what it wrote to standard output and standard error.
+Ran = tuple[int, bytes, bytes]
 
 
-def waiting(stream):
+def waiting(stream: IO[bytes]) -> int:
     """How many bytes stand in a pipe that were not read."""
     room = bytearray(4)
     fcntl.ioctl(stream.fileno(), termios.FIONREAD, room)
     return struct.unpack("i", room)[0]
 
 
-def feed(process, text, piece):
+def feed(process: "subprocess.Popen[bytes]", text: bytes, piece: int) -> None:
     """Writes a text to a process, so many bytes at a time, each piece once the one before it was read."""
+    stdin = there(process.stdin)
     end = time.monotonic() + SECONDS
     try:
         for at in range(0, len(text), piece):
-            process.stdin.write(text[at : at + piece])
-            process.stdin.flush()
-            while waiting(process.stdin) and process.poll() is None and time.monotonic() < end:
+            stdin.write(text[at : at + piece])
+            stdin.flush()
+            while waiting(stdin) and process.poll() is None and time.monotonic() < end:
                 time.sleep(0)
     except BrokenPipeError:
         pass
 
 
-def answer(case, folder):
+def answer(case: Case, folder: str) -> Ran:
     """The status of a case's run, and what it wrote to standard output and standard error, where an input is named by its name."""
     status, output, error = ran_in(case, folder)
     return status, output, error.replace(os.fsencode(folder) + b"/", b"")
 
 
-def ran_in(case, folder):
+def ran_in(case: Case, folder: str) -> Ran:
     """The status of a case's run, and what it wrote to standard output and standard error."""
     placed, pipe = Placed(case, program(), folder), subprocess.PIPE
     with contextlib.ExitStack() as stack:
@@ -67,10 +70,10 @@ def ran_in(case, folder):
             ran = subprocess.run(placed.words, stdin=source, stdout=out, stderr=pipe, cwd=TOP, timeout=SECONDS)
         else:
             ran = subprocess.run(placed.words, input=placed.input, stdout=out, stderr=pipe, cwd=TOP, timeout=SECONDS)
-        return ran.returncode, ran.stdout or b"", ran.stderr
+    return ran.returncode, ran.stdout or b"", ran.stderr
 
 
-def report(case, fault, ran):
+def report(case: Case, fault: str, ran: Ran) -> str:
     """What is said of a case that failed."""
     status, output, error = ran
     lines = [f"{case.name()}: {fault} (- expected, + answered)" if fault != "status" else f"{case.name()}: status"]
@@ -81,11 +84,11 @@ def report(case, fault, ran):
     elif case.kind != "output":
         lines += [f"    expected a source that {case.kind}, ended with {status}", *[f"    {shown(it)}" for it in output.splitlines()[-3:]]]
     else:
-        lines += difference(case.output, output)
+        lines += difference(there(case.output), output)
     return "\n".join(lines)
 
 
-def tried(case):
+def tried(case: Case) -> str | None:
     """What is said of a case that fails, or none."""
     with tempfile.TemporaryDirectory(prefix="cases-") as folder:
         try:
@@ -112,9 +115,9 @@ def main() -> int:
         print(line)
     with concurrent.futures.ThreadPoolExecutor(len(os.sched_getaffinity(0))) as pool:
         said = list(pool.map(tried, found))
-    for line in said:
-        if line:
-            print(line)
+    for fault in said:
+        if fault:
+            print(fault)
     failed = sum(1 for it in said if it) + len(bad)
     passed = len(said) - (failed - len(bad))
     print(f"run_cases: {passed} passed, {failed} failed")

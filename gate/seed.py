@@ -29,25 +29,28 @@ import subprocess
 import sys
 import tempfile
 import time
+from collections.abc import Iterable, Mapping, Sequence
+from types import ModuleType
+from typing import Any, NoReturn
 
 from gate.tried import TOP
 from tools import kit, repository
 
 
-def loaded():
+def loaded() -> ModuleType:
     """The module of the command `rt`."""
     sys.argv = ["rt"]
     return kit.rt() or sys.exit("seed: there is no rt here")
 
 
-def crates(rt):
+def crates(rt: ModuleType) -> dict[str, Any]:
     """The crates of this repository by their names, the lowest first."""
     os.chdir(TOP)
     rt.Crate.allowed = rt.rtlib.Crate.allowed = rt.handles_of(str(TOP))
     return {crate.name: crate for crate in rt.rtlib.crates_below(str(TOP))}
 
 
-def taken(crate, clones):
+def taken(crate: Any, clones: Iterable[str]) -> bool:
     """Takes the library from another clone, where it was made from the same, and returns whether it could."""
     to, stamp = pathlib.Path(crate.folder) / "out/rlib", crate.stamp()
     for clone in clones:
@@ -60,13 +63,14 @@ def taken(crate, clones):
     return False
 
 
-def seed(rt, clones):
+def seed(rt: ModuleType, clones: Sequence[str]) -> None:
     """Gives each crate its library, where one stands somewhere and each crate below has one."""
     repository.remember_stamps(rt)
     all_crates = crates(rt)
     # A kit that keeps nothing of what `rt ci` proves has no such class.
     kept = rt.Kept(list(all_crates.values())) if hasattr(rt, "Kept") else None
-    have, lack = [], []
+    have: list[str] = []
+    lack: list[str] = []
     for crate in all_crates.values():
         if any(below.name in lack for below in crate.below()):
             lack.append(crate.name)
@@ -88,7 +92,7 @@ def seed(rt, clones):
     print("lack:", *lack)
 
 
-def made(kept, crate, tests):
+def made(kept: Any, crate: Any, tests: bool) -> list[tuple[Any, ...]] | None:
     """The files, with their sums, that `rt ci` made when it proved this crate, or its tests, over the same libraries; or None."""
     key = kept.key(crate)
     try:
@@ -98,7 +102,7 @@ def made(kept, crate, tests):
         return None
 
 
-def look(rt):
+def look(rt: ModuleType) -> None:
     """Says what `rt ci` has yet to prove, by what it has kept."""
     all_crates = crates(rt)
     # A kit that keeps nothing of what `rt ci` proves has no such class.
@@ -118,7 +122,7 @@ def look(rt):
     print("tests to prove:", *tests)
 
 
-def check(rt, name, flags):
+def check(rt: ModuleType, name: str, flags: Sequence[str]) -> NoReturn:
     """Becomes a check of a crate, over sources where libraries are lacking."""
     repository.remember_stamps(rt)
     all_crates = crates(rt)
@@ -139,7 +143,7 @@ def check(rt, name, flags):
     os.execv(rt.rtlib.RATTLE, [rt.rtlib.RATTLE, "check", *words, "--incremental", kept, *flags])
 
 
-def chains(all_crates):
+def chains(all_crates: Mapping[str, Any]) -> dict[str, int]:
     """How many lines stand in each crate and in the longest chain of others above it."""
     longest = {name: crate.count(rb"\n") for name, crate in all_crates.items()}
     own = dict(longest)
@@ -150,13 +154,14 @@ def chains(all_crates):
     return longest
 
 
-def ahead(rt, lanes):
+def ahead(rt: ModuleType, lanes: int) -> None:
     """Proves the libraries that are lacking, and what changes meanwhile."""
     to = TOP / "out/ahead"
     to.mkdir(parents=True, exist_ok=True)
-    running, refused = {}, {}
+    running: dict[str, tuple[subprocess.Popen[bytes], str]] = {}
+    refused: dict[str, str | None] = {}
 
-    def say(*words):
+    def say(*words: object) -> None:
         with open(to / "log", "a", encoding="utf-8") as log:
             print(time.strftime("%H:%M:%S"), *words, file=log)
 
@@ -181,7 +186,7 @@ def ahead(rt, lanes):
         for name in sorted(ready, key=lambda it: -longest[it])[: lanes - len(running)]:
             say("begins", name)
             with open(to / f"{name}.log", "w", encoding="utf-8") as log:
-                words = [TOP / "gate" / "seed", "--build", name]
+                words: list[str | pathlib.Path] = [TOP / "gate" / "seed", "--build", name]
                 build = subprocess.Popen(words, stdin=subprocess.DEVNULL, stdout=log, stderr=subprocess.STDOUT)
             running[name] = build, all_crates[name].stamp()
         if not running and not ready:
@@ -203,7 +208,8 @@ def main() -> int:
     clones = [os.path.abspath(it) for it in given.clones]
     rt = loaded()
     if given.look:
-        return look(rt)
+        look(rt)
+        return 0
     if given.build:
         # So it has the stamp of the files with which it began.
         repository.remember_stamps(rt)
@@ -211,5 +217,7 @@ def main() -> int:
     if given.check:
         check(rt, given.check, rest)
     if given.ahead:
-        return ahead(rt, given.lanes)
-    return seed(rt, clones)
+        ahead(rt, given.lanes)
+    else:
+        seed(rt, clones)
+    return 0

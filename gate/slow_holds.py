@@ -63,7 +63,7 @@ class HeldWorld:
             if hold.op == call.op and ending[0] == "done":
                 held.append(Held(number, call.session, hold, [*call.arguments, *([] if ending[1] is None else [ending[1]])]))
 
-    def refused(self, session: int, op: str, arguments: list[Datum], is_new: bool = True) -> "list[str] | None":
+    def refused(self, session: int, op: str, arguments: Sequence[Datum], is_new: bool = True) -> "list[str] | None":
         """The line by which a call is refused before the desk is asked, or none."""
         if session in self.away:
             return ["no Gone"]
@@ -83,13 +83,13 @@ class HeldWorld:
                 lines = lines + (told if told[0].startswith("call ") else [])
         return lines
 
-    def call(self, session: int, op: str, arguments: list[Datum]) -> list[str]:
+    def call(self, session: int, op: str, arguments: Sequence[Datum]) -> list[str]:
         return self.gives_back(self.refused(session, op, arguments) or self.world.call(session, op, arguments))
 
-    def do(self, session: int, op: str, arguments: list[Datum]) -> list[str]:
+    def do(self, session: int, op: str, arguments: Sequence[Datum]) -> list[str]:
         return self.gives_back(self.refused(session, op, arguments) or self.world.do(session, op, arguments))
 
-    def keyed_call(self, session: int, key: int, op: str, arguments: list[Datum]) -> list[str]:
+    def keyed_call(self, session: int, key: int, op: str, arguments: Sequence[Datum]) -> list[str]:
         is_new = key == len(self.world.keys(session)) + 1
         return self.gives_back(self.refused(session, op, arguments, is_new) or self.world.keyed_call(session, key, op, arguments))
 

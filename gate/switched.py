@@ -6,7 +6,11 @@ asks which edit is on, and calls one of these. The program must be built without
 that it asks for stands in its file as it is.
 """
 import itertools
+import pathlib
 import re
+from collections.abc import Iterable
+
+from gate.tried import there
 
 # What no edit is: this number stands in the file of a program in which none is on.
 NONE = 0x9E37_79B9_7F4A_7C15
@@ -21,7 +25,7 @@ class Unfit(Exception):
     """Why an edit cannot be put on and off."""
 
 
-def balanced(text, at):
+def balanced(text: str, at: int) -> int:
     """The place behind the bracket that closes the one at a place of a text."""
     depth = 0
     for place in range(at, len(text)):
@@ -32,7 +36,7 @@ def balanced(text, at):
     raise Unfit("a bracket is not closed")
 
 
-def parted(text):
+def parted(text: str) -> list[str]:
     """The parts of a text between its outermost commas."""
     parts, begun, at = [], 0, 0
     while at < len(text):
@@ -49,16 +53,17 @@ def parted(text):
 class Function:
     """The function of a text in whose body a line stands: its lines from `first` to `last`, and what is said of it."""
 
-    def __init__(self, lines, at) -> None:
-        self.first = next((it for it in range(at, -1, -1) if HEAD.match(lines[it])), None)
-        if self.first is None:
+    def __init__(self, lines: list[str], at: int) -> None:
+        first = next((it for it in range(at, -1, -1) if HEAD.match(lines[it])), None)
+        if first is None:
             raise Unfit("the line is in no function")
-        head = HEAD.match(lines[self.first])
+        self.first = first
+        head = there(HEAD.match(lines[first]))
         self.space, self.seen, self.name = head["space"], head["seen"], head["name"]
         self.last = next(it for it in range(self.first, len(lines)) if lines[it] == self.space + "}")
         if self.last < at:
             raise Unfit("the line is in no function")
-        self.owner: re.Match | None = None
+        self.owner: re.Match[str] | None = None
         self.own_block = 0
         if self.space:
             begun = next(it for it in range(self.first, -1, -1) if re.match(r"(impl|(pub )?trait|(pub )?mod)\b", lines[it]))
@@ -82,19 +87,20 @@ class Function:
         if not all(re.fullmatch(r"\w+", it) for it in self.words):
             raise Unfit("its parameters are not read")
 
-    def named(self, lines, name):
+    def named(self, lines: list[str], name: str) -> list[str]:
         """Its lines under another name."""
         first = lines[self.first].replace(f"fn {self.name}", f"fn {name}", 1)
         return [first, *lines[self.first + 1 : self.last + 1]]
 
-    def call(self, name):
+    def call(self, name: str) -> str:
         before = "self." if self.is_of_self else "Self::" if self.space else ""
         return f"{before}{name}({', '.join(self.words)})"
 
 
-def with_edits(text, edits):
+def with_edits(text: str, edits: Iterable[tuple[int, str, str]]) -> str:
     """The text of a file in which edits stand that are off: (number, old line, new line) each."""
-    lines, places = text.splitlines(), {}
+    lines = text.splitlines()
+    places: dict[int, tuple[Function, dict[int, list[tuple[str, str]]]]] = {}
     for number, old, new in edits:
         function = Function(lines, lines.index(old))
         places.setdefault(function.first, (function, {}))[1].setdefault(number, []).append((old, new))
@@ -121,7 +127,7 @@ def with_edits(text, edits):
     return "\n".join(lines) + "\n" + ASKS
 
 
-def put_on(program, number, to) -> None:
+def put_on(program: pathlib.Path, number: int, to: pathlib.Path) -> None:
     """Writes a program in which an edit is on: the file of one that was built, the number of the edit, the new file."""
     none = NONE.to_bytes(8, "little")
     found = program.read_bytes()

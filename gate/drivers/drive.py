@@ -4,6 +4,8 @@ name the folder of that client."""
 import asyncio
 import re
 import sys
+from collections.abc import Sequence
+from typing import Any
 
 from pathclient import Cancelled, Expired, Failed, Lost, NoServer, Object, Refused, Rejected, aio, read, written
 
@@ -11,7 +13,7 @@ WORDS = {Refused: "refused", Failed: "failed", Cancelled: "cancelled", Rejected:
          Lost: "lost"}
 
 
-def told(came):
+def told(came: Any) -> str:
     """What came of a call, as a line."""
     if isinstance(came, Exception):
         kind = next((it for it in WORDS if isinstance(came, it)), None)
@@ -21,26 +23,26 @@ def told(came):
     return "done" if came is None else f"done {written(came)}"
 
 
-def called(line):
+def called(line: str) -> tuple[float | None, tuple[Any, ...]]:
     """The words of a `call`: its time, its operation and its arguments."""
     _, time, operation, rest = (line + " ").split(" ", 3)
     arguments = [read(it) for it in re.findall(r"'(?:[^']|'')*'|\d+", rest)]
     return int(time) / 1000 or None, (operation, *arguments)
 
 
-def opened(words):
+def opened(words: Sequence[str]) -> tuple[str | int, str, dict[str, Any]]:
     """The place, the name, and the rest of an `open`."""
     place, name, wait, client = words
     options = {"wait": int(wait) / 1000, "client": None if client == "-" else client}
     return place if "/" in place else int(place), name, options
 
 
-def say(line) -> None:
+def say(line: str) -> None:
     print(line, flush=True)
 
 
 def by_threads() -> None:
-    it = None
+    it: Any = None
     for line in map(str.rstrip, sys.stdin):
         word, *words = line.split(" ")
         try:
@@ -66,7 +68,8 @@ def by_threads() -> None:
 
 
 async def by_tasks() -> None:
-    it, loop = None, asyncio.get_running_loop()
+    it: Any = None
+    loop = asyncio.get_running_loop()
     while line := (await loop.run_in_executor(None, sys.stdin.readline)).rstrip():
         word, *words = line.split(" ")
         try:

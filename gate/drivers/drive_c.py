@@ -7,18 +7,19 @@ import sys
 class Terminal:
     """A run of the client, which takes its calls from standard input."""
 
-    def __init__(self, place, name) -> None:
+    def __init__(self, place: str, name: str) -> None:
         pipe = subprocess.PIPE
         self.ran = subprocess.Popen([sys.argv[1], place, name, "-"], stdin=pipe, stdout=pipe, stderr=pipe, text=True, bufsize=1)
 
-    def ended(self):
+    def ended(self) -> str:
         """What it said before it ended."""
         said = self.ran.communicate()[1]
         if self.ran.returncode == 1:
             return said.rstrip("\n")
         return "lost" if "it is not known" in said else "no server"
 
-    def call(self, text):
+    def call(self, text: str) -> str:
+        assert self.ran.stdin and self.ran.stdout
         try:
             self.ran.stdin.write(f"{text}\n")
         except OSError:
@@ -35,7 +36,8 @@ class Terminal:
 
 def main() -> None:
     print("can", flush=True)
-    it, place = None, None
+    it: Terminal | None = None
+    place: list[str] | None = None
     for line in map(str.rstrip, sys.stdin):
         word, *words = line.split(" ")
         if word == "open":
@@ -44,6 +46,7 @@ def main() -> None:
             place = words[:2]
             it = Terminal(*place)
             # (it says that it has opened the object)
+            assert it.ran.stderr
             said = it.ran.stderr.readline()
             print("opened" if said == "opened\n" else said.rstrip("\n") if said.startswith("no ") else "no server", flush=True)
             if said != "opened\n":
@@ -51,6 +54,7 @@ def main() -> None:
                 it = None
         elif word == "call":
             if it is None:
+                assert place is not None
                 it = Terminal(*place)
             came = it.call(line.split(" ", 2)[2])
             if came in ("lost", "no server", "no LineTooLong"):
