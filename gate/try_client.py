@@ -47,7 +47,7 @@ from collections.abc import Callable, Iterable, Sequence
 from typing import Any, TypeVar
 
 from gate import kept
-from gate.fakes import Fake, FakeMeter, FakeServer, HOLDS, RESETS, Rows
+from gate.fakes import HOLDS, RESETS, Fake, FakeMeter, FakeServer, Rows
 from gate.tried import TOP, Wrong, given_words, lacks, new_folder, there, whole
 
 DRIVERS = TOP / "gate" / "drivers"

@@ -32,7 +32,7 @@ from clients.python.pathclient import (
 )
 from gate import closing, kept
 from gate.cutter import Cutter
-from gate.fakes import FakeServer, NEVER, Rows
+from gate.fakes import NEVER, FakeServer, Rows
 from gate.served import Server, free_port
 from gate.tried import TOP, Trial, given_words, in_folder, lacks, loads, run
 

@@ -7,7 +7,7 @@ from collections.abc import Iterable
 from typing import Any
 
 from gate.slow_audit import (
-    IDENTIFIER, NUMBERS, SESSIONS, Bad, NotRunning, bare, datum, ending_of, integer, lines_of, lowered, named_object, words_of, Word,
+    IDENTIFIER, NUMBERS, SESSIONS, Bad, NotRunning, Word, bare, datum, ending_of, integer, lines_of, lowered, named_object, words_of,
 )
 from gate.slow_world import written
 
