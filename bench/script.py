@@ -39,7 +39,7 @@ class Script:
     """The program on a script that is sent bit by bit."""
 
     def __init__(self) -> None:
-        words = [program(), "run", OBJECTS, "/dev/stdin"]
+        words = [str(program()), "run", str(OBJECTS), "/dev/stdin"]
         self.process = subprocess.Popen(words, stdin=subprocess.PIPE, stdout=subprocess.PIPE, bufsize=0)
         self.stdin, self.stdout = there(self.process.stdin), there(self.process.stdout)
         self.stdin.write(b"object cell\n")

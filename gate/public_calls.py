@@ -165,9 +165,9 @@ def counting(folder: pathlib.Path) -> pathlib.Path:
     words = [it for it in (taken / "words").read_text(encoding="utf-8").splitlines() if it != "-fsanitize=address"]
     subprocess.run([kit / "toolchain" / "bin" / "clang", *words, *counted], cwd=taken, check=True)
     subprocess.run(["cc", "-O2", "-fPIE", "-c", "-o", taken / "count.o", TOP / "gate" / "count.c"], check=True)
-    words = [kit / "bin" / "rattle-link", "--target", "x86_64-unknown-linux-gnu", "--toolchain", kit / "toolchain"]
-    words += ["-o", PROGRAM, "module.o", "count.o", kit / "c" / "libos_c.a", kit / "c" / "liblibc_c.a"]
-    subprocess.run(words, cwd=taken, check=True, stdout=subprocess.DEVNULL)
+    links: list[str | pathlib.Path] = [kit / "bin" / "rattle-link", "--target", "x86_64-unknown-linux-gnu", "--toolchain", kit / "toolchain"]
+    links += ["-o", PROGRAM, "module.o", "count.o", kit / "c" / "libos_c.a", kit / "c" / "liblibc_c.a"]
+    subprocess.run(links, cwd=taken, check=True, stdout=subprocess.DEVNULL)
     return taken / PROGRAM
 
 

@@ -273,7 +273,7 @@ def ended_calls(trace: str) -> dict[int, str]:
 
 def audited(objects: pathlib.Path, trace: pathlib.Path) -> str:
     """What `pathserve audit` says of a trace."""
-    words = [program(), "audit", objects, trace]
+    words: list[str | pathlib.Path] = [program(), "audit", objects, trace]
     return subprocess.run(words, capture_output=True, text=True, check=False, timeout=SECONDS).stdout
 
 

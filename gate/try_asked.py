@@ -17,6 +17,7 @@ import re
 import shutil
 import sys
 import tempfile
+from collections.abc import Iterable, Iterator, Mapping
 
 from gate.tried import TOP, whole
 from tools import repository
@@ -338,7 +339,8 @@ IsOwn x y = (w : Walk) × x ≡ y
 }
 
 # What is changed: what it is, the file, the old text and the new one, the crates that must be asked, and those that must not.
-CHANGES = (
+Change = tuple[str, str, str, str, str, str]
+CHANGES: tuple[Change, ...] = (
     ("a body of the crate itself", "own/src/lib.rt", "x\n}", "x + 0\n}", "own", "above mid side"),
     ("a clause of the crate itself", "own/src/lib.rt", "x < 200", "x < 201", "own above", "mid side"),
     ("a file of edits", "own/wrong-bodies/it.edit", "x + 1", "x + 2", "own", "above mid side"),
@@ -397,20 +399,20 @@ CHANGES = (
 )
 
 
-def digests(top, names):
+def digests(top: pathlib.Path, names: Iterable[str]) -> dict[str, str]:
     """The digests of these crates of the repository at this folder, as it is now."""
     lines = repository.crates(top)
     return {it: repository.digest(top, lines, it, LOGIC, EDITS) for it in names}
 
 
-def written(top, files, lines) -> None:
+def written(top: pathlib.Path, files: Mapping[str, str], lines: str) -> None:
     """Makes a repository of these files at this folder."""
     for name, text in {**{f"crates/{it}": text for it, text in files.items()}, "crates.txt": lines}.items():
         (top / name).parent.mkdir(parents=True, exist_ok=True)
         (top / name).write_text(text, encoding="utf-8")
 
 
-def faults_of_change(top, before, change):
+def faults_of_change(top: pathlib.Path, before: Mapping[str, str], change: Change) -> list[str]:
     """What is wrong after one change of the repository at this folder, which is taken back."""
     what, name, old, new, asked, silent = change
     path = top / (name if name == "crates.txt" else f"crates/{name}")
@@ -420,19 +422,19 @@ def faults_of_change(top, before, change):
     path.write_text(text.replace(old, new), encoding="utf-8")
     folder = next((it for it in path.parents if it.parent == top / "crates"), None)
     # (only the crate that is changed is read again)
-    kept = repository.READ.pop(folder, None)
+    kept = repository.READ.pop(folder, None) if folder else None
     after = digests(top, before)
     path.write_text(text, encoding="utf-8")
-    if kept is None:
+    if folder and kept is None:
         repository.READ.pop(folder, None)
-    else:
+    elif folder and kept is not None:
         repository.READ[folder] = kept
     found = {it for it in before if before[it] != after[it]}
     wrong = [f"{what} ({name}): {it} is not asked again" for it in asked.split() if it not in found]
     return wrong + [f"{what} ({name}): {it} is asked again" for it in silent.split() if it in found]
 
 
-def small_faults(top):
+def small_faults(top: pathlib.Path) -> dict[str, list[str]]:
     """What is said of each change of the small repository."""
     written(top, FILES, LINES)
     before = digests(top, repository.crates(top))
@@ -456,7 +458,7 @@ SOURCE_IMPORT = re.compile(r"^\s*(?:pub )?use (\w+)((?:::\w+)*)::(?:(\w+)|\{([^{
 SPEC_IMPORT = re.compile(r"\buse Rattle\.(\w+)\.specs\.(?!declared\b)([\w.]+?)\.\{([^{}]*)\}")
 
 
-def source(path):
+def source(path: pathlib.Path) -> str:
     """The text of a source, without its comments and texts, as lines."""
     return re.sub(r"//[^\n]*|(?<!')\"(?:\\.|[^\"\\])*\"", "", path.read_text(encoding="utf-8"))
 
@@ -468,30 +470,32 @@ class Tree:
         self.lines = repository.crates()
         self.sources = {name: {it: source(it) for it in repository.files(TOP / "crates" / name / "src")} for name in self.lines}
         # Where each public function of a crate is, and each that is in an impl of a type, with that type.
-        self.functions, self.methods = collections.defaultdict(list), collections.defaultdict(list)
+        self.functions: collections.defaultdict[tuple[str, str], list[pathlib.Path]] = collections.defaultdict(list)
+        self.methods: collections.defaultdict[tuple[str, str | None, str], list[pathlib.Path]] = collections.defaultdict(list)
         for name, sources in self.sources.items():
             for path, text in sources.items():
-                holder = None
+                holder: str | None = None
                 for line in text.split("\n"):
                     if head := re.match(r"(?:unsafe )?impl(?:<.*>)? (?:(?!.*\bfor\b)|.*\bfor )&?(?:mut )?([A-Z]\w*)", line):
                         holder = head[1]
                     elif line.startswith("}"):
                         holder = None
                     elif found := re.match(r"( *)pub (?:const )?(?:unsafe )?fn (\w+)", line):
-                        key = (name, holder, found[2]) if found[1] else (name, found[2])
-                        (self.methods if found[1] else self.functions)[key].append(path)
+                        where = self.methods[name, holder, found[2]] if found[1] else self.functions[name, found[2]]
+                        where.append(path)
 
-    def own(self, name):
+    def own(self, name: str) -> str:
         """The crate's own sources as one text."""
         return "\n".join(self.sources[name].values())
 
-    def faults(self, name):
+    def faults(self, name: str) -> list[str]:
         """What of the crates below is called or named by a crate, and is not among what its digest is made of."""
         found, _ = repository.parts_named(TOP, self.lines, name, FOLDERS)
-        texts = collections.defaultdict(str)
+        texts: collections.defaultdict[pathlib.Path, str] = collections.defaultdict(str)
         for it in found:
             texts[TOP / "crates" / it.crate / it.path] += it.text + "\n"
-        own, wrong, below = self.own(name), [], repository.below(self.lines, name)
+        own, below = self.own(name), repository.below(self.lines, name)
+        wrong: list[str] = []
         for crate, _, one, several in SOURCE_IMPORT.findall(own):
             for item in (one or several).split(",") if crate in below else ():
                 item = item.split(" as ")[0].strip()
@@ -514,13 +518,14 @@ class Tree:
                         wrong.append(f"{name}: not asked again for `{line}` of {path.relative_to(TOP)}")
         return sorted(set(wrong))
 
-    def has_type(self, crate, item) -> bool:
+    def has_type(self, crate: str, item: str) -> bool:
         return any(re.search(rf"^\s*pub (?:struct|enum|trait) {item}\b", it, re.M) for it in self.sources[crate].values())
 
-    def changes(self, name):
+    def changes(self, name: str) -> Iterator[Change]:
         """Changes of this repository, as those of the small one, that have to do with this crate and those below it: a clause
         of a function of each of some crates whose functions it imports, and what asks nobody."""
-        below, met = repository.below(self.lines, name), {}
+        below = repository.below(self.lines, name)
+        met: dict[str, tuple[str, pathlib.Path, str]] = {}
         for crate, _, one, several in SOURCE_IMPORT.findall(self.own(name)):
             for item in (it.strip() for it in (one or several).split(",")) if crate in below and crate not in met else ():
                 for path in self.functions[crate, item]:
@@ -540,10 +545,11 @@ class Tree:
         root = TOP / "crates" / name / "src/lib.rt"
         yield f"{name}: its root", str(root.relative_to(TOP / "crates")), "#![tactic(auto)]\n", "#![tactic(auto)]\n\n", name, ""
 
-    def faults_of_changes(self, top):
+    def faults_of_changes(self, top: pathlib.Path) -> dict[str, list[str]]:
         """What is said of these changes, each made in a copy at this folder. Only the crate that is changed is copied."""
         named = [it for it in self.lines if (TOP / "crates" / it / EDITS).is_dir() and (TOP / "crates" / it / "src/lib.rt").is_file()]
-        ranked, said = sorted(named, key=lambda it: (len(repository.below(self.lines, it)), it)), {}
+        ranked = sorted(named, key=lambda it: (len(repository.below(self.lines, it)), it))
+        said: dict[str, list[str]] = {}
         (top / "crates").mkdir(parents=True)
         shutil.copyfile(TOP / "crates.txt", top / "crates.txt")
         for it in self.lines:
@@ -561,7 +567,7 @@ class Tree:
         return said
 
 
-def tree_faults(top):
+def tree_faults(top: pathlib.Path) -> dict[str, list[str]]:
     """What is said of this repository, and of changes of a copy of it at this folder."""
     tree = Tree()
     said = {f"what {it} names": tree.faults(it) for it in tree.lines if (TOP / "crates" / it / EDITS).is_dir()}
@@ -575,7 +581,7 @@ def main() -> int:
     if sys.argv[1:]:
         print(__doc__, file=sys.stderr)
         return 2
-    said = {}
+    said: dict[str, list[str]] = {}
     with tempfile.TemporaryDirectory(prefix="asked-") as folder:
         said |= small_faults(pathlib.Path(folder, "small"))
         said |= tree_faults(pathlib.Path(folder, "copy"))

@@ -38,14 +38,17 @@ import queue
 import random
 import shutil
 import signal
+import socket
 import subprocess
 import sys
 import threading
 import time
+from collections.abc import Callable, Iterable, Sequence
+from typing import Any, TypeVar
 
 from gate import kept
-from gate.fakes import HOLDS, RESETS, FakeMeter, FakeServer, Rows
-from gate.tried import TOP, Wrong, given_words, lacks, new_folder, whole
+from gate.fakes import HOLDS, RESETS, Fake, FakeMeter, FakeServer, Rows
+from gate.tried import TOP, Wrong, given_words, lacks, new_folder, there, whole
 
 DRIVERS = TOP / "gate" / "drivers"
 # How long anything may take, and how much longer than its time a call, in seconds.
@@ -53,8 +56,10 @@ SECONDS, LATER = 20, 5
 # How many tries of a client are made at once.
 LANES = 3
 
+T = TypeVar("T")
 
-def check(found, *wanted) -> None:
+
+def check(found: object, *wanted: object) -> None:
     if found not in wanted:
         raise Wrong(f"{found!r}, not {' or '.join(map(repr, wanted))}")
 
@@ -62,19 +67,19 @@ def check(found, *wanted) -> None:
 class Client:
     """A client, as its driver answers for it."""
 
-    def __init__(self, words) -> None:
-        self.lines = queue.Queue()
+    def __init__(self, words: Sequence[str]) -> None:
+        self.lines: queue.Queue[str | None] = queue.Queue()
         self.ran = subprocess.Popen(words, stdin=subprocess.PIPE, stdout=subprocess.PIPE, text=True, bufsize=1, start_new_session=True)
         threading.Thread(target=self.read, daemon=True).start()
         kind, *self.can = self.hear().split(" ")
         check(kind, "can")
 
     def read(self) -> None:
-        for line in self.ran.stdout:
+        for line in there(self.ran.stdout):
             self.lines.put(line.rstrip("\n"))
         self.lines.put(None)
 
-    def hear(self, seconds=SECONDS):
+    def hear(self, seconds: float = SECONDS) -> str:
         try:
             line = self.lines.get(timeout=seconds)
         except queue.Empty:
@@ -83,23 +88,23 @@ class Client:
             raise Wrong("the driver has ended")
         return line
 
-    def say(self, line, seconds=SECONDS):
-        self.ran.stdin.write(f"{line}\n")
+    def say(self, line: str, seconds: float = SECONDS) -> str:
+        there(self.ran.stdin).write(f"{line}\n")
         return self.hear(seconds)
 
-    def open(self, server, name="-", wait=9000, wanted="opened") -> None:
+    def open(self, server: Fake, name: str = "-", wait: int = 9000, wanted: str = "opened") -> None:
         check(self.say(f"open {server.port} {server.name} {wait} {name}"), wanted)
 
-    def call(self, text, *wanted, within=0) -> None:
+    def call(self, text: str, *wanted: str, within: int = 0) -> None:
         begun = time.monotonic()
         check(self.say(f"call {within} {text}"), *wanted)
         took = time.monotonic() - begun
         if within and took > within / 1000 + LATER:
             raise Wrong(f"a call of {within} ms took {took:.1f} s")
 
-    def ahead(self, *texts, seconds=SECONDS):
+    def ahead(self, *texts: str, seconds: float = SECONDS) -> list[str]:
         for line in [f"ahead {len(texts)}", *(f"call 0 {it}" for it in texts)]:
-            self.ran.stdin.write(f"{line}\n")
+            there(self.ran.stdin).write(f"{line}\n")
         return [self.hear(seconds) for _ in texts]
 
     def close(self) -> None:
@@ -107,13 +112,13 @@ class Client:
 
     def end(self) -> None:
         with contextlib.suppress(OSError):
-            self.ran.stdin.close()
+            there(self.ran.stdin).close()
         with contextlib.suppress(subprocess.TimeoutExpired):
             self.ran.wait(2)
         with contextlib.suppress(ProcessLookupError):
             os.killpg(self.ran.pid, signal.SIGKILL)
         self.ran.wait()
-        self.ran.stdout.close()
+        there(self.ran.stdout).close()
 
 
 OPENED = ("open cell", b"opened cell\n")
@@ -121,26 +126,28 @@ QUIT = ("quit", b"bye\n")
 GET = "call get"
 
 
-def opened(key, answer=None):
+def opened(key: int, answer: bytes | None = None) -> tuple[str, bytes]:
     return ("open cell as ann", answer or f"opened cell next {key}\n".encode())
 
 
 # Tries: each has a title, what the client has to be able to, and what is done.
-TRIES = []
+Work = Callable[[Client], object]
+Try = tuple[str, tuple[str, ...], Work]
+TRIES: list[Try] = []
 
 
-def attempt(title, *needs):
-    def kept(function):
+def attempt(title: str, *needs: str) -> Callable[[Work], Work]:
+    def kept(function: Work) -> Work:
         TRIES.append((title, needs, function))
         return function
 
     return kept
 
 
-def answered(title, rows, wanted, needs=(), within=0, **options) -> None:
+def answered(title: str, rows: Rows, wanted: str, needs: tuple[str, ...] = (), within: int = 0, **options: Any) -> None:
     """A call of `get`, which is answered so."""
 
-    def tried(client) -> None:
+    def tried(client: Client) -> None:
         with FakeServer([OPENED, *rows], **options) as server:
             client.open(server)
             client.call("get", wanted, within=within)
@@ -180,7 +187,7 @@ answered("a call that ends in its time", [(GET, b"accepted 1\ndone 1 5\n")], "do
 
 
 @attempt("calls of one session, and its end")
-def _(client) -> None:
+def _(client: Client) -> None:
     rows = [("call put 'it''s' 7", b"accepted 1\ndone 1\n"), ("call pop", b"no UnknownOp\n"), (GET, b"accepted 2\ndone 2 ''\n")]
     with FakeServer([OPENED, *rows, QUIT]) as server:
         client.open(server)
@@ -192,26 +199,26 @@ def _(client) -> None:
 
 
 @attempt("an object that is not there")
-def _(client) -> None:
+def _(client: Client) -> None:
     with FakeServer([("open cell", b"no NoObject\n")]) as server:
         client.open(server, wanted="no NoObject")
 
 
 @attempt("no server")
-def _(client) -> None:
+def _(client: Client) -> None:
     with FakeServer() as server:
         pass
     client.open(server, wanted="no server", wait=100)
 
 
 @attempt("a server that opens nothing")
-def _(client) -> None:
+def _(client: Client) -> None:
     with FakeServer(*[[("open cell", b"opened cell"[:at])] for at in range(100)]) as server:
         client.open(server, wanted="no server", wait=150)
 
 
 @attempt("a server that is full", "within")
-def _(client) -> None:
+def _(client: Client) -> None:
     full: Rows = [("open cell", b""), HOLDS]
     with FakeServer(*[full] * 9) as server:
         begun = time.monotonic()
@@ -221,14 +228,14 @@ def _(client) -> None:
 
 
 @attempt("`opened` in pieces")
-def _(client) -> None:
+def _(client: Client) -> None:
     with FakeServer([OPENED, (GET, b"accepted 1\ndone 1 5\n")], pause=0.002) as server:
         client.open(server)
         client.call("get", "done 5")
 
 
 @attempt("the next call after a lost one")
-def _(client) -> None:
+def _(client: Client) -> None:
     with FakeServer([OPENED, (GET, b"accepted 9\n")], [OPENED, (GET, b"accepted 1\ndone 1 5\n"), QUIT]) as server:
         client.open(server)
         client.call("get", "lost")
@@ -238,7 +245,7 @@ def _(client) -> None:
 
 
 @attempt("a call without a name is not sent again")
-def _(client) -> None:
+def _(client: Client) -> None:
     for cut in [("up", at) for at in (0, 3, 10, 11)] + [("down", at) for at in range(0, 21, 3)]:
         with FakeMeter() as server:
             client.open(server)
@@ -251,7 +258,7 @@ def _(client) -> None:
 
 
 @attempt("an answer to a cancel that comes late", "within")
-def _(client) -> None:
+def _(client: Client) -> None:
     rows = [(GET, b"accepted 1\n"), ("cancel 1", b"cancelled 1\n"), (GET, b"cancel 1 Cancelled\naccepted 2\ndone 2 5\n")]
     with FakeServer([OPENED, *rows]) as server:
         client.open(server)
@@ -260,9 +267,9 @@ def _(client) -> None:
 
 
 @attempt("an `accepted` that comes when the time is over", "within")
-def _(client) -> None:
+def _(client: Client) -> None:
     class Late(FakeServer):
-        def serve(self, it, number) -> None:
+        def serve(self, it: socket.socket, number: int) -> None:
             lines = it.makefile("rb")
             rows = ((b"open cell\n", 0, b"opened cell\n"), (b"call get\n", 0.6, b"accepted 1\n"), (b"cancel 1\n", 0, b"cancelled 1\n"))
             for wanted, wait, sent in rows:
@@ -281,7 +288,7 @@ def _(client) -> None:
 
 
 @attempt("keys", "name")
-def _(client) -> None:
+def _(client: Client) -> None:
     rows = [("call #5 get", b"accepted 9\ndone 9 1\n"), ("call #6 pop", b"no UnknownOp\n"),
             ("call #6 get", b"accepted 10\nrefused 10 empty\n"), ("call #7 get", b"accepted 11\ncancelled 11\n"), ("call #8 get", b"accepted 12\ndone 12 2\n")]
     with FakeServer([opened(5), *rows, QUIT]) as server:
@@ -291,11 +298,11 @@ def _(client) -> None:
         client.close()
 
 
-def comes_back(title, wanted, *connections, key=5, sent=b"", wait=9000) -> None:
+def comes_back(title: str, wanted: str, *connections: Rows, key: int = 5, sent: bytes = b"", wait: int = 9000) -> None:
     """A call of a client with a name, whose connection breaks behind the call of this key."""
 
     @attempt(f"asked again: {title}", "name")
-    def _(client) -> None:
+    def _(client: Client) -> None:
         with FakeServer([opened(key), (f"call #{key} get", sent)], *connections) as server:
             client.open(server, "ann", wait)
             client.call("get", wanted)
@@ -321,7 +328,7 @@ comes_back("a server that has the call, and stops", "lost", [opened(6), ("call #
 
 
 @attempt("a connection that ended between two calls", "name")
-def _(client) -> None:
+def _(client: Client) -> None:
     first, rows = [opened(5), ("call #5 get", b"accepted 9\ndone 9 1\n")], [opened(6), ("call #6 get", b"accepted 10\ndone 10 2\n"), QUIT]
     with FakeServer(first, rows) as server:
         client.open(server, "ann")
@@ -332,7 +339,7 @@ def _(client) -> None:
 
 
 @attempt("a connection that ended between two calls, of a name that has called meanwhile", "name")
-def _(client) -> None:
+def _(client: Client) -> None:
     first, rows = [opened(5), ("call #5 get", b"accepted 9\ndone 9 1\n")], [opened(8), ("call #8 get", b"accepted 13\ndone 13 2\n"), QUIT]
     with FakeServer(first, [opened(8), HOLDS], rows) as server:
         client.open(server, "ann")
@@ -344,7 +351,7 @@ def _(client) -> None:
 
 
 @attempt("a name that is in use for a while", "name")
-def _(client) -> None:
+def _(client: Client) -> None:
     with FakeMeter(first=3, in_use=4) as server:
         client.open(server, "ann")
         client.call("add 5", "done 5")
@@ -353,13 +360,13 @@ def _(client) -> None:
 
 
 @attempt("a name that stays in use", "name")
-def _(client) -> None:
+def _(client: Client) -> None:
     with FakeMeter(in_use=9999) as server:
         client.open(server, "ann", wait=150, wanted="no InUse")
 
 
 @attempt("a name that is in use when it comes back", "name")
-def _(client) -> None:
+def _(client: Client) -> None:
     with FakeMeter() as server:
         client.open(server, "ann", wait=500)
         client.call("add 5", "done 5")
@@ -368,7 +375,7 @@ def _(client) -> None:
 
 
 @attempt("a connection that breaks each time", "name")
-def _(client) -> None:
+def _(client: Client) -> None:
     with FakeMeter(first=5) as server:
         client.open(server, "ann")
         server.cuts_all = True
@@ -376,9 +383,9 @@ def _(client) -> None:
         check(server.sum, 0)
 
 
-def cut_at_each_byte(way, size, resets) -> None:
+def cut_at_each_byte(way: str, size: int, resets: bool) -> None:
     @attempt(f"a connection that breaks at each byte {way}, {'by a reset' if resets else 'closed'}", "name")
-    def _(client) -> None:
+    def _(client: Client) -> None:
         with FakeMeter(first=10) as server:
             server.resets = resets
             client.open(server, "ann")
@@ -398,28 +405,28 @@ for resets in (False, True):
 
 
 @attempt("calls that are sent ahead", "ahead")
-def _(client) -> None:
+def _(client: Client) -> None:
     with FakeMeter(together=8) as server:
         client.open(server)
         check(client.ahead(*["add 5"] * 8), [f"done {5 * it}" for it in range(1, 9)])
 
 
 @attempt("many calls that are sent ahead", "ahead")
-def _(client) -> None:
+def _(client: Client) -> None:
     with FakeMeter() as server:
         client.open(server)
         check(client.ahead(*["add 1"] * 300), [f"done {it}" for it in range(1, 301)])
 
 
 @attempt("a call sent ahead that is not taken", "ahead")
-def _(client) -> None:
+def _(client: Client) -> None:
     with FakeMeter() as server:
         client.open(server)
         check(client.ahead("add 5", "pop", "add 5"), ["done 5", "no UnknownOp", "done 10"])
 
 
 @attempt("calls sent ahead under keys, of which some are not taken", "ahead", "name")
-def _(client) -> None:
+def _(client: Client) -> None:
     with FakeMeter(together=7) as server:
         client.open(server, "ann")
         server.together = 1
@@ -432,7 +439,7 @@ def _(client) -> None:
 
 
 @attempt("calls sent ahead without a name, whose connection breaks", "ahead")
-def _(client) -> None:
+def _(client: Client) -> None:
     with FakeMeter() as server:
         client.open(server)
         server.cut = ("down", len("accepted 1\ndone 1 5\naccepted 2\ndone 2 "))
@@ -442,7 +449,7 @@ def _(client) -> None:
 
 
 @attempt("calls sent ahead under keys, over a connection that breaks", "ahead", "name")
-def _(client) -> None:
+def _(client: Client) -> None:
     with FakeMeter(first=10) as server:
         client.open(server, "ann")
         for turn in range(40):
@@ -458,10 +465,12 @@ def _(client) -> None:
 class Crew:
     """Clients of one kind, each of which does one try at a time."""
 
-    def __init__(self, name, words, build=()) -> None:
-        self.name, self.words, self.build, self.idle, self.made = name, list(map(str, words)), build, queue.LifoQueue(), []
+    def __init__(self, name: str, words: Iterable[object], build: Sequence[str | pathlib.Path] = ()) -> None:
+        self.name, self.words, self.build = name, list(map(str, words)), build
+        self.idle: queue.LifoQueue[Client] = queue.LifoQueue()
+        self.made: list[Client] = []
 
-    def one(self, work):
+    def one(self, work: Callable[[Client], T]) -> T:
         """Has a client do this. One that did wrong is put away."""
         try:
             client = self.idle.get_nowait()
@@ -480,7 +489,7 @@ class Crew:
         for it in self.made:
             it.end()
 
-    def tries(self):
+    def tries(self) -> list[tuple[str, str | None]]:
         """What came of each try: a title, and what is wrong."""
         if self.build:
             ran = subprocess.run(self.build, capture_output=True, text=True, timeout=10 * SECONDS, check=False)
@@ -492,7 +501,7 @@ class Crew:
         if lacking:
             print(f"{self.name}: {len(TRIES) - len(mine)} tries left out, for want of {' '.join(lacking)}")
 
-        def tried(it):
+        def tried(it: Try) -> tuple[str, str | None]:
             try:
                 self.one(it[2])
                 return it[0], None
@@ -505,8 +514,9 @@ class Crew:
         return [(f"{self.name}: {title}", fault) for title, fault in found]
 
 
-def clients(room):
+def clients(room: pathlib.Path) -> list[Crew]:
     """The clients of the repository, as the tools are there to run them."""
+    build: list[str | pathlib.Path]
     drive = ["env", f"PYTHONPATH={TOP / 'clients' / 'python'}", sys.executable, DRIVERS / "drive.py"]
     found = [Crew("Python", drive), Crew("asyncio", [*drive, "aio"])]
     if not lacks("node"):
@@ -536,14 +546,18 @@ end;
 KILLS, ADDS, PATIENCE = 4, 30, 60
 
 
-def live(crews, room) -> None:
+def live(crews: Sequence[Crew], room: pathlib.Path) -> None:
     """All clients at once over `pathserve keep` at a socket, which is killed meanwhile: nothing that was answered is lost,
     and under a name no call is done twice."""
     server = kept.Server(room, METER, at_path=True)
     server.start()
-    sure, unsure, faults, had, is_over = collections.Counter(), collections.Counter(), [], set(), threading.Event()
+    sure: collections.Counter[str] = collections.Counter()
+    unsure: collections.Counter[str] = collections.Counter()
+    faults: list[str] = []
+    had: set[str] = set()
+    is_over = threading.Event()
 
-    def work(crew, client) -> None:
+    def work(crew: Crew, client: Client) -> None:
         named = "name" in client.can
         while client.say(f"open {server.place} meter {500 * PATIENCE} {crew.name.lower() if named else '-'}") == "no server":
             time.sleep(0.01)
@@ -569,7 +583,7 @@ def live(crews, room) -> None:
                     raise Wrong(f"{crew.name}: {it!r}")
         client.close()
 
-    def worked(crew) -> None:
+    def worked(crew: Crew) -> None:
         try:
             crew.one(lambda client: work(crew, client))
         except Exception as error:
@@ -626,7 +640,7 @@ def main() -> int:
                     live(crews, room)
                     found.append(("live", None))
                 except Exception as error:
-                    found.append((live.__doc__, f"{type(error).__name__}: {error}"))
+                    found.append((live.__doc__ or "", f"{type(error).__name__}: {error}"))
         finally:
             for it in crews:
                 it.end()

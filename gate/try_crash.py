@@ -18,12 +18,15 @@ The program is the one that ./pathserve runs, or FILE. The last line is `try_cra
 is 0 where M is 0 and N is not.
 """
 import contextlib
+import pathlib
 import random
 import shutil
 import socket
 import subprocess
 import threading
 import time
+from collections.abc import Callable
+from typing import Any
 
 from gate import crowd, kept, losing
 from gate.crowd import NAMES, SOURCE, Crowd
@@ -39,11 +42,11 @@ LOSSES, LATE = 0.1, 0.15
 
 
 class Server(kept.Server):
-    def __init__(self, folder, *words, source=SOURCE, **more) -> None:
+    def __init__(self, folder: pathlib.Path, *words: str, source: str = SOURCE, **more: Any) -> None:
         super().__init__(folder, source, *words, **more)
 
 
-def crashed(server, kills, draw, may_lose=None, lose=None):
+def crashed(server: Server, kills: int, draw: random.Random, may_lose: float | None = None, lose: Callable[[], object] | None = None) -> int:
     """Kills a server under its clients, so often, and judges what they were answered. `lose` takes its power."""
     crowd.fill_ledger(server)
     clients = Crowd(server, CLIENTS, draw, may_lose)
@@ -73,7 +76,7 @@ def crashed(server, kills, draw, may_lose=None, lose=None):
     return calls
 
 
-def answered_calls_are_kept(folder, kills, seed) -> None:
+def answered_calls_are_kept(folder: pathlib.Path, kills: int, seed: int) -> None:
     """No answered call is lost, and none is done twice."""
     server = Server(folder)
     server.start()
@@ -81,7 +84,7 @@ def answered_calls_are_kept(folder, kills, seed) -> None:
     print(f"{kills} kills, {calls} calls")
 
 
-def answered_calls_are_kept_where_syncs_are_late(folder, kills, seed) -> None:
+def answered_calls_are_kept_where_syncs_are_late(folder: pathlib.Path, kills: int, seed: int) -> None:
     """The same with `--sync 100`: what is killed is the server, and not the machine."""
     server = Server(folder, "--sync", "100", at_path=True)
     server.start()
@@ -89,7 +92,7 @@ def answered_calls_are_kept_where_syncs_are_late(folder, kills, seed) -> None:
     print(f"{kills} kills, {calls} calls")
 
 
-def powered_down(folder, kills, seed, *words, may_lose=None) -> None:
+def powered_down(folder: pathlib.Path, kills: int, seed: int, *words: str, may_lose: float | None = None) -> None:
     library, log = losing.build(folder), folder / "log"
     env = {"LD_PRELOAD": str(library), "LOSE_FROM": str(folder / "kept"), "LOSE_LOG": str(log)}
     server, draw = Server(folder, *words, env=env, at_path=True), random.Random(seed + 2)
@@ -104,19 +107,19 @@ def powered_down(folder, kills, seed, *words, may_lose=None) -> None:
     print(f"{kills} losses of power, {calls} calls")
 
 
-def answered_calls_outlive_a_loss_of_power(folder, kills, seed) -> None:
+def answered_calls_outlive_a_loss_of_power(folder: pathlib.Path, kills: int, seed: int) -> None:
     """What was answered was stored: nothing is lost where what no sync has stored is."""
     if shutil.which("cc"):
         powered_down(folder, (kills + 1) // 2, seed)
 
 
-def a_loss_of_power_takes_what_was_answered_last(folder, kills, seed) -> None:
+def a_loss_of_power_takes_what_was_answered_last(folder: pathlib.Path, kills: int, seed: int) -> None:
     """With `--sync 100` no more is lost than what was answered in the last 100 ms."""
     if shutil.which("cc"):
         powered_down(folder, (kills + 1) // 2, seed, "--sync", "100", may_lose=LOSSES + LATE)
 
 
-def what_was_answered_is_there_at_once(folder, **_) -> None:
+def what_was_answered_is_there_at_once(folder: pathlib.Path, **_: object) -> None:
     """After an answer the next one to start has what was put, its number, its key and its paths' counts."""
     server = Server(folder)
     server.start()
@@ -130,7 +133,7 @@ def what_was_answered_is_there_at_once(folder, **_) -> None:
     server.end()
 
 
-def a_second_server_is_refused(folder, **_) -> None:
+def a_second_server_is_refused(folder: pathlib.Path, **_: object) -> None:
     """While a folder is kept nobody else keeps or serves it; afterwards `serve` refuses it, and nothing is changed."""
     server = Server(folder)
     server.start()
@@ -138,13 +141,13 @@ def a_second_server_is_refused(folder, **_) -> None:
     check(server.refused()[1], 3, "the status of a second server")
     check(server.end(), ("counter entries 1\nledger entries 0\nbuffer entries 0\necho entries 0\n", 0))
     before = {it.name: it.read_bytes() for it in server.folder.iterdir()}
-    words = [program(), "serve", server.file, server.folder, str(free_port())]
+    words: list[str | pathlib.Path] = [program(), "serve", server.file, server.folder, str(free_port())]
     ran = subprocess.run(words, stdin=subprocess.DEVNULL, capture_output=True, timeout=SECONDS)
     check((ran.stdout.decode(), ran.returncode), (f"{server.folder} is kept: use pathserve keep\n", 1))
     check({it.name: it.read_bytes() for it in server.folder.iterdir()}, before, "the folder")
 
 
-def a_journal_that_was_changed_is_refused(folder, **_) -> None:
+def a_journal_that_was_changed_is_refused(folder: pathlib.Path, **_: object) -> None:
     """A journal in which a byte is spoilt is refused, with its line, and nothing is changed."""
     server = Server(folder)
     server.start()
@@ -163,7 +166,7 @@ def a_journal_that_was_changed_is_refused(folder, **_) -> None:
     server.end()
 
 
-def another_object_does_not_go_on(folder, **_) -> None:
+def another_object_does_not_go_on(folder: pathlib.Path, **_: object) -> None:
     """Behind a crash an object that was changed is refused; behind an ordered end it goes on."""
     server = Server(folder)
     server.start()
@@ -181,7 +184,7 @@ def another_object_does_not_go_on(folder, **_) -> None:
     server.end()
 
 
-def parts_of_before_are_taken(folder, **_) -> None:
+def parts_of_before_are_taken(folder: pathlib.Path, **_: object) -> None:
     """A folder of `serve` gives the values of its parts; but where a path has a `;` nobody knows what it counted."""
     server = Server(folder, source=SOURCE.split("object buffer")[0])
     (server.folder / "counter.v.part").write_bytes(bytes([2, 1, 0, 1, 0, 0, 0, 9]))
@@ -195,7 +198,7 @@ def parts_of_before_are_taken(folder, **_) -> None:
     check(server.refused()[:2], ("object buffer past is not known\n", 1))
 
 
-def calls_wait_and_are_cancelled(folder, **_) -> None:
+def calls_wait_and_are_cancelled(folder: pathlib.Path, **_: object) -> None:
     """A call waits until its paths admit it, over starts of epochs and cancels; lines behind it are held, but for
     `cancel`."""
     server = Server(folder)
@@ -225,7 +228,7 @@ def calls_wait_and_are_cancelled(folder, **_) -> None:
     server.end()
 
 
-def many_lines_are_held(folder, **_) -> None:
+def many_lines_are_held(folder: pathlib.Path, **_: object) -> None:
     """Of who sends on behind a waiting call 64 KiB are held, and no more is read; all of it is done once the call has
     ended."""
     server = Server(folder)
@@ -247,7 +250,7 @@ def many_lines_are_held(folder, **_) -> None:
     server.end()
 
 
-def an_epoch_follows_another(folder, **_) -> None:
+def an_epoch_follows_another(folder: pathlib.Path, **_: object) -> None:
     """After 60,000 calls the journal begins anew, and nothing else changes; who does not read is not read."""
     server = Server(folder, "--sync", "50")
     server.start()
@@ -274,7 +277,7 @@ def an_epoch_follows_another(folder, **_) -> None:
     check(server.audit()[1], 0, "the audit")
 
 
-def a_call_waits_over_an_epoch(folder, **_) -> None:
+def a_call_waits_over_an_epoch(folder: pathlib.Path, **_: object) -> None:
     """Calls that wait when a journal begins anew keep their numbers: they are cancelled by them, done, and known behind
     a start."""
     source = """object mixed;
@@ -318,7 +321,7 @@ end;
     server.is_whole("mixed")
 
 
-def who_does_not_read_is_not_read(folder, **_) -> None:
+def who_does_not_read_is_not_read(folder: pathlib.Path, **_: object) -> None:
     """Of a client that takes no answers no more is read: others are served, memory is bounded, and its answers are
     whole."""
     server = Server(folder, "--sync", "1000")
@@ -351,7 +354,7 @@ def who_does_not_read_is_not_read(folder, **_) -> None:
     server.end()
 
 
-def shouting(talk, line, count) -> None:
+def shouting(talk: Talk, line: str, count: int) -> None:
     """Says a line so often, as long as the connection stands."""
     with contextlib.suppress(OSError):
         for _ in range(count):

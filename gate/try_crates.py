@@ -17,6 +17,7 @@ import pathlib
 import re
 import sys
 import tempfile
+from collections.abc import Iterable, Iterator, Mapping
 
 from gate.tried import TOP, whole
 from tools import repository
@@ -32,13 +33,13 @@ BETWEEN = frozenset("≡ ≢ × ⊎ ↔ → ∷ ++ + - * / ^ == && || < ≤ > �
 MOST = 8
 
 
-def words_in(folder):
+def words_in(folder: pathlib.Path) -> set[str]:
     """The words of all that a proof of the crate in this folder reads."""
     files = [it for part in repository.PARTS for it in repository.files(folder / part)]
     return {word for it in files for word in WORD.findall(it.read_text(encoding="utf-8"))}
 
 
-def faults_of(name, line, folder):
+def faults_of(name: str, line: str, folder: pathlib.Path) -> list[str]:
     """What is wrong with the line of a crate whose folder is this one."""
     if not any((folder / it).is_file() for it in ROOTS):
         return [f"crates.txt has {name}, and there is no crates/{name} with {' or '.join(ROOTS)}"]
@@ -47,9 +48,9 @@ def faults_of(name, line, folder):
     return [f"crates.txt has {name} stand on {it}, which {name} never names" for it in uses if it not in found]
 
 
-def types_in(top, lines):
+def types_in(top: pathlib.Path, lines: Iterable[str]) -> collections.defaultdict[str, collections.Counter[str]]:
     """The names of the types of the crates, each with the crates that declare it, one as often as it does."""
-    found = collections.defaultdict(collections.Counter)
+    found: collections.defaultdict[str, collections.Counter[str]] = collections.defaultdict(collections.Counter)
     for crate in lines:
         for file in (it for it in repository.files(top / "crates" / crate / "src") if it.suffix == ".rt"):
             for name in TYPE.findall(file.read_text(encoding="utf-8")):
@@ -57,14 +58,14 @@ def types_in(top, lines):
     return found
 
 
-def names_told(top):
+def names_told(top: pathlib.Path) -> dict[str, collections.Counter[str]]:
     """The names that stand several times, as the list has them."""
     rows = (top / NAMES).read_text(encoding="utf-8").splitlines() if (top / NAMES).exists() else []
-    rows = [it.partition(":") for it in rows if it.strip() and not it.startswith("#")]
-    return {name: collections.Counter(crates.split()) for name, _, crates in rows}
+    told = [it.partition(":") for it in rows if it.strip() and not it.startswith("#")]
+    return {name: collections.Counter(crates.split()) for name, _, crates in told}
 
 
-def faults_of_type(name, found, told):
+def faults_of_type(name: str, found: collections.Counter[str], told: collections.Counter[str]) -> list[str]:
     """What is wrong with a type's name, by the crates that declare it and those that the list has."""
     new, gone, count = found - told, told - found, sum(found.values())
     if count < 2:
@@ -75,7 +76,7 @@ def faults_of_type(name, found, told):
     return said + [f"{name} names a type of {it} no more: take {it} out of its line in {NAMES}" for it in sorted(gone.elements())]
 
 
-def clauses_in(source):
+def clauses_in(source: str) -> Iterator[tuple[int, str]]:
     """The clauses of functions in a source, each with the line at which it begins."""
     for found in CLAUSE.finditer(source):
         depth, end = 1, found.end()
@@ -85,9 +86,10 @@ def clauses_in(source):
         yield source.count("\n", 0, found.start()) + 1, source[found.end() : end - 1]
 
 
-def widths_of(clause):
+def widths_of(clause: str) -> list[tuple[str, int]]:
     """What is applied in a clause, each with the number of its arguments. What stands in brackets is one of them."""
-    stack, found = [[]], []
+    stack: list[list[str]] = [[]]
+    found: list[tuple[str, int]] = []
     for sign in [*SIGN.findall(clause), ")"]:
         if sign in BETWEEN or sign in tuple(")]};") or sign.startswith("λ"):
             found += [(stack[-1][0], len(stack[-1]) - 1)] if stack[-1] else []
@@ -102,7 +104,7 @@ def widths_of(clause):
     return found
 
 
-def faults_of_clauses(top, crate):
+def faults_of_clauses(top: pathlib.Path, crate: str) -> Iterator[str]:
     """Which clauses of the functions of a crate have something of too many arguments."""
     for file in (it for it in repository.files(top / "crates" / crate / "src") if it.suffix == ".rt"):
         for line, clause in clauses_in(file.read_text(encoding="utf-8")):
@@ -112,7 +114,7 @@ def faults_of_clauses(top, crate):
                     yield f"{place}:{line}: {name} has {width} arguments, and may have {MOST}: give a state a name"
 
 
-def faults_in(top):
+def faults_in(top: pathlib.Path) -> dict[str, list[str]]:
     """What is wrong with the crates of the repository at this folder and its types, by their names."""
     lines = repository.crates(top)
     said = {name: faults_of(name, line, top / "crates" / name) for name, line in lines.items()}
@@ -172,7 +174,7 @@ SPOILT = (
 )
 
 
-def spoilt_faults(files, lines):
+def spoilt_faults(files: Mapping[str, str], lines: str) -> list[str]:
     """What is said of a small repository."""
     with tempfile.TemporaryDirectory(prefix="crates-") as folder:
         top = pathlib.Path(folder)

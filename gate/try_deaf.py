@@ -11,6 +11,7 @@ within a time. The server has to end by itself with status 0, and its traces hav
 The program is the one that ./pathserve runs, or FILE. The last line is `try_deaf: N passed, M failed`; the exit status is 0
 where M is 0 and N is not.
 """
+import pathlib
 import socket
 import sys
 import threading
@@ -43,10 +44,11 @@ ROUNDS, LINES, RESTS = 60, b"call name\n" * 400 + b"call b\n", 0.1
 BUSY, AHEAD, SOON = 8, 300, 1.0
 # How often a client by name asks again at once, and what the server may hold meanwhile, in KiB.
 AGAIN, HOLDS = 400, 32 * 1024
-FAILED, PASSED = [], []
+FAILED: list[str] = []
+PASSED: list[str] = []
 
 
-def found(what, is_right, why="") -> None:
+def found(what: str, is_right: object, why: object = "") -> None:
     """Counts something that was looked at, and says what is wrong."""
     (PASSED if is_right else FAILED).append(what)
     if not is_right:
@@ -56,7 +58,7 @@ def found(what, is_right, why="") -> None:
 class Client:
     """A connection to a server, and its lines."""
 
-    def __init__(self, port, name, small=False, is_open=True) -> None:
+    def __init__(self, port: int, name: str, small: bool = False, is_open: bool = True) -> None:
         self.it, self.rest = socket.socket(), b""
         if small:
             self.it.setsockopt(socket.SOL_SOCKET, socket.SO_RCVBUF, 4096)
@@ -67,11 +69,11 @@ class Client:
             self.send(f"open {name}\n".encode())
             self.line()
 
-    def send(self, text) -> None:
+    def send(self, text: bytes) -> None:
         self.it.settimeout(ANSWERS)
         self.it.sendall(text)
 
-    def line(self):
+    def line(self) -> str | None:
         """The next line, or none where none comes in time."""
         self.it.settimeout(ANSWERS)
         try:
@@ -92,7 +94,7 @@ class Client:
         self.it.close()
 
 
-def started(folder, sessions):
+def started(folder: pathlib.Path, sessions: int) -> Server:
     """A server over a folder of its own."""
     (folder / "source.pp").write_text(SOURCE)
     (folder / "place").mkdir()
@@ -101,7 +103,7 @@ def started(folder, sessions):
     return server
 
 
-def look_at_end(server, what) -> None:
+def look_at_end(server: Server, what: str) -> None:
     """Looks how a server ends, and at its traces."""
     try:
         out, status, error = server.ended(ENDS)
@@ -114,7 +116,7 @@ def look_at_end(server, what) -> None:
         found(f"{what}: {trace.name} is legal", said.startswith("legal "), said)
 
 
-def deaf(folder) -> None:
+def deaf(folder: pathlib.Path) -> None:
     server = started(folder, 3)
     b, c, d = Client(server.port, "hold", small=True), Client(server.port, "hold"), Client(server.port, "cell")
     b.it.settimeout(0.5)
@@ -155,7 +157,7 @@ def deaf(folder) -> None:
     look_at_end(server, "deaf")
 
 
-def deaf_by_name(folder) -> None:
+def deaf_by_name(folder: pathlib.Path) -> None:
     """A client with a name that asks again and reads nothing, and comes back when it was let go."""
     server = started(folder, 4)
     b, c, d = Client(server.port, "hold as ann", small=True), Client(server.port, "cell"), Client(server.port, "cell")
@@ -174,7 +176,8 @@ def deaf_by_name(folder) -> None:
     held = server.memory()
     found("what a deaf client by name has not read is not kept", held < HOLDS, f"{held} KiB")
     c.quit()
-    e, said, end = Client(server.port, "hold as ann", is_open=False), "no InUse", time.monotonic() + STAYS
+    said: str | None = "no InUse"
+    e, end = Client(server.port, "hold as ann", is_open=False), time.monotonic() + STAYS
     while said == "no InUse" and time.monotonic() < end:
         time.sleep(0.1)
         e.send(b"open hold as ann\n")
@@ -189,7 +192,7 @@ def deaf_by_name(folder) -> None:
     look_at_end(server, "deaf by name")
 
 
-def cut(folder) -> None:
+def cut(folder: pathlib.Path) -> None:
     """A client that is cut off at each byte of its last call."""
     text = b"call put 1\ncall put 777777"
     server = started(folder, len(text) + 2)
@@ -212,7 +215,7 @@ def cut(folder) -> None:
     found("only whole calls are done", values == {"1"}, f"puts of {sorted(values)}")
 
 
-def late(folder) -> None:
+def late(folder: pathlib.Path) -> None:
     """How late the first answer to many calls comes that are sent ahead, while others take turns with them."""
     server = started(folder, BUSY + 1)
     over = threading.Event()

@@ -40,6 +40,8 @@ import socket
 import subprocess
 import tempfile
 import time
+from collections.abc import Container, Sequence
+from typing import Any, TextIO
 
 from gate import cases, man_page, run_cases, run_sessions, sessions
 from gate.served import free_port
@@ -61,21 +63,27 @@ KILLS = "kill -9 %1"
 MADE = re.compile(r"crates/[A-Z*]|crates/\*|/out\b|docs/[A-Z]*\.md\.|OBJECT|\.svg$")
 LAYERS = ("Text", "Objects", "Running", "Sharing", "Replay", "The program", "Test crates")
 
+# A block of a page: its line, its word and its text; and one that a case reads: its word, its number or none for each of them, the page.
+Block = tuple[int, str, str]
+Named = tuple[str, int | None, str]
+
 
 class Page:
     """A document: its name, its text, and its blocks as (line, indent, word, text)."""
 
-    def __init__(self, path) -> None:
+    def __init__(self, path: pathlib.Path) -> None:
         self.name = str(path.relative_to(TOP))
         self.text = path.read_text(encoding="utf-8")
-        self.blocks, self.prose = [], []
+        self.blocks: list[Block] = []
+        self.prose: list[tuple[int, str]] = []
         opened: tuple[int, str, str, list[str]] | None = None
         for number, line in enumerate(self.text.split("\n"), 1):
             found = FENCE.match(line)
-            if not found and opened is None:
-                self.prose.append((number, line))
-            elif not found:
-                opened[3].append(line.removeprefix(opened[1]))
+            if not found:
+                if opened is None:
+                    self.prose.append((number, line))
+                else:
+                    opened[3].append(line.removeprefix(opened[1]))
             elif opened is None:
                 opened = (number, found[1], found[2].strip(), [])
             else:
@@ -84,14 +92,15 @@ class Page:
         if opened:
             self.blocks.append((opened[0], "a block that is not closed", ""))
 
-    def says(self, line):
+    def says(self, line: str) -> bool:
         """Whether a line stands in the page between backticks, or in a block."""
         return f"`{line}`" in " ".join(self.text.split()) or any(line in text.split("\n") for _, _, text in self.blocks)
 
 
-def gate_command():
+def gate_command() -> str:
     """The command that .ci/run calls, at the top of the repository."""
     found = re.search(r"\.\./(tools/\w+)\"?((?: --\S+)*)$", (TOP / ".ci" / "run").read_text(encoding="utf-8"), re.M)
+    assert found
     return found[1] + found[2]
 
 
@@ -101,7 +110,7 @@ class Count:
     def __init__(self) -> None:
         self.passed, self.failed = 0, 0
 
-    def is_so(self, holds, where, what) -> bool:
+    def is_so(self, holds: object, where: str, what: object) -> bool:
         if holds:
             self.passed += 1
         else:
@@ -113,9 +122,9 @@ class Count:
 # The blocks that cases read.
 
 
-def blocks_of_cases():
+def blocks_of_cases() -> set[Named]:
     """The blocks of pages that a case reads, each as (word, number or None for each of them, page)."""
-    found = set()
+    found: set[Named] = set()
     for path in cases.files([]) + cases.files([], served=True):
         for line in path.read_text(encoding="utf-8").split("\n"):
             named = re.match(r"--- [\w:]+ (?:each )?(.*)", line)
@@ -126,8 +135,8 @@ def blocks_of_cases():
     return found
 
 
-def try_named_by_cases(count, page, named) -> None:
-    numbers = {}
+def try_named_by_cases(count: Count, page: Page, named: Container[Named]) -> None:
+    numbers: dict[str, int] = {}
     for line, word, _ in page.blocks:
         if word in READ_BY_CASES:
             numbers[word] = numbers.get(word, 0) + 1
@@ -141,21 +150,21 @@ def try_named_by_cases(count, page, named) -> None:
 class Client:
     """One connection to a server of a page."""
 
-    def __init__(self, port) -> None:
+    def __init__(self, port: int) -> None:
         self.socket = socket.create_connection(("127.0.0.1", port), timeout=SECONDS)
         self.lines = self.socket.makefile("rb")
 
-    def say(self, line) -> None:
+    def say(self, line: str) -> None:
         self.socket.sendall(line.encode() + b"\n")
 
-    def hear(self):
+    def hear(self) -> str:
         return self.lines.readline().decode("ascii", "replace").rstrip("\n")
 
 
 class Shell:
     """Runs the commands of a page in a folder that looks like the repository's top."""
 
-    def __init__(self, count, page, folder) -> None:
+    def __init__(self, count: Count, page: Page, folder: str) -> None:
         self.count, self.page, self.folder = count, page, pathlib.Path(folder)
         self.top, self.tmp, self.bin = (self.folder / it for it in ("top", "tmp", "bin"))
         for it in (self.top, self.tmp, self.bin):
@@ -164,7 +173,10 @@ class Shell:
             if it.name not in ("pathserve", ".git"):
                 (self.top / it.name).symlink_to(it)
         (self.top / "pathserve").symlink_to(program())
-        self.ports, self.given, self.servers, self.clients = {}, [], [], []
+        self.ports: dict[str, str] = {}
+        self.given: list[tuple[str, str]] = []
+        self.servers: list[tuple[str, subprocess.Popen[str], TextIO, bool]] = []
+        self.clients: list[tuple[str, Client]] = []
         self.begun = 0
         self.output, self.words = "", ""
         self.give_files()
@@ -181,38 +193,39 @@ class Shell:
             (self.bin / "nc").write_text(f"#!/usr/bin/env python3\n{client}", encoding="ascii")
             (self.bin / "nc").chmod(0o755)
 
-    def give_object(self, page, text) -> None:
+    def give_object(self, page: Page, text: str) -> None:
         """Writes the objects of a block to the file of which the page says `write this object to`; the last block counts."""
         if found := re.search(r"[Ww]rite this object to `/tmp/([\w.]+)`", " ".join(page.text.split())):
             (self.tmp / found[1]).write_text(text, encoding="ascii")
 
-    def port(self, text):
+    def port(self, text: str) -> str:
         if text not in self.ports:
             self.ports[text] = str(free_port())
             self.given.append((text, self.ports[text]))
         return self.ports[text]
 
-    def put(self, text):
+    def put(self, text: str) -> str:
         """A text of the page with folders and ports of this run."""
         text = re.sub(r"(?<![\w.])/tmp\b", str(self.tmp), text).replace("/path/to/the/file", str(self.tmp / "object.pp"))
         # These tools would build a program of their own.
         text = re.sub(r"^(gate/run_\w+)\b", rf"\1 --program {program()}", text)
         return PORT.sub(lambda it: self.port(it[0]), text)
 
-    def back(self, text):
+    def back(self, text: str) -> str:
         """What was written in this run, as the page has it."""
         for name, port in self.given:
             text = re.sub(rf"\b{port}\b", name, text)
         return text.replace(str(self.tmp), "/tmp")
 
-    def start(self, words, **more):
+    def start(self, words: str, **more: Any) -> "subprocess.Popen[str]":
         env = {**os.environ, "PATH": f"{os.environ['PATH']}:{self.bin}", "PYTHONDONTWRITEBYTECODE": "1"}
         return subprocess.Popen(["bash", "-c", words], cwd=self.top, env=env, text=True, start_new_session=True, **more)
 
-    def serve(self, where, words) -> None:
+    def serve(self, where: str, words: str) -> None:
         """Starts a server, and waits until it listens."""
         words = words.rstrip("&").strip()
         port = PORT.search(words)
+        assert port, words
         # Another one than the server before had.
         self.ports.pop(port[0], None)
         self.begun += 1
@@ -228,7 +241,7 @@ class Shell:
             time.sleep(0.02)
         self.count.is_so(False, where, f"it does not listen: {words}: {pathlib.Path(log.name).read_text(encoding='utf-8')}")
 
-    def run(self, where, words, status, stdin=None) -> None:
+    def run(self, where: str, words: str, status: int, stdin: str | None = None) -> None:
         """Runs a command to its end."""
         given = subprocess.PIPE if stdin is not None else subprocess.DEVNULL
         ran = self.start(self.put(words), stdin=given, stdout=subprocess.PIPE, stderr=subprocess.PIPE)
@@ -247,14 +260,14 @@ class Shell:
         if len(lines) == 1 and words.startswith("./pathserve"):
             self.count.is_so(self.page.says(lines[0]), where, f"{words} writes {lines[0]!r}, which the page does not say")
 
-    def kill(self, where) -> None:
+    def kill(self, where: str) -> None:
         """Kills the server that was started last."""
         was = self.servers[-1][1] if self.servers else None
-        if self.count.is_so(was and was.poll() is None, where, "no server to kill"):
+        if self.count.is_so(was and was.poll() is None, where, "no server to kill") and was:
             os.killpg(was.pid, signal.SIGKILL)
             was.wait()
 
-    def commands(self, where, text, status, stdin) -> None:
+    def commands(self, where: str, text: str, status: int, stdin: str | None) -> None:
         """Runs the commands of a block; only the last one may have another status than 0."""
         lines = [it for it in text.replace("\\\n", " ").split("\n") if it.strip() and not it.startswith("#")]
         for number, words in enumerate(lines, 1):
@@ -268,7 +281,7 @@ class Shell:
                 last = number == len(lines)
                 self.run(where, words, status if last else 0, stdin if words.endswith("/dev/stdin") else None)
 
-    def terminal(self, where, text) -> None:
+    def terminal(self, where: str, text: str) -> None:
         """Says and hears the lines of a block, over a connection of its own."""
         client = Client(self.last_port)
         has_quit = False
@@ -306,8 +319,9 @@ class Shell:
         self.end_servers(had)
         self.servers = stay
 
-    def end_servers(self, says) -> None:
+    def end_servers(self, says: bool) -> None:
         for where, server, log, _ in self.servers:
+            assert server.stdin
             server.stdin.close()
             if server.poll() is None:
                 server.terminate()
@@ -325,11 +339,11 @@ class Shell:
         self.servers = []
 
 
-def stands(wanted, found):
+def stands(wanted: str, found: str) -> bool:
     return cases.is_like(wanted.encode(), found.encode())
 
 
-def try_commands(count, page) -> None:
+def try_commands(count: Count, page: Page) -> None:
     """Runs the commands and the terminals of a page."""
     if not any(word.split(" ")[0] in ("sh", "terminal", "python", "output") for _, word, _ in page.blocks):
         return
@@ -343,7 +357,7 @@ def try_commands(count, page) -> None:
             shell.end_servers(False)
 
 
-def try_block(shell, where, word, text, later) -> None:
+def try_block(shell: Shell, where: str, word: str, text: str, later: Sequence[Block]) -> None:
     """Does what a block asks for; `later` are those after it."""
     if word == "objects":
         shell.give_object(shell.page, text)
@@ -371,10 +385,10 @@ def try_block(shell, where, word, text, later) -> None:
         try_not_run(shell.count, where, text)
 
 
-def try_not_run(count, where, text) -> None:
+def try_not_run(count: Count, where: str, text: str) -> None:
     """Looks whether the programs of commands that are not run, and their flags, are there."""
-    for words in text.splitlines():
-        words = words.rstrip("&").split("#")[0].replace("[", "").replace("]", "").split()
+    for line in text.splitlines():
+        words = line.rstrip("&").split("#")[0].replace("[", "").replace("]", "").split()
         if not words or words[0] in ("cd", "export"):
             if words[:1] == ["cd"]:
                 count.is_so((TOP / words[1]).exists(), where, f"no folder {words[1]}")
@@ -396,7 +410,7 @@ def try_not_run(count, where, text) -> None:
 # Other blocks.
 
 
-def try_case(count, where, text) -> None:
+def try_case(count: Count, where: str, text: str) -> None:
     """Runs a block that is a file of cases."""
     with tempfile.TemporaryDirectory(prefix="documents-") as folder:
         path = pathlib.Path(folder) / "block.cases"
@@ -414,7 +428,7 @@ def try_case(count, where, text) -> None:
             count.is_so(not said, where, said)
 
 
-def try_grammars(count, pages) -> None:
+def try_grammars(count: Count, pages: Sequence[Page]) -> None:
     """Looks whether each sign that a grammar uses has its rule in one of these pages."""
     text = "\n".join(it for page in pages for _, word, it in page.blocks if word == "grammar")
     rules = set(re.findall(r"(?m)^(\w+) +=", text))
@@ -424,7 +438,7 @@ def try_grammars(count, pages) -> None:
     count.passed += len(rules)
 
 
-def try_entries(count, where, text) -> None:
+def try_entries(count: Count, where: str, text: str) -> None:
     """Looks whether the reader of objects takes these declarations."""
     body = text.replace("..", "").replace("NAME", "x")
     for entry in body.splitlines():
@@ -435,9 +449,9 @@ def try_entries(count, where, text) -> None:
         count.is_so(ran.returncode == 0, where, f"{entry}: {ran.stdout.strip()}")
 
 
-def try_edit(count, where, text) -> None:
+def try_edit(count: Count, where: str, text: str) -> None:
     """Looks whether a wrong body could be tried: its text stands once in that file of some crate."""
-    words = dict(line.split(": ", 1) if ": " in line else (line, "") for line in text.splitlines())
+    words = dict(line.partition(": ")[::2] for line in text.splitlines())
     found = [it for it in (TOP / "crates").glob(f"*/{words.get('file', 'none')}") if it.read_text().count(words.get("old", "")) == 1]
     count.is_so(found and words.get("new"), where, "no crate has this text in that file")
 
@@ -445,7 +459,7 @@ def try_edit(count, where, text) -> None:
 # What pages name.
 
 
-def try_names(count, page) -> None:
+def try_names(count: Count, page: Page) -> None:
     """Looks whether each path that a page names is there."""
     for line, text in page.prose:
         for name in re.findall(r"(?<![\w/.-])((?:docs|tools|gate|cases|examples|bench|crates|\.ci)/[\w./*-]*[\w*])", text):
@@ -454,7 +468,7 @@ def try_names(count, page) -> None:
                 count.is_so(there, f"{page.name}:{line}", f"there is no {name}")
 
 
-def try_spans(count, page, help_text) -> None:
+def try_spans(count: Count, page: Page, help_text: str) -> None:
     """Looks whether the tools, the subcommands and the flags of commands between backticks are there."""
     for line, text in page.prose:
         where = f"{page.name}:{line}"
@@ -467,12 +481,12 @@ def try_spans(count, page, help_text) -> None:
                     count.is_so(flag in help_text, where, f"no flag {flag}")
 
 
-def bare_name(name):
+def bare_name(name: str) -> bool:
     """Whether a path without its ending, as `cases/serve/lines`, is that of one file."""
     return bool(list(TOP.glob(name + ".*")))
 
 
-def try_items(count, page) -> None:
+def try_items(count: Count, page: Page) -> None:
     """Looks whether each file of a crate and each item of one that a page names is there."""
     for line, text in page.prose:
         where = f"{page.name}:{line}"
@@ -489,7 +503,7 @@ def try_items(count, page) -> None:
                     count.is_so(there, where, f"there is no {name} in {crate}")
 
 
-def try_limits(count) -> None:
+def try_limits(count: Count) -> None:
     """Looks whether each case and test that docs/LIMITS.md names is there."""
     for number, line in enumerate((TOP / "docs" / "LIMITS.md").read_text(encoding="utf-8").split("\n"), 1):
         for cell in line.split("|"):
@@ -505,7 +519,7 @@ def try_limits(count) -> None:
                     count.is_so(there, where, f"no test {title} in {name}")
 
 
-def try_wrong_bodies(count) -> None:
+def try_wrong_bodies(count: Count) -> None:
     """Looks whether each wrong body that docs/PROOFS.md names is there."""
     text = (TOP / "docs" / "PROOFS.md").read_text(encoding="utf-8")
     section = re.search(r"(?ms)^## Wrong bodies$(.*?)(?=^`rt plant`|\Z)", text)
@@ -515,7 +529,7 @@ def try_wrong_bodies(count) -> None:
         count.is_so(name in edits or f"fn {name}(" in tests, "docs/PROOFS.md", f"there is no wrong body {name}")
 
 
-def try_crates(count) -> None:
+def try_crates(count: Count) -> None:
     """Compares the crates of docs/ARCHITECTURE.md with crates.txt: each has a row, and stands on its layer and those below."""
     text = (TOP / "docs" / "ARCHITECTURE.md").read_text(encoding="utf-8")
     layer = {}
@@ -524,7 +538,7 @@ def try_crates(count) -> None:
         count.is_so(picture and name.lower() in picture[1], "docs/ARCHITECTURE.md", f"the picture has no {name.lower()}")
     for place, name in enumerate(LAYERS):
         section = re.search(rf"(?ms)^## {name}$(.*?)(?=^## |\Z)", text)
-        if not count.is_so(section, "docs/ARCHITECTURE.md", f"no layer {name}"):
+        if not count.is_so(section, "docs/ARCHITECTURE.md", f"no layer {name}") or not section:
             continue
         for crate in re.findall(r"(?m)^\| `(\w+)` \|", section[1]):
             count.is_so(crate not in layer, "docs/ARCHITECTURE.md", f"{crate} has two rows")
@@ -541,14 +555,14 @@ def try_crates(count) -> None:
                 count.is_so(holds, "docs/ARCHITECTURE.md", f"{crate} ({LAYERS[above]}) stands on {other} ({LAYERS[below]})")
 
 
-def try_parts(count) -> None:
+def try_parts(count: Count) -> None:
     """Looks whether gate/README.md tells of each part of tools/test."""
     text = (TOP / "gate" / "README.md").read_text(encoding="utf-8")
     for part in (*test.FREE, *test.PARTS, test.TRY):
         count.is_so(f"`{part.words[0]}`" in text, "gate/README.md", f"nothing of {part.words[0]}")
 
 
-def try_whole(count) -> None:
+def try_whole(count: Count) -> None:
     """What holds of README.md, CHANGELOG.md and the manual page as a whole."""
     readme = (TOP / "README.md").read_text(encoding="utf-8")
     count.is_so(len(readme.split("\n")) <= 101, "README.md", "more than 100 lines")
@@ -564,7 +578,7 @@ def try_whole(count) -> None:
                 f"begins with {first and first[1]}, and the help of the program says {told and told[1]}")
 
 
-def pages_of(words):
+def pages_of(words: Sequence[str]) -> list[Page]:
     names = ["README.md", "CONTRIBUTING.md", "CHANGELOG.md", "cases/README.md", "bench/README.md", "gate/README.md"]
     found = [TOP / it for it in names if (TOP / it).exists()] + sorted((TOP / "docs").glob("*.md"))
     return [Page(it) for it in ([pathlib.Path(it).resolve() for it in words] or found)]

@@ -12,6 +12,7 @@ where M is 0 and N is not.
 import pathlib
 import subprocess
 import tempfile
+from collections.abc import Iterator, Mapping
 
 from gate.tried import TOP, given_words, program, whole
 
@@ -19,7 +20,7 @@ CELL = TOP / "examples/objects/cell.pp"
 SOURCE = "709919887b5d0865"
 
 
-def front(epoch, value, base, more="", past="", source=SOURCE, name="cell"):
+def front(epoch: int, value: int, base: int, more: str = "", past: str = "", source: str = SOURCE, name: str = "cell") -> str:
     """The text of a front of the object: its epoch, value and base, the lines of its past, and those behind the base."""
     return f"object {name} epoch {epoch}\nsource {source}\npart v 02010001{value:08x}\n{past}base {base}\n{more}"
 
@@ -34,7 +35,8 @@ THREE = front(3, 12, 3, "client s1 ann 2\n" + KEPT_TWO)
 ZEROS = "\0" * 40
 
 # A title, the files, standard output, standard error.
-ROWS = [
+Row = tuple[str, dict[str, str], str, str]
+ROWS: list[Row] = [
     ("one epoch", {"cell.journal": ONE + ZEROS}, "cell epochs 1 entries 2 whole", ""),
     ("no calls", {"cell.journal": front(1, 0, 0) + ZEROS}, "cell epochs 1 entries 0 whole", ""),
     ("three epochs", {"cell.000001.trace": ONE, "cell.000002.trace": TWO, "cell.journal": THREE + ZEROS},
@@ -112,7 +114,7 @@ end;
 """
 
 
-def slot(epoch, value, lines, source="50ad5f2d36404ef1"):
+def slot(epoch: int, value: int, lines: str, source: str = "50ad5f2d36404ef1") -> str:
     """The text of an epoch of that object: its value, and the lines behind that."""
     return f"object slot epoch {epoch}\nsource {source}\npart v 02010001{value:08x}\n{lines}"
 
@@ -180,7 +182,7 @@ FOLLOWS = [
 ]
 
 
-def slots():
+def slots() -> Iterator[Row]:
     """The rows of the other object, as ROWS has those of the cell."""
     for lines, said in ALONE:
         yield f"alone: {lines!r}", {"slot.journal": slot(4, 100, lines)}, f"slot epoch 4 {said}", ""
@@ -195,7 +197,7 @@ def slots():
         yield f"cut: {cut!r}", files, f"slot epochs 2 entries {ended} whole", note
 
 
-def audited(source, files):
+def audited(source: pathlib.Path, files: Mapping[str, str]) -> tuple[int, str, str]:
     """The status of an audit of these files, and what standard output and standard error got."""
     with tempfile.TemporaryDirectory(prefix="epochs-") as folder:
         for name, text in files.items():
@@ -204,7 +206,7 @@ def audited(source, files):
         return ran.returncode, ran.stdout.decode(), ran.stderr.decode().replace(folder + "/", "")
 
 
-def two_objects():
+def two_objects() -> bool:
     """A file of two objects: each has a line, in order, and one that is refused does not keep the other from being told."""
     with tempfile.TemporaryDirectory(prefix="epochs-") as folder:
         source = pathlib.Path(folder) / "two.pp"
@@ -213,7 +215,7 @@ def two_objects():
         return (status, output, error) == (1, "cell epochs 1 entries 2 whole\nother no journal\n", "")
 
 
-def unreadable():
+def unreadable() -> bool:
     """A journal that is a folder cannot be read."""
     with tempfile.TemporaryDirectory(prefix="epochs-") as folder:
         (pathlib.Path(folder) / "cell.journal").mkdir()
@@ -222,7 +224,7 @@ def unreadable():
         return (ran.returncode, ran.stdout, error) == (3, b"", "cell.journal: this file cannot be read: it is a folder\nread fault\n")
 
 
-def refused_source():
+def refused_source() -> bool:
     """A file that is refused is told as `check` tells it."""
     with tempfile.TemporaryDirectory(prefix="epochs-") as folder:
         source = pathlib.Path(folder) / "bad.pp"

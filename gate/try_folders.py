@@ -13,6 +13,7 @@ where M is 0 and N is not.
 """
 import contextlib
 import os
+import pathlib
 import re
 import resource
 import shutil
@@ -20,6 +21,7 @@ import socket
 import subprocess
 import sys
 import time
+from collections.abc import Iterable, Iterator, Mapping
 
 from gate import served
 from gate.served import audited
@@ -70,7 +72,7 @@ UNSAVED = re.compile(r"(\S+) not saved:((?: \d+\.val)+)\n")
 MOVED = re.compile(r"moved to left/(\d+):((?: \d+\.val)+)\n")
 
 
-def check(holds, said) -> None:
+def check(holds: object, said: str) -> None:
     if not holds:
         raise Wrong(said)
 
@@ -78,7 +80,7 @@ def check(holds, said) -> None:
 class Server(served.Server):
     """A server over a folder, which stops with its input, and what it says first, if anything."""
 
-    def __init__(self, folder, *more, other=True, files=None, env=None) -> None:
+    def __init__(self, folder: pathlib.Path, *more: str, other: bool = True, files: int | None = None, env: Mapping[str, str] | None = None) -> None:
         user = NOBODY if other and os.geteuid() == 0 else None
         source, words = folder.parent / "objects.pp", ["--sessions", "8", "--stop-with-input", *more]
         super().__init__("serve", source, folder, *words, env=env, files=files, user=user, survives=True)
@@ -87,7 +89,7 @@ class Server(served.Server):
         self.begin()
         self.first = self.line()
 
-    def ask(self, *lines):
+    def ask(self, *lines: str) -> str:
         """Says lines on a connection of its own, and gives what comes."""
         return "".join(f"{it}\n" for it in self.says(*lines))
 
@@ -106,12 +108,12 @@ class Server(served.Server):
                 last, since = now, time.monotonic()
             time.sleep(QUIET / 10)
 
-    def limit(self, size) -> None:
+    def limit(self, size: int) -> None:
         resource.prlimit(self.child.pid, resource.RLIMIT_FSIZE, (size, size))
 
 
 @contextlib.contextmanager
-def place():
+def place() -> Iterator[pathlib.Path]:
     """A folder for a server, in one with its source, which the other user may enter."""
     with new_folder("folders-") as room:
         room.chmod(0o755)
@@ -121,13 +123,13 @@ def place():
         yield room / "folder"
 
 
-def give(it) -> None:
+def give(it: pathlib.Path) -> None:
     """Gives a file or a folder to the user who runs the program."""
     if os.geteuid() == 0:
         os.chown(it, NOBODY, NOBODY)
 
 
-def contents(folder):
+def contents(folder: pathlib.Path) -> dict[str, bytes]:
     """What a folder has: names and bytes."""
     found = {}
     for it in folder.rglob("*"):
@@ -138,19 +140,20 @@ def contents(folder):
     return found
 
 
-def value_files(folder):
+def value_files(folder: pathlib.Path) -> set[str]:
     return {name for name in contents(folder) if re.fullmatch(r"\d+\.val", name)}
 
 
-def is_saved(folder, part, values=None) -> bool:
+def is_saved(folder: pathlib.Path, part: str, values: Mapping[str, bytes] | None = None) -> bool:
     path = folder / f"{part}.part"
     return path.exists() and path.read_bytes() == (values or VALUES)[part]
 
 
-def look_for_values(folder, error, values=None):
+def look_for_values(folder: pathlib.Path, error: str, values: Mapping[str, bytes] | None = None) -> dict[str, list[str]]:
     """Each value is saved, or in the files that standard error names for it; each of these files is there. Gives those parts that are not
     saved, with their files."""
-    unsaved, values = {part: files.split() for part, files in UNSAVED.findall(error)}, values or VALUES
+    unsaved = {part: files.split() for part, files in UNSAVED.findall(error)}
+    values = values or VALUES
     for part in VALUES:
         if part in unsaved:
             pages = [(folder / it).read_bytes() for it in unsaved[part]]
@@ -163,7 +166,7 @@ def look_for_values(folder, error, values=None):
     return unsaved
 
 
-def look_at_ends(folder, said, error, unsaved, before) -> None:
+def look_at_ends(folder: pathlib.Path, said: str, error: str, unsaved: Iterable[str], before: Mapping[str, bytes]) -> None:
     """`NAME entries K` stands where all of an object was kept, and nowhere else; a trace is whole, or the one that was there."""
     for name, count in ENTRIES.items():
         untraced = f"{name}.trace not written\n" in error
@@ -177,7 +180,7 @@ def look_at_ends(folder, said, error, unsaved, before) -> None:
             check(legal == f"legal {count}\n", f"{name}.trace is {legal!r}")
 
 
-def repair(folder, unsaved) -> None:
+def repair(folder: pathlib.Path, unsaved: Mapping[str, list[str]]) -> None:
     """What docs/SERVING.md says of parts that were not saved: a start moves the value files away, a stop, and then the files of a part, one behind
     the other, are the part."""
     with Server(folder) as server:
@@ -186,6 +189,7 @@ def repair(folder, unsaved) -> None:
     check(status == 0, f"the second run ended with {status}")
     moved = MOVED.search(error)
     check(moved, f"the second start said {error!r}")
+    assert moved
     for part, files in unsaved.items():
         check(set(files) <= set(moved[2].split()), f"{files} were not moved: {error!r}")
         held = b"".join((folder / "left" / moved[1] / it).read_bytes() for it in files)
@@ -201,7 +205,7 @@ def repair(folder, unsaved) -> None:
         check(is_saved(folder, part), f"{part} is lost after the third run")
 
 
-def end_badly(folder, server, before):
+def end_badly(folder: pathlib.Path, server: Server, before: Mapping[str, bytes]) -> dict[str, list[str]]:
     """Stops a server that cannot save all, and looks at what it left."""
     said, status, error = server.ended(LASTS)
     check(status == 3 and error.endswith("write fault\n"), f"status {status}, {error!r}")
@@ -268,7 +272,7 @@ def try_old_trace() -> None:
 
 
 @contextlib.contextmanager
-def small_disk():
+def small_disk() -> Iterator[pathlib.Path | None]:
     """A folder on a small file system of its own, or none where this machine mounts none."""
     with place() as folder:
         mounted = shutil.which("mount") and not subprocess.run(
@@ -281,7 +285,7 @@ def small_disk():
                 subprocess.run(["umount", "-l", folder], check=False)
 
 
-def fill(folder, pages) -> None:
+def fill(folder: pathlib.Path, pages: int) -> None:
     """Leaves so many pages of a small file system free."""
     it = os.open(folder / "filling", os.O_CREAT | os.O_WRONLY)
     with contextlib.suppress(OSError):
@@ -391,7 +395,7 @@ def try_before() -> None:
                 check(is_saved(folder, part), f"{part} is lost after the second run")
 
 
-def ask_or_not(server, *lines):
+def ask_or_not(server: Server, *lines: str) -> str:
     """What a client hears that may be refused."""
     try:
         return server.ask(*lines)
@@ -474,10 +478,10 @@ int pthread_create(pthread_t *thread, const pthread_attr_t *how, void *(*begin)(
 """
 
 
-def lacking(folder, **more):
+def lacking(folder: pathlib.Path, **more: object) -> dict[str, str]:
     """The environment of a server that is run with that library."""
     library = folder.parent / "lacking.so"
-    words = ["cc", "-O2", "-shared", "-fPIC", "-x", "c", "-o", library, "-", "-ldl"]
+    words: list[str | pathlib.Path] = ["cc", "-O2", "-shared", "-fPIC", "-x", "c", "-o", library, "-", "-ldl"]
     subprocess.run(words, input=LACKING, text=True, check=True)
     return {"LD_PRELOAD": str(library), **{name: str(it) for name, it in more.items()}}
 
@@ -526,7 +530,7 @@ TRIES = (
 )
 
 
-def trials():
+def trials() -> list[Trial]:
     return [Trial(it.__name__, it) for it in TRIES]
 
 

@@ -10,7 +10,9 @@ The program is the one that ./pathserve runs, or FILE. The last line is `try_ful
 is 0 where M is 0 and N is not.
 """
 import contextlib
+import pathlib
 import resource
+from collections.abc import Iterator, Sequence
 
 from gate.kept import Server, Talk
 from gate.tried import Trial, Wrong, check, given_words, loads, new_folder, run
@@ -41,21 +43,21 @@ end;
 """
 
 
-def audited(server):
+def audited(server: Server) -> list[str]:
     """The lines of an audit of its folder."""
     return server.audit()[0].splitlines()
 
 
-def told(server):
+def told(server: Server) -> list[str]:
     """What it said on standard error since it was started."""
     return server.error().splitlines()
 
 
-def end(server) -> None:
+def end(server: Server) -> None:
     check(server.end()[1], 0, "the status")
 
 
-def ended(server, name):
+def ended(server: Server, name: str) -> dict[int, pathlib.Path]:
     """The files of the ended epochs of an object, by their numbers."""
     return {int(it.name.split(".")[1]): it for it in server.folder.glob(f"{name}.*.trace")}
 
@@ -63,22 +65,22 @@ def ended(server, name):
 class Client(Talk):
     """A connection that has opened an object, by a name where one is given, and what it was told then."""
 
-    def __init__(self, server, name, client=None) -> None:
+    def __init__(self, server: Server, name: str, client: str | None = None) -> None:
         super().__init__(server)
         self.opened = self.asks(f"open {name}" + (f" as {client}" if client else ""))
 
-    def asks(self, line):
+    def asks(self, line: str) -> str:
         self.say(line)
         return self.hear()
 
-    def call(self, line):
+    def call(self, line: str) -> str:
         """The last line of a call, without its number, or why it is refused."""
         said = self.asks(f"call {line}")
         return self.hear().split(" ")[0] if said.startswith("accepted") else said
 
-    def counts(self, lines):
+    def counts(self, lines: Sequence[str]) -> dict[str, int]:
         """So often each last line came, and the first that was refused, of calls that are sent ahead."""
-        counts = {}
+        counts: dict[str, int] = {}
         for at in range(0, len(lines), 200):
             some = lines[at : at + 200]
             self.say(*(f"call {it}" for it in some))
@@ -90,7 +92,7 @@ class Client(Talk):
 
 
 @contextlib.contextmanager
-def served():
+def served() -> Iterator[Server]:
     with new_folder("full-disk-") as folder, Server(folder, SOURCE, survives=True) as server:
         yield server
 
@@ -231,8 +233,8 @@ def a_crash_within_a_change_harms_nothing() -> None:
 TRIALS = (numbers_are_spent, room_is_spent, room_of_those_that_wait, ended_epochs_are_kept, a_crash_within_a_change_harms_nothing)
 
 
-def trials():
-    return [Trial(it.__doc__, it) for it in TRIALS]
+def trials() -> list[Trial]:
+    return [Trial(it.__doc__ or "", it) for it in TRIALS]
 
 
 def main() -> int:

@@ -10,6 +10,7 @@ The program is the one that ./pathserve runs, or FILE. The last line is `try_hol
 is 0 where M is 0 and N is not.
 """
 import contextlib
+import pathlib
 import random
 import re
 import socket
@@ -99,19 +100,19 @@ end;
 """
 
 
-def started(folder, source, *words):
+def started(folder: pathlib.Path, source: str, *words: str) -> Server:
     server = Server(folder, source, *words)
     server.start()
     return server
 
 
-def ended(server, *names):
+def ended(server: Server, *names: str) -> None:
     """The server ends well, and its folder is legal."""
     check(server.end()[1], 0, "the status")
     server.is_whole(*names)
 
 
-def number(server, name, call):
+def number(server: Server, name: str, call: str) -> int:
     """The integer that a call replies."""
     return int(server.replies(name, call)[0].split(" ")[1])
 
@@ -119,7 +120,7 @@ def number(server, name, call):
 # Each rule by itself.
 
 
-def a_dead_worker_gives_its_slot_back(folder, seconds):
+def a_dead_worker_gives_its_slot_back(folder: pathlib.Path, seconds: float) -> None:
     """Five die, and the sixth goes on; who dies while its call waits holds nothing."""
     server = started(folder, SLOTS)
     first = [Talk(server, "open slots", "opened slots") for _ in range(3)]
@@ -141,7 +142,7 @@ def a_dead_worker_gives_its_slot_back(folder, seconds):
     ended(server, "slots")
 
 
-def nobody_gives_back_what_he_does_not_hold(folder, seconds):
+def nobody_gives_back_what_he_does_not_hold(folder: pathlib.Path, seconds: float) -> None:
     """Also under a key, of which a repeat is answered as ever; bad arguments are told before."""
     server = started(folder, SLOTS)
     with Talk(server, "open slots", "opened slots") as it:
@@ -153,7 +154,7 @@ def nobody_gives_back_what_he_does_not_hold(folder, seconds):
     ended(server, "slots")
 
 
-def a_name_has_time_to_come_back(folder, seconds):
+def a_name_has_time_to_come_back(folder: pathlib.Path, seconds: float) -> None:
     """Just before the time is over it goes on; just after it, the next one leads."""
     server = started(folder, LEADER, "--away", "1")
     ann = Talk(server, "open lead as ann", "opened lead next 1")
@@ -179,7 +180,7 @@ def a_name_has_time_to_come_back(folder, seconds):
     ended(server, "lead")
 
 
-def an_undo_that_waits_is_made_again(folder, seconds):
+def an_undo_that_waits_is_made_again(folder: pathlib.Path, seconds: float) -> None:
     """It may be cancelled, and its name is in use meanwhile."""
     server = started(folder, FROZEN, "--away", "0")
     holder = Talk(server, "open frozen as ann", "opened frozen next 1")
@@ -206,7 +207,7 @@ def an_undo_that_waits_is_made_again(folder, seconds):
     ended(server, "frozen")
 
 
-def a_seat_that_is_paid_stays(folder, seconds):
+def a_seat_that_is_paid_stays(folder: pathlib.Path, seconds: float) -> None:
     """The arguments of what was held are those of its undo; a refused call holds nothing."""
     server = started(folder, SEATS)
     ann = Talk(server, "open seats", "opened seats")
@@ -220,14 +221,14 @@ def a_seat_that_is_paid_stays(folder, seconds):
     ended(server, "seats")
 
 
-def asked(it, line="who"):
+def asked(it: Talk, line: str = "who") -> list[str]:
     """What a client hears that asks who is there, without how long."""
     it.say(line)
     first = it.hear()
     return [first, *(re.sub(r" for \d+", " for T", it.hear()) for _ in range(int(first.split(" ")[1])))]
 
 
-def who_tells_what_is_held(folder, seconds):
+def who_tells_what_is_held(folder: pathlib.Path, seconds: float) -> None:
     """Behind the calls that wait, the oldest first; also of who is gone, and of the sessions that are asked for alone."""
     server = started(folder, SLOTS, "--away", "60")
     with Talk(server, "open slots as ann", "opened slots next 1") as ann:
@@ -257,7 +258,7 @@ def who_tells_what_is_held(folder, seconds):
     ended(server, "slots")
 
 
-def who_tells_256_of_what_is_held(folder, seconds):
+def who_tells_256_of_what_is_held(folder: pathlib.Path, seconds: float) -> None:
     """The oldest; the next ones are told when those are given back."""
     server = started(folder, JOBS)
     with Talk(server, "open jobs", "opened jobs") as it:
@@ -271,7 +272,7 @@ def who_tells_256_of_what_is_held(folder, seconds):
     ended(server, "jobs")
 
 
-def the_clock_goes_by_itself(folder, seconds):
+def the_clock_goes_by_itself(folder: pathlib.Path, seconds: float) -> None:
     """Once a second, and once at a start; after a crash too."""
     server = started(folder, CLOCK)
     until(lambda: number(server, "clock", "now") >= 1, "no tick at the start", 10)
@@ -284,7 +285,7 @@ def the_clock_goes_by_itself(folder, seconds):
     ended(server, "clock")
 
 
-def a_lease_and_a_reservation_end_by_their_time(folder, seconds):
+def a_lease_and_a_reservation_end_by_their_time(folder: pathlib.Path, seconds: float) -> None:
     """Of examples/objects, in two seconds each: while who has them is there, and does nothing. And at once, where he is gone."""
     texts = [(TOP / "examples" / "objects" / f"{it}.pp").read_text(encoding="ascii") for it in ("lease", "stock")]
     server = started(folder, "".join(re.sub(r"const ttl = \d+", "const ttl = 2", it) for it in texts))
@@ -312,7 +313,7 @@ def a_lease_and_a_reservation_end_by_their_time(folder, seconds):
 # Crashes and epochs.
 
 
-def a_crash_takes_nothing_and_gives_nothing_twice(folder, seconds):
+def a_crash_takes_nothing_and_gives_nothing_twice(folder: pathlib.Path, seconds: float) -> None:
     """Who has no name is gone at the start; a name has its time anew."""
     server = started(folder, SLOTS, "--away", "1")
     ann = Talk(server, "open slots as ann", "opened slots next 1")
@@ -334,7 +335,7 @@ def a_crash_takes_nothing_and_gives_nothing_twice(folder, seconds):
     ended(server, "slots")
 
 
-def what_is_held_goes_over_epochs(folder, seconds):
+def what_is_held_goes_over_epochs(folder: pathlib.Path, seconds: float) -> None:
     """The front of the next one has it, by the number that was told."""
     server = started(folder, SLOTS, "--sync", "1000")
     ann = Talk(server, "open slots as ann", "opened slots next 1")
@@ -362,7 +363,7 @@ def what_is_held_goes_over_epochs(folder, seconds):
     ended(server, "slots")
 
 
-def a_file_without_holds_waits_until_nothing_is_held(folder, seconds):
+def a_file_without_holds_waits_until_nothing_is_held(folder: pathlib.Path, seconds: float) -> None:
     """What is held is not lost by it; behind its end, and a start of the old FILE, it is taken."""
     plain = SLOTS.replace("  hold grab until free;\n", "")
     server = started(folder, SLOTS)
@@ -396,7 +397,7 @@ def a_file_without_holds_waits_until_nothing_is_held(folder, seconds):
     ended(server, "slots")
 
 
-def an_object_without_holds_has_the_journal_that_it_had(folder, seconds):
+def an_object_without_holds_has_the_journal_that_it_had(folder: pathlib.Path, seconds: float) -> None:
     """Its bytes are those that it has where another object of the file has holds, and where none has."""
     plain = SLOTS.replace("  hold grab until free;\n", "")
     found = []
@@ -414,7 +415,7 @@ def an_object_without_holds_has_the_journal_that_it_had(folder, seconds):
 # Cuts.
 
 
-def connections_are_cut_at_each_byte(folder, seconds):
+def connections_are_cut_at_each_byte(folder: pathlib.Path, seconds: float) -> None:
     """Of the call and of its answer: the slot is free behind each."""
     server = started(folder, SLOTS)
     for way, text, resets in [("up", "call grab\n", False), ("down", "accepted 10\ndone 10\n", True)]:
@@ -445,19 +446,21 @@ class Worker(threading.Thread):
     """A client that dies at drawn moments, and comes again; half of them have names. It knows of a job that it finished only
     where it was told so."""
 
-    def __init__(self, server, at, seed, end):
+    def __init__(self, server: Server, at: int, seed: int, end: float) -> None:
         super().__init__(daemon=True)
         self.server, self.at, self.chance, self.end = server, at, random.Random(seed), end
         self.name = f"c{at}" if at % 2 else ""
-        self.deaths, self.told, self.wrong = 0, [], None
+        self.deaths = 0
+        self.told: list[str] = []
+        self.wrong: str | None = None
 
-    def run(self):
+    def run(self) -> None:
         while time.monotonic() < self.end and not self.wrong:
             with contextlib.suppress(OSError, Gone, AttributeError):
                 self.live()
             time.sleep(0.002)
 
-    def open(self, name):
+    def open(self, name: str) -> Talk:
         made = Talk(self.server, seconds=5)
         try:
             made.say(f"open {name} as {self.name}" if self.name else f"open {name}")
@@ -469,12 +472,12 @@ class Worker(threading.Thread):
             raise
         return made
 
-    def dies(self, share):
+    def dies(self, share: float) -> None:
         if self.chance.random() < share:
             self.deaths += 1
             raise Gone
 
-    def last(self, it, call):
+    def last(self, it: Talk, call: str) -> str:
         it.say(f"call {call}")
         line = it.hear()
         while line.startswith("accepted "):
@@ -484,7 +487,7 @@ class Worker(threading.Thread):
             raise Gone
         return line
 
-    def live(self):
+    def live(self) -> None:
         if self.chance.random() < 0.5:
             with self.open("slots") as it:
                 # What it held under its name it still holds, if it is back in time.
@@ -515,7 +518,7 @@ class Worker(threading.Thread):
                 self.dies(0.1)
 
 
-def clients_die_and_the_server_is_killed(folder, seconds):
+def clients_die_and_the_server_is_killed(folder: pathlib.Path, seconds: float) -> None:
     """Never more are inside than may, all slots are free at the end, each job is finished once, and none is lost."""
     seed = random.randrange(1 << 30)
     server = started(folder, SLOTS + JOBS, "--away", "1")
@@ -523,13 +526,14 @@ def clients_die_and_the_server_is_killed(folder, seconds):
     crew = [Worker(server, at, seed + at, end) for at in range(12)]
     for one in crew:
         one.start()
-    chance, given, kills, next_kill = random.Random(seed), [], 0, time.monotonic() + 2
+    chance, kills, next_kill = random.Random(seed), 0, time.monotonic() + 2
+    given: list[str] = []
     while time.monotonic() < end:
         with contextlib.suppress(OSError, IndexError):
             # (a table has at most 1,024 keys)
             names = [f"'j{at}'" for at in range(len(given), min(len(given) + 5, 1000))]
             heard = server.says("open jobs", *(f"call submit {it}" for it in names))
-            check(sum(it.startswith("done ") for it in heard), len(names), heard)
+            check(sum(it.startswith("done ") for it in heard), len(names), str(heard))
             given += names
         time.sleep(0.05)
         if time.monotonic() > next_kill:

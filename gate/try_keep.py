@@ -12,9 +12,10 @@ import resource
 import shutil
 import socket
 import subprocess
+from collections.abc import Callable, Iterable, Iterator, Sequence
 
 from gate.served import Server, free_port
-from gate.tried import TOP, Trial, check, given_words, in_folder, loads, program, run, title_of
+from gate.tried import TOP, Trial, check, given_words, in_folder, loads, program, run, there, title_of
 
 SECONDS = 60
 BUFFER = """object buffer;
@@ -48,14 +49,14 @@ USAGE = "\n\nUsage: pathserve keep [OPTIONS] <FILE> <DIR> <PLACE>\n\nFor more in
 class Place:
     """Objects, and a folder that servers have one after the other."""
 
-    def __init__(self, top, source=BUFFER) -> None:
+    def __init__(self, top: pathlib.Path, source: str = BUFFER) -> None:
         top.mkdir(exist_ok=True)
         self.file, self.folder = top / "objects.pp", top / "data"
         self.file.write_text(source, encoding="ascii")
         self.folder.mkdir()
 
     @contextlib.contextmanager
-    def served(self, command, *words, start=(), ends=(0, "")):
+    def served(self, command: str, *words: object, start: Sequence[object] = (), ends: tuple[int, str] = (0, "")) -> Iterator[Callable[..., list[str]]]:
         """A server that is stopped by the end of its input: what says lines to it. It ends with this status and these words on
         standard error; `said` is then what it wrote behind `listening`."""
         with Server(command, self.file, self.folder, *words, "--stop-with-input", by=start) as self.server:
@@ -63,22 +64,22 @@ class Place:
             self.said, status, error = self.server.ended(SECONDS)
             check((status, error), ends, "the end")
 
-    def refused(self, *more, command="keep"):
+    def refused(self, *more: object, command: str = "keep") -> tuple[str, str, int]:
         """What a start says that comes to nothing: standard output, standard error, the status."""
         words = ["--stop-with-input", "--no-explain", *more]
         said, status, error = Server(command, self.file, self.folder, *words).refused(SECONDS)
         return said, error, status
 
-    def filled(self, *items) -> None:
+    def filled(self, *items: object) -> None:
         """The buffer as `serve` saves it, with these items."""
         with self.served("serve") as say:
             say("open buffer", *(f"call put '{it}'" for it in items))
 
-    def parts(self):
+    def parts(self) -> dict[str, bytes]:
         return {it.name: it.read_bytes() for it in self.folder.glob("*.part")}
 
 
-def says(server, lines, quits=True):
+def says(server: Server, lines: Iterable[str], quits: bool = True) -> list[str]:
     """What a client hears that says these lines. It quits, or leaves where it hears nothing more."""
     with server.connect(SECONDS if quits else 1) as it:
         it.sendall("".join(f"{line}\n" for line in (*lines, *["quit"] * quits)).encode())
@@ -89,7 +90,7 @@ def says(server, lines, quits=True):
         return heard.decode().splitlines()
 
 
-def says_cut(server, *lines):
+def says_cut(server: Server, *lines: str) -> list[str]:
     """What a client hears that says these lines, and ends behind the last one without an LF."""
     with server.connect(SECONDS) as it:
         it.sendall("\n".join(lines).encode())
@@ -100,7 +101,7 @@ def says_cut(server, *lines):
         return heard.decode().splitlines()
 
 
-def a_past_stands_before_the_parts(place) -> None:
+def a_past_stands_before_the_parts(place: Place) -> None:
     """Three items were put: they are got in order, and five more are let in at once."""
     place.filled("a", "b", "c")
     check(place.refused(), (NOT_KNOWN, "", 1), "a start without a past")
@@ -115,7 +116,7 @@ def a_past_stands_before_the_parts(place) -> None:
         check(say("open buffer", "call get", quits=False)[1:], ["accepted 65553"], "a get behind the next start")
 
 
-def several_pasts_are_one_behind_another(place) -> None:
+def several_pasts_are_one_behind_another(place: Place) -> None:
     """Each in its turn: five puts, three gets, one put."""
     place.filled("a", "b", "c")
     check(place.refused("--past", "buffer:get:3", "--past", "buffer:put:6"), (NO_FIT, "", 1), "gets before puts")
@@ -125,7 +126,7 @@ def several_pasts_are_one_behind_another(place) -> None:
         check([it.split()[0] for it in heard[1:]], ["accepted", "done"] * 3 + ["accepted"], "four gets")
 
 
-def a_long_past_is_made_short(place) -> None:
+def a_long_past_is_made_short(place: Place) -> None:
     """30,000 calls of each: the epoch has all its numbers all the same."""
     place.file.write_text(BUFFER.replace("8:(put; get)", "put; get"), encoding="ascii")
     with place.served("keep", *["--past", "buffer:put:30000", "--past", "buffer:get:30000"], "--past", "buffer:put:2") as say:
@@ -135,12 +136,12 @@ def a_long_past_is_made_short(place) -> None:
     check(place.refused("--past", "buffer:put:1")[2], 2, "the status of the next start with a past")
 
 
-def more_calls_than_counters_take_do_not_fit(place) -> None:
+def more_calls_than_counters_take_do_not_fit(place: Place) -> None:
     place.filled()
     check(place.refused(*["--past", "buffer:put:30000"] * 3), (NO_FIT, "", 1))
 
 
-def a_past_that_does_not_fit_changes_nothing(place) -> None:
+def a_past_that_does_not_fit_changes_nothing(place: Place) -> None:
     place.filled("a", "b", "c")
     was = place.parts()
     for past in ("put:9", "get:1"):
@@ -150,13 +151,13 @@ def a_past_that_does_not_fit_changes_nothing(place) -> None:
         check(say("open buffer", "call put 'd'")[1:3], ["accepted 1", "done 1"])
 
 
-def what_is_not_there_is_told(place) -> None:
+def what_is_not_there_is_told(place: Place) -> None:
     place.filled("a")
     check(place.refused("--past", "box:put:1", "--past", "buffer:put:1"), ("no object box\n", "", 1), "another object")
     check(place.refused("--past", "buffer:puts:1"), ("object buffer no operation puts\n", "", 1), "another operation")
 
 
-def a_journal_tells_its_past_itself(place) -> None:
+def a_journal_tells_its_past_itself(place: Place) -> None:
     place.filled("a")
     with place.served("keep", "--past", "buffer:put:1") as say:
         say("open buffer")
@@ -166,7 +167,7 @@ def a_journal_tells_its_past_itself(place) -> None:
     check((place.folder / "buffer.journal").read_bytes() == journal, True, "that the journal stays")
 
 
-def another_object_may_have_its_first_start(place) -> None:
+def another_object_may_have_its_first_start(place: Place) -> None:
     """A past is of one object: of one that has no journal yet, beside one that has."""
     place.filled("a")
     with place.served("keep", "--past", "buffer:put:1") as say:
@@ -179,7 +180,7 @@ def another_object_may_have_its_first_start(place) -> None:
             check(say(f"open {name}", "call get")[2].split()[2], "'a'", name)
 
 
-def parts_are_saved_at_an_end(place) -> None:
+def parts_are_saved_at_an_end(place: Place) -> None:
     """They are for people, and for `serve` in another folder; the next start reads the journal alone."""
     place.file.write_text(CELL + BUFFER, encoding="ascii")
     with place.served("keep") as say:
@@ -201,7 +202,7 @@ def parts_are_saved_at_an_end(place) -> None:
         check(say("open cell", "call get")[1:3], ["accepted 1", "done 1 7"], "what it holds elsewhere")
 
 
-def a_part_that_cannot_be_saved_is_told(place) -> None:
+def a_part_that_cannot_be_saved_is_told(place: Place) -> None:
     """What is kept stands in the journal; the other parts are saved."""
     place.file.write_text(CELL + BUFFER, encoding="ascii")
     (place.folder / "cell.v.part").mkdir()
@@ -220,7 +221,7 @@ def a_part_that_cannot_be_saved_is_told(place) -> None:
         check(say("open cell", "call get")[2].split()[2], "7", "what the cell holds")
 
 
-def other_parts_begin_from_what_was_saved(place) -> None:
+def other_parts_begin_from_what_was_saved(place: Place) -> None:
     """An object gets another part: its journal is moved away, its parts stay, and its past is told once more."""
     place.filled("a")
     with place.served("keep", "--past", "buffer:put:1") as say:
@@ -233,7 +234,7 @@ def other_parts_begin_from_what_was_saved(place) -> None:
         check([it.split()[-1] for it in heard if it.startswith("done")], ["'a'", "'b'"], "gets")
 
 
-def ended_epochs_are_kept_up_to_a_size(place) -> None:
+def ended_epochs_are_kept_up_to_a_size(place: Place) -> None:
     """Of three epochs of 60,000 calls the second one and the one that goes on are there: two that have ended have more
     than 3 MB."""
     place.file.write_text(CELL, encoding="ascii")
@@ -247,7 +248,7 @@ def ended_epochs_are_kept_up_to_a_size(place) -> None:
     check(bool(found and 60_000 < int(found[1]) <= 70_000), True, f"what the audit says, {ran.stdout!r},")
 
 
-def of_a_name_the_last_16_calls_are_known(place) -> None:
+def of_a_name_the_last_16_calls_are_known(place: Place) -> None:
     place.file.write_text(CELL, encoding="ascii")
     with place.served("keep") as say:
         say("open cell as ann", *[f"call #{key} set {key}" for key in range(1, 18)])
@@ -255,7 +256,7 @@ def of_a_name_the_last_16_calls_are_known(place) -> None:
         check(heard, ["opened cell next 18", "no BadKey", "repeat done 2", "repeat done 17", "accepted 18", "done 18 17", "bye"])
 
 
-def an_object_knows_4096_names(place) -> None:
+def an_object_knows_4096_names(place: Place) -> None:
     """A further one is not let in as long as none has been away for an hour; those that are known are."""
     place.file.write_text(CELL, encoding="ascii")
     with place.served("keep", "--sync", "1000") as say:
@@ -265,7 +266,7 @@ def an_object_knows_4096_names(place) -> None:
         check(heard, ["no Full", "opened cell next 2", "opened cell next 2"])
 
 
-def the_limit_of_open_files_is_raised(place) -> None:
+def the_limit_of_open_files_is_raised(place: Place) -> None:
     """./pathserve raises the soft limit to the hard one for a server that stays."""
     place.file.write_text(CELL, encoding="ascii")
     _, hard = resource.getrlimit(resource.RLIMIT_NOFILE)
@@ -279,13 +280,13 @@ def the_limit_of_open_files_is_raised(place) -> None:
         with place.served(command, start=start) as say:
             say("open cell")
             limits = pathlib.Path(f"/proc/{place.server.child.pid}/limits").read_text(encoding="ascii")
-            found[command] = re.search(r"Max open files +(\d+)", limits)[1]
+            found[command] = there(re.search(r"Max open files +(\d+)", limits))[1]
         place.folder = place.folder.with_name("more")
         place.folder.mkdir(exist_ok=True)
     check(found, {"keep": str(hard), "serve": "100"}, "the limits")
 
 
-def the_tool_of_before_calls_the_program(place) -> None:
+def the_tool_of_before_calls_the_program(place: Place) -> None:
     """tools/keep hands its words on, and says what takes its place."""
     place.file.write_text(CELL, encoding="ascii")
     top = place.folder.parent / "top"
@@ -295,12 +296,12 @@ def the_tool_of_before_calls_the_program(place) -> None:
     note = "tools/keep: use ./pathserve keep (docs/KEEPING.md); --past takes the place of --restore\n"
     words = [top / "tools" / "keep"]
     port = free_port()
-    given = [*words, place.file, place.folder, str(port), "--stop-with-input", "--at-once", "3"]
+    given: list[str | pathlib.Path] = [*words, place.file, place.folder, str(port), "--stop-with-input", "--at-once", "3"]
     ran = subprocess.run(given, stdin=subprocess.DEVNULL, capture_output=True, text=True, timeout=SECONDS, check=False)
     check((ran.stdout, ran.stderr, ran.returncode), (f"listening {port}\ncell entries 0\n", note, 0))
 
 
-def objects_that_can_get_stuck_are_told(place) -> None:
+def objects_that_can_get_stuck_are_told(place: Place) -> None:
     """Of one that cannot, and of one of which that is not known by 1,000 states, nothing is said; all are served."""
     stuck = (TOP / "examples" / "objects" / "philosophers.pp").read_text(encoding="ascii")
     text = CELL + stuck + POOL.format("known", 3, 3) + POOL.format("unknown", 65535, 32767)
@@ -310,7 +311,7 @@ def objects_that_can_get_stuck_are_told(place) -> None:
         check(say("open unknown", "call take_in")[:3], ["opened unknown", "accepted 1", "done 1"], "what it answers")
 
 
-def one_that_waits_asks_why(place) -> None:
+def one_that_waits_asks_why(place: Place) -> None:
     """Also behind the call that waits: what refuses it, who is there, and what could be called."""
     place.file.write_text(CELL + BUFFER, encoding="ascii")
     with place.served("keep") as say:
@@ -324,7 +325,7 @@ def one_that_waits_asks_why(place) -> None:
         check(say("open buffer", "why 1", "why 0", "who")[1:-1], ["why 1 Ended", "why 0 Unknown", "who 0"], "what another one hears")
 
 
-def all_nodes_that_refuse_are_told(place) -> None:
+def all_nodes_that_refuse_are_told(place: Place) -> None:
     """A slot that nobody has free: the bound of the path is full, and one that gives a slot back is waited for."""
     place.file.write_text((TOP / "examples" / "objects" / "build_slots.pp").read_text(encoding="ascii"), encoding="ascii")
     with place.served("keep") as say:
@@ -336,7 +337,7 @@ def all_nodes_that_refuse_are_told(place) -> None:
         check(heard[2:5], ["why 1 Waiting 2", *[f"path {p} node 1 turn 1 needs put" for p in (1, 2)]], "why a get waits")
 
 
-def lines_that_ask_for_nothing_are_bad(place) -> None:
+def lines_that_ask_for_nothing_are_bad(place: Place) -> None:
     """A number has up to 64 bits; `list` alone needs no object, and a line that may have been cut asks for nothing."""
     place.file.write_text(CELL, encoding="ascii")
     with place.served("keep") as say:
@@ -348,7 +349,7 @@ def lines_that_ask_for_nothing_are_bad(place) -> None:
             check(says_cut(place.server, "open cell", line), ["opened cell", answer], f"{line} without its LF")
 
 
-def a_page_has_256_sessions(place) -> None:
+def a_page_has_256_sessions(place: Place) -> None:
     """By their numbers; the next one begins behind the last of them."""
     place.file.write_text(CELL, encoding="ascii")
     with place.served("keep", "--sync", "1000") as say, contextlib.ExitStack() as stack:
@@ -390,7 +391,7 @@ TRIES = [
 ]
 
 
-def trials():
+def trials() -> list[Trial]:
     return [Trial(title_of(it), in_folder("keep", it, Place)) for it in TRIES]
 
 

@@ -12,12 +12,14 @@ is 0 where M is 0 and N is not.
 """
 import contextlib
 import os
+import pathlib
 import resource
 import selectors
 import socket
 import subprocess
 import threading
 import time
+from typing import Any
 
 from gate import kept
 from gate.crowd import SOURCE
@@ -31,7 +33,7 @@ OWED, HELD = 64, 64
 SLOW = 30
 
 
-def polite(server, calls=20):
+def polite(server: Server, calls: int = 20) -> float:
     """A client that behaves is served, in less than this time in all."""
     begun = time.monotonic()
     with Talk(server, "open counter", "opened counter") as it:
@@ -44,7 +46,7 @@ def polite(server, calls=20):
 # Connections.
 
 
-def many_connections_in_a_row(folder, big) -> None:
+def many_connections_in_a_row(folder: pathlib.Path, big: bool) -> None:
     """Each comes, makes a call, and goes; nothing is left of them."""
     server, count = Server(folder, SOURCE, "--sync", "1000", at_path=False), 10_000 if big else 1_000
     server.start()
@@ -76,8 +78,9 @@ class Heard:
 class Many:
     """Connections that are made at once, and one call of each."""
 
-    def __init__(self, server, count) -> None:
-        self.server, self.selector, self.done, self.all = server, selectors.DefaultSelector(), 0, []
+    def __init__(self, server: Server, count: int) -> None:
+        self.server, self.selector, self.done = server, selectors.DefaultSelector(), 0
+        self.all: list[socket.socket] = []
         for at in range(count):
             it = server.connect()
             it.setblocking(False)
@@ -85,7 +88,7 @@ class Many:
             self.all.append(it)
             self.selector.register(it, selectors.EVENT_READ, Heard(it))
 
-    def hear(self, seconds):
+    def hear(self, seconds: float) -> int:
         """Hears their answers; how many were answered."""
         end = time.monotonic() + seconds
         while self.done < len(self.all) and time.monotonic() < end:
@@ -105,7 +108,7 @@ class Many:
             it.close()
 
 
-def raised(files):
+def raised(files: int) -> bool:
     """Whether this process and those that it starts may have so many files."""
     hard = resource.getrlimit(resource.RLIMIT_NOFILE)[1]
     if hard < files:
@@ -117,7 +120,7 @@ def raised(files):
     return True
 
 
-def many_connections_at_once(folder, big) -> None:
+def many_connections_at_once(folder: pathlib.Path, big: bool) -> None:
     """All are served; a connection that rests takes little memory."""
     count = 9_999 if big else 1_000
     if not raised(count + 200):
@@ -142,7 +145,7 @@ def many_connections_at_once(folder, big) -> None:
     server.end()
 
 
-def a_server_that_rests_takes_no_processor(folder, big) -> None:
+def a_server_that_rests_takes_no_processor(folder: pathlib.Path, big: bool) -> None:
     server = Server(folder, SOURCE)
     server.start()
     with Talk(server, "open buffer", "opened buffer") as it:
@@ -155,7 +158,7 @@ def a_server_that_rests_takes_no_processor(folder, big) -> None:
     server.end()
 
 
-def more_than_at_once_wait(folder, big) -> None:
+def more_than_at_once_wait(folder: pathlib.Path, big: bool) -> None:
     """One more than may be connected waits until another one goes, however that goes."""
     server = Server(folder, SOURCE, "--at-once", "4")
     server.start()
@@ -188,11 +191,11 @@ def more_than_at_once_wait(folder, big) -> None:
     server.end()
 
 
-def too_few_files(folder, big) -> None:
+def too_few_files(folder: pathlib.Path, big: bool) -> None:
     """Where the system has no file left for a connection it waits, and is served once another one goes."""
     server = Server(folder, SOURCE, files=24)
     server.start()
-    here = []
+    here: list[Talk] = []
     while len(here) < 40:
         it = Talk(server)
         it.say("open counter")
@@ -223,7 +226,7 @@ def too_few_files(folder, big) -> None:
 # Clients that are none.
 
 
-def cut_at_each_byte(folder, big) -> None:
+def cut_at_each_byte(folder: pathlib.Path, big: bool) -> None:
     """A client with a name hangs up behind each byte that it sends, and each that it hears: its call is done once."""
     server = Server(folder, SOURCE, "--sync", "1000", at_path=True)
     server.start()
@@ -263,7 +266,7 @@ def cut_at_each_byte(folder, big) -> None:
     server.end()
 
 
-def one_sends_a_byte_at_a_time(folder, big) -> None:
+def one_sends_a_byte_at_a_time(folder: pathlib.Path, big: bool) -> None:
     """A slow client is served, and no other one waits for it."""
     server = Server(folder, SOURCE)
     server.start()
@@ -279,7 +282,7 @@ def one_sends_a_byte_at_a_time(folder, big) -> None:
     server.end()
 
 
-def one_sends_without_an_end(folder, big) -> None:
+def one_sends_without_an_end(folder: pathlib.Path, big: bool) -> None:
     """Of a line without an end nothing is kept: it is answered once, and the connection ends."""
     server = Server(folder, SOURCE)
     server.start()
@@ -304,9 +307,10 @@ def one_sends_without_an_end(folder, big) -> None:
     server.end()
 
 
-def deaf_clients(server, count, lines, opening):
+def deaf_clients(server: Server, count: int, lines: bytes, opening: bytes) -> list[socket.socket]:
     """Clients that never read, and send on until nothing is taken any more."""
-    made = []
+    # (of each what it sends next)
+    made: list[list[Any]] = []
     for _ in range(count):
         it = server.connect()
         it.setblocking(False)
@@ -321,7 +325,7 @@ def deaf_clients(server, count, lines, opening):
     return [row[0] for row in made]
 
 
-def none_grows(server, count, who, text, opening):
+def none_grows(server: Server, count: int, who: str, text: bytes, opening: bytes) -> int:
     """Clients of which no more is read take little memory each, and others are served meanwhile. It gives how much
     memory the server had before them, once they have gone."""
     server.start()
@@ -338,7 +342,7 @@ def none_grows(server, count, who, text, opening):
     return before
 
 
-def clients_that_never_read(folder, big) -> None:
+def clients_that_never_read(folder: pathlib.Path, big: bool) -> None:
     """Clients that are owed ever more and send on: no more is read of them, memory is bounded, and others are
     served."""
     # (each has 11 bytes told for 2 that it says, 280 KB until no more is read of it)
@@ -351,7 +355,7 @@ def clients_that_never_read(folder, big) -> None:
     server.end()
 
 
-def clients_whose_lines_are_held(folder, big) -> None:
+def clients_whose_lines_are_held(folder: pathlib.Path, big: bool) -> None:
     """Clients that send on behind a call that waits: no more is read of them, and memory is bounded."""
     count = 1_000 if big else 300
     raised(count + 300)
@@ -360,7 +364,7 @@ def clients_whose_lines_are_held(folder, big) -> None:
     server.end()
 
 
-def lines_are_held_for_ever(folder, big) -> None:
+def lines_are_held_for_ever(folder: pathlib.Path, big: bool) -> None:
     """Of a client that always has lines held, however many calls it makes, no more is kept than what is held."""
     server, calls = Server(folder, SOURCE, "--sync", "1000", at_path=True), 100_000 if big else 12_000
     server.start()
@@ -381,13 +385,13 @@ def lines_are_held_for_ever(folder, big) -> None:
     server.kill()
 
 
-def send(talk, line, count) -> None:
+def send(talk: Talk, line: bytes, count: int) -> None:
     with contextlib.suppress(OSError):
         for _ in range(count // 100):
             talk.socket.sendall(line * 100)
 
 
-def who_hangs_up_ahead_of_its_calls(folder, big) -> None:
+def who_hangs_up_ahead_of_its_calls(folder: pathlib.Path, big: bool) -> None:
     """Whoever has sent more than is held, and hangs up, is seen to have gone: its call is cancelled, and no other one
     is done."""
     for at_path in (True, False):
@@ -411,13 +415,14 @@ def who_hangs_up_ahead_of_its_calls(folder, big) -> None:
             server.end()
 
 
-def loud_clients_starve_nobody(folder, big) -> None:
+def loud_clients_starve_nobody(folder: pathlib.Path, big: bool) -> None:
     """Clients that send on and on, and read, take no more than their turn."""
     server, count = Server(folder, SOURCE, "--sync", "20"), 8
     server.start()
     loud = [server.connect() for _ in range(count)]
     said, heard = [b"open echo\n" + b"call say 'x'\n" * 500] * count, 0
-    begun, took, begins = time.monotonic(), [], False
+    begun, begins = time.monotonic(), False
+    took: list[float] = []
     polite_one = threading.Thread(target=lambda: took.extend(polite(server, 5) for _ in range(4)), daemon=True)
     while (not begins or polite_one.is_alive()) and time.monotonic() - begun < 4 * SLOW:
         # (the polite one comes when the loud ones are heard)
@@ -438,7 +443,7 @@ def loud_clients_starve_nobody(folder, big) -> None:
     server.end()
 
 
-def more_names_than_there_are(folder, big) -> None:
+def more_names_than_there_are(folder: pathlib.Path, big: bool) -> None:
     """An object knows 4,096 names: one more is refused, and so are no others; a start knows them all."""
     server, names = Server(folder, SOURCE, "--sync", "1000", at_path=True), 4_096
     server.start()
@@ -460,7 +465,7 @@ def more_names_than_there_are(folder, big) -> None:
     server.is_whole()
 
 
-def calls_that_wait_leave_room(folder, big) -> None:
+def calls_that_wait_leave_room(folder: pathlib.Path, big: bool) -> None:
     """However much the lines of calls that wait may need, a call that lets one of them go on is done."""
     source = """object box;
   path 5:(put; get) end;
@@ -496,20 +501,20 @@ end;
 class Mounted:
     """A small file system in memory, which can be filled."""
 
-    def __init__(self, folder, size) -> None:
+    def __init__(self, folder: pathlib.Path, size: str) -> None:
         self.folder, self.ballast = folder, folder / "ballast"
         folder.mkdir()
         words = ["mount", "-t", "tmpfs", "-o", f"size={size}", "tmpfs", str(folder)]
         self.is_there = subprocess.run(words, capture_output=True).returncode == 0
 
-    def __enter__(self):
+    def __enter__(self) -> "Mounted":
         return self
 
-    def __exit__(self, *_) -> None:
+    def __exit__(self, *_: object) -> None:
         if self.is_there:
             subprocess.run(["umount", "-l", str(self.folder)], check=True)
 
-    def fill(self, rest) -> None:
+    def fill(self, rest: int) -> None:
         """Leaves so many bytes of it."""
         left = os.statvfs(self.folder)
         with open(self.ballast, "wb") as file:
@@ -519,7 +524,7 @@ class Mounted:
         self.ballast.unlink()
 
 
-def said(server, count):
+def said(server: Server, count: int) -> tuple[int, int]:
     """Has so many calls made, 2 KB of lines each; how many were done, and how many were refused."""
     done = refused = 0
     with Talk(server, "open echo", "opened echo") as it:
@@ -533,7 +538,7 @@ def said(server, count):
     return done, refused
 
 
-def a_full_disk(folder, big) -> None:
+def a_full_disk(folder: pathlib.Path, big: bool) -> None:
     """Where no new epoch can be written the old one goes on, and standard error says so; behind the last byte of its
     file calls are `no HistoryFull`, and once there is room again all goes on. Nothing that was answered is lost."""
     source = SOURCE[SOURCE.index("object echo") :]

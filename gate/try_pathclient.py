@@ -15,6 +15,7 @@ import asyncio
 import contextlib
 import io
 import os
+import pathlib
 import pickle
 import re
 import signal
@@ -23,13 +24,15 @@ import subprocess
 import sys
 import threading
 import time
+from collections.abc import Callable, Iterable, Sequence
+from typing import Any
 
 from clients.python.pathclient import (
-    CallError, Cancelled, Expired, Failed, Lost, NoServer, Object, Pool, Refused, Rejected, Reply, aio, stubs,
+    CallError, Cancelled, Expired, Failed, Lost, NoServer, Object, Pool, Refused, Rejected, Reply, aio, as_integer, stubs,
 )
 from gate import closing, kept
 from gate.cutter import Cutter
-from gate.fakes import NEVER, FakeServer
+from gate.fakes import NEVER, FakeServer, Rows
 from gate.served import Server, free_port
 from gate.tried import TOP, Trial, given_words, in_folder, lacks, loads, run
 
@@ -37,13 +40,15 @@ OBJECTS = TOP / "examples" / "objects"
 # How long anything may take, in seconds.
 SECONDS = 20
 
+Attempt = Callable[[pathlib.Path], None]
 
-def check(found, wanted) -> None:
+
+def check(found: object, wanted: object) -> None:
     if found != wanted or type(found) is not type(wanted):
         raise AssertionError(f"{found!r}, not {wanted!r}")
 
 
-def raised(kind, word, function, *arguments, **options) -> None:
+def raised(kind: type[BaseException], word: str | None, function: Callable[..., object], *arguments: Any, **options: Any) -> None:
     """Whether calling this raises exactly this kind, with this word."""
     try:
         found = function(*arguments, **options)
@@ -56,17 +61,17 @@ def raised(kind, word, function, *arguments, **options) -> None:
     raise AssertionError(f"replied {found!r}, where {kind.__name__}({word}) was to come")
 
 
-def server_of(objects, sessions, folder, port=None):
+def server_of(objects: pathlib.Path, sessions: int, folder: pathlib.Path, port: int | None = None) -> Server:
     """A server of an example, or of a source, for so many connections."""
     return Server("serve", objects, folder, "--sessions", sessions, place=port)
 
 
-def ends(server, said) -> None:
+def ends(server: Server, said: str) -> None:
     """A server ends, as it has to now, and says this."""
     check(server.ended(SECONDS).said, said)
 
 
-def answering(*connections, port=0):
+def answering(*connections: Rows, port: int = 0) -> FakeServer:
     """A fake that takes these connections one after the other."""
     return FakeServer(*connections, port=port, in_turn=True)
 
@@ -74,7 +79,7 @@ def answering(*connections, port=0):
 OPENED = ("open cell", b"opened cell\n")
 
 
-def opened(key, answer=b""):
+def opened(key: int, answer: bytes = b"") -> tuple[str, bytes]:
     """The answer to a client with a name, after some that refuse it."""
     return ("open cell as ann", answer or f"opened cell next {key}\n".encode())
 
@@ -88,7 +93,7 @@ end;
 """
 
 
-def calls(folder) -> None:
+def calls(folder: pathlib.Path) -> None:
     with server_of(OBJECTS / "phone_book.pp", 1, folder) as server:
         with Object(server.port, "phone_book") as book:
             check(book.enter("ada", "12 34"), None)
@@ -108,7 +113,7 @@ def calls(folder) -> None:
         ends(server, "phone_book entries 14\n")
 
 
-def integers(folder) -> None:
+def integers(folder: pathlib.Path) -> None:
     with server_of(OBJECTS / "cell.pp", 1, folder) as server:
         with Object(server.port, "CELL") as cell:
             check(cell.put(4294967295), None)
@@ -118,7 +123,7 @@ def integers(folder) -> None:
             check(cell.get(), 0)
 
 
-def not_taken(folder) -> None:
+def not_taken(folder: pathlib.Path) -> None:
     """What the server does not take, and what is no argument: the session goes on."""
     with server_of(OBJECTS / "cell.pp", 2, folder) as server:
         with Object(server.port, "cell") as cell:
@@ -135,7 +140,7 @@ def not_taken(folder) -> None:
         ends(server, "cell entries 1\n")
 
 
-def waits(folder) -> None:
+def waits(folder: pathlib.Path) -> None:
     """A call that waits for another session, and one that is cancelled where it waits too long."""
     with server_of(OBJECTS / "bounded_buffer.pp", 2, folder) as server:
         with Object(server.port, "bounded_buffer") as consumer, Object(server.port, "bounded_buffer") as producer:
@@ -143,7 +148,7 @@ def waits(folder) -> None:
             raised(Cancelled, "", consumer.get, within=0.3)
             if not 0.3 <= time.monotonic() - began < 5:
                 raise AssertionError("it was not cancelled in time")
-            got = []
+            got: list[Any] = []
             thread = threading.Thread(target=lambda: got.append(consumer.get()))
             thread.start()
             time.sleep(0.2)
@@ -156,13 +161,13 @@ def waits(folder) -> None:
         ends(server, "bounded_buffer entries 4\n")
 
 
-def shared(folder) -> None:
+def shared(folder: pathlib.Path) -> None:
     """Threads that share a session: each has its own replies."""
     with server_of(OBJECTS / "phone_book.pp", 1, folder) as server:
         with Object(server.port, "phone_book") as book:
             wrong = []
 
-            def work(number) -> None:
+            def work(number: int) -> None:
                 for turn in range(40):
                     book.enter(f"{number} {turn}", f"{turn} of {number}")
                     if book.number_of(f"{number} {turn}") != f"{turn} of {number}":
@@ -177,7 +182,7 @@ def shared(folder) -> None:
             check(book.size(), 320)
 
 
-def killed(folder) -> None:
+def killed(folder: pathlib.Path) -> None:
     """A server that is killed while a call waits, and another one that takes its place."""
     with server_of(OBJECTS / "bounded_buffer.pp", 1, folder) as server:
         buffer = Object(server.port, "bounded_buffer", wait=0.5)
@@ -190,7 +195,7 @@ def killed(folder) -> None:
         ends(server, "bounded_buffer entries 1\n")
 
 
-def no_server(folder) -> None:
+def no_server(folder: pathlib.Path) -> None:
     raised(NoServer, None, Object, free_port(), "cell", wait=0)
     with server_of(OBJECTS / "cell.pp", 1, folder) as server:
         with Object(server.port, "cell") as cell:
@@ -199,7 +204,7 @@ def no_server(folder) -> None:
             check(cell.get(), 0)
 
 
-def said(answers, kind, word, **options):
+def said(answers: Rows, kind: type[BaseException] | None, word: Any, **options: Any) -> Attempt:
     """What a call gives, where these are the answers behind `opened cell`."""
 
     def attempt(_: object) -> None:
@@ -224,7 +229,7 @@ def after_lost(_: object) -> None:
     check(listener.heard, ["open cell\n", "call put 1\n", "open cell\n", "call put 2\n", "quit\n"])
 
 
-def by_name(folder) -> None:
+def by_name(folder: pathlib.Path) -> None:
     """A session with a name goes on where the one before it ended; nobody else has its keys."""
     with server_of(OBJECTS / "cell.pp", 4, folder) as server:
         for turn in (1, 2, 3):
@@ -239,7 +244,7 @@ def by_name(folder) -> None:
         ends(server, "cell entries 13\n")
 
 
-def one_name_twice(folder) -> None:
+def one_name_twice(folder: pathlib.Path) -> None:
     """A name is in use until its session has ended."""
     with server_of(OBJECTS / "cell.pp", 3, folder) as server:
         cell = Object(server.port, "cell", client="ann")
@@ -250,7 +255,7 @@ def one_name_twice(folder) -> None:
         ends(server, "cell entries 1\n")
 
 
-def names_that_are_none(folder) -> None:
+def names_that_are_none(folder: pathlib.Path) -> None:
     with server_of(OBJECTS / "cell.pp", 2, folder) as server:
         for it in ("", "9", "a b", "a" * 65, "ann\nquit"):
             raised(ValueError, None, Object, server.port, "cell", client=it)
@@ -259,10 +264,10 @@ def names_that_are_none(folder) -> None:
             check(cell.get(), 0)
 
 
-def cut_at_each_byte(way, size, resets):
+def cut_at_each_byte(way: str, size: int, resets: bool) -> Attempt:
     """A client with a name whose connection breaks at each byte of a call, or of its answer: each call is done once, and replied."""
 
-    def attempt(folder) -> None:
+    def attempt(folder: pathlib.Path) -> None:
         (folder / "meter.pp").write_text(METER)
         with server_of(folder / "meter.pp", size + 3, folder) as server:
             cutter = Cutter(server.port)
@@ -281,7 +286,7 @@ def cut_at_each_byte(way, size, resets):
     return attempt
 
 
-def comes_back(kind, word, *connections, key=5, heard=None, **options):
+def comes_back(kind: type[BaseException] | None, word: Any, *connections: Rows, key: int = 5, heard: int | None = None, **options: Any) -> Attempt:
     """What a call of a client with a name gives, where the connection breaks behind the call of this key, and these are the answers on
     the connections that it makes then."""
 
@@ -324,10 +329,10 @@ def full(_: object) -> None:
         check("as many clients as it takes" in str(error), True)
 
 
-def in_time(answers, kind, word):
+def in_time(answers: Rows, kind: type[BaseException] | None, word: Any) -> Attempt:
     """A call with `within` ends in time, whatever the server does not say."""
 
-    def attempt(folder) -> None:
+    def attempt(folder: pathlib.Path) -> None:
         begun = time.monotonic()
         said([*answers, NEVER], kind, word, within=0.2)(folder)
         if not 0.2 <= time.monotonic() - begun < 5:
@@ -336,7 +341,7 @@ def in_time(answers, kind, word):
     return attempt
 
 
-def in_time_where(server, begun, kind, word, *arguments):
+def in_time_where(server: Any, begun: Callable[..., Any], kind: type[BaseException], word: Any, *arguments: Any) -> Attempt:
     """A call with `within` ends in time, where the server holds before it has heard the call."""
 
     def attempt(_: object) -> None:
@@ -366,7 +371,7 @@ def behind_another(_: object) -> None:
     check(listener.heard, ["open cell\n", "call get\n", ""])
 
 
-def told_of_which(folder) -> None:
+def told_of_which(folder: pathlib.Path) -> None:
     """What is raised says of which call."""
     with server_of(OBJECTS / "cell.pp", 1, folder) as server, Object(server.port, "cell") as cell:
         for error, operation, arguments in (("BadArgs: put 'it''s' 2", "put", ("it's", 2)), ("UnknownOp: pop", "pop", ())):
@@ -403,7 +408,7 @@ def by_word(_: object) -> None:
     check(told, ["empty: empty: get", "full: get"])
 
 
-def sent_ahead(folder) -> None:
+def sent_ahead(folder: pathlib.Path) -> None:
     """Calls that are sent ahead: what came of each stands in its place."""
     with server_of(OBJECTS / "cell.pp", 2, folder) as server:
         for client in (None, "ann"):
@@ -414,7 +419,7 @@ def sent_ahead(folder) -> None:
         ends(server, "cell entries 88\n")
 
 
-def late_ahead(folder) -> None:
+def late_ahead(folder: pathlib.Path) -> None:
     """Calls that are sent ahead, and wait too long: each is cancelled."""
     with server_of(OBJECTS / "bounded_buffer.pp", 1, folder) as server, Object(server.port, "bounded_buffer", client="ann") as buffer:
         came = buffer.ahead(("put", "a"), ("get",), ("get",), ("put", "b"), within=0.5)
@@ -422,7 +427,7 @@ def late_ahead(folder) -> None:
         check(buffer.waiting(), 1 if came[3] is None else 0)
 
 
-def again_by_key(folder) -> None:
+def again_by_key(folder: pathlib.Path) -> None:
     """A program that was killed asks for its call by the key that it has written down."""
     with server_of(OBJECTS / "cell.pp", 3, folder) as server:
         with Object(server.port, "cell", client="ann") as cell:
@@ -458,15 +463,15 @@ end;
 class Kept(kept.Server):
     """A server of a lot, or of a source, at one port, that is killed and started again."""
 
-    def __init__(self, folder, source=LOT, *words) -> None:
+    def __init__(self, folder: pathlib.Path, source: str = LOT, *words: str) -> None:
         super().__init__(folder, source, *words, port=free_port())
 
-    def kill_for(self, seconds) -> None:
+    def kill_for(self, seconds: float) -> None:
         """Kills it, and starts it again after so many seconds."""
         self.kill()
         threading.Timer(seconds, self.start).start()
 
-    def counts(self):
+    def counts(self) -> tuple[Reply, Reply]:
         """How many are held, and were at most."""
         with Object(self.port, "lot", wait=SECONDS) as it:
             return it.held(), it.most()
@@ -487,7 +492,7 @@ end;
 """
 
 
-def late(folder) -> None:
+def late(folder: pathlib.Path) -> None:
     """A name that was away for too long: what it held was given back under its keys. Its next call says so, whatever it calls, and the
     one behind it goes on."""
     with Kept(folder, SLOTS, "--away", "0") as server, Object(server.port, "lot", client="eve", wait=SECONDS) as other:
@@ -502,7 +507,7 @@ def late(folder) -> None:
                     time.sleep(0.01)
                 raised(Expired, None, lot.call, call)
                 if came == "NotHeld":
-                    raised(Rejected, came, lot.call, call)
+                    raised(Rejected, "NotHeld", lot.call, call)
                 else:
                     check(lot.call(call), came)
             closing.awaited("what it held at its end", lambda: not other.held())
@@ -512,7 +517,7 @@ def late(folder) -> None:
         asyncio.run(late_tasks(server, other))
 
 
-def broken_off(server, other, lot) -> None:
+def broken_off(server: Kept, other: Object, lot: Object) -> None:
     """A block in which the server is killed, and gives back what the block holds."""
     with lot.holding("enter", "leave"):
         server.kill()
@@ -521,7 +526,7 @@ def broken_off(server, other, lot) -> None:
             time.sleep(0.01)
 
 
-async def late_tasks(server, other) -> None:
+async def late_tasks(server: Kept, other: Object) -> None:
     async with aio.connect(server.port, "lot", client="bob", wait=SECONDS) as lot:
         await lot.enter()
         server.kill()
@@ -537,7 +542,7 @@ async def late_tasks(server, other) -> None:
                 check((call, error.word), ("leave", "NotHeld"))
 
 
-def not_as_it_was(kind):
+def not_as_it_was(kind: str) -> Attempt:
     """A client that has a connection which ended, and comes back by its name: where that has made calls meanwhile it says so, once;
     but for calls that were given up themselves."""
     first = [opened(5), ("call #5 get", b"accepted 9\ndone 9 1\n")]
@@ -559,7 +564,7 @@ def not_as_it_was(kind):
     return attempt
 
 
-def got_by(kind, port, withins):
+def got_by(kind: str, port: int, withins: Iterable[float | None]) -> list[Reply | type[CallError]]:
     """What calls with these times come to, by threads or by tasks, each a while behind the one before; what is raised by its kind."""
     if kind == "threads":
         came: list[Reply | type[CallError]] = []
@@ -572,7 +577,7 @@ def got_by(kind, port, withins):
             time.sleep(0.2)
         return came
 
-    async def work():
+    async def work() -> list[Reply | type[CallError]]:
         came: list[Reply | type[CallError]] = []
         cell = aio.connect(port, "cell", client="ann")
         await cell.open()
@@ -591,11 +596,11 @@ class Boom(Exception):
     pass
 
 
-def interrupt(*_) -> None:
+def interrupt(*_: object) -> None:
     raise Boom
 
 
-def holds(folder) -> None:
+def holds(folder: pathlib.Path) -> None:
     """A block holds what it has begun, and gives it back, however it ends, over a server that is killed and gone for a while."""
     with Kept(folder) as server:
         for name in NAMES:
@@ -603,7 +608,7 @@ def holds(folder) -> None:
                 with lot.holding("enter", "leave") as place:
                     check((type(place), other.held()), (int, 1))
                 check(other.held(), 0)
-                with lot.holding(("enter",), lambda place: ("leave_one", place)):
+                with lot.holding(("enter",), lambda place: ("leave_one", as_integer(place))):
                     check(other.held(), 1)
                 check(other.held(), 0)
                 try:
@@ -625,7 +630,7 @@ def holds(folder) -> None:
             check(server.counts(), (0, 2))
 
 
-def holds_nothing(folder) -> None:
+def holds_nothing(folder: pathlib.Path) -> None:
     """Where the first call is not done the second one is not called; where the second one cannot be done it is said why."""
     with Kept(folder) as server, Object(server.port, "lot") as lot, Object(server.port, "lot", client="ann", wait=0.1) as late:
         raised(Rejected, "UnknownOp", held, lot, "come", "leave")
@@ -650,16 +655,16 @@ def holds_nothing(folder) -> None:
         check(server.counts()[0], 2)
 
 
-def held(it, *words, **options):
+def held(it: Any, *words: Any, **options: Any) -> Any:
     """Holds something for a moment."""
     with it.holding(*words, **options) as reply:
         return reply
 
 
-def holds_over_cuts(way, size, resets):
+def holds_over_cuts(way: str, size: int, resets: bool) -> Attempt:
     """A holder with a name whose connection breaks at each byte of a call or of its answer, at the beginning or at the end: it holds once."""
 
-    def attempt(folder) -> None:
+    def attempt(folder: pathlib.Path) -> None:
         with Kept(folder) as server, Object(server.port, "lot") as other:
             cutter = Cutter(server.port)
             with Object(cutter.port, "lot", client="ann") as lot:
@@ -677,12 +682,12 @@ def holds_over_cuts(way, size, resets):
     return attempt
 
 
-def held_by(kind, port, *words, client="ann", wait=10.0, **options):
+def held_by(kind: str, port: int, *words: Any, client: str | None = "ann", wait: float = 10.0, **options: Any) -> Any:
     """Holds something of a cell for a moment, by threads or by tasks."""
     if kind == "threads":
         return held(Object(port, "cell", client=client, wait=wait), *words, **options)
 
-    async def work():
+    async def work() -> Any:
         cell = aio.connect(port, "cell", client=client, wait=wait)
         await cell.open()
         try:
@@ -694,7 +699,7 @@ def held_by(kind, port, *words, client="ann", wait=10.0, **options):
     return asyncio.run(work())
 
 
-def heard_by(listener):
+def heard_by(listener: FakeServer) -> list[str]:
     """What a client said, but for the end."""
     return [it for it in listener.heard if it not in ("", "quit\n")]
 
@@ -703,7 +708,7 @@ DOUBT = [opened(5), ("call #5 take", b"accepted 9\n"), ("cancel 9", b"")]
 TAKEN, GIVEN = ("call #5 take", b"accepted 9\ndone 9\n"), b"accepted 10\ndone 10\n"
 
 
-def holds_in_doubt(kind):
+def holds_in_doubt(kind: str) -> Attempt:
     """Where the first call is lost it is asked again by its key, and ended where it was done: a session without a name cannot ask."""
 
     # (tasks come back by themselves where a connection ends, so theirs stays; and they ask again for what is nobody's any more)
@@ -745,7 +750,7 @@ def interrupted_holding(_: object) -> None:
 def cancelled_holding(_: object) -> None:
     """A task that is cancelled while its first call waits, which is then done all the same: it is ended."""
 
-    async def work(port, client) -> None:
+    async def work(port: int, client: str | None) -> None:
         cell = aio.connect(port, "cell", client=client)
         await cell.open()
 
@@ -767,10 +772,10 @@ def cancelled_holding(_: object) -> None:
         check(heard_by(listener)[-1], f"call {keys[1]}give\n")
 
 
-def late_cancel(folder) -> None:
+def late_cancel(folder: pathlib.Path) -> None:
     """A task that is cancelled while it gives back: it ends when that is done, and is cancelled then."""
 
-    async def work(server) -> None:
+    async def work(server: Kept) -> None:
         async with aio.connect(server.port, "lot") as lot:
 
             async def hold() -> None:
@@ -790,7 +795,7 @@ def late_cancel(folder) -> None:
         asyncio.run(work(server))
 
 
-def ends_in_doubt(kind):
+def ends_in_doubt(kind: str) -> Attempt:
     """The second call is asked again under its key, and called anew where it was not done."""
 
     def attempt(_: object) -> None:
@@ -808,7 +813,7 @@ def ends_in_doubt(kind):
     return attempt
 
 
-def ends_later(kind):
+def ends_later(kind: str) -> Attempt:
     """A second call that is in doubt, of a server that is gone for longer than one is tried for, is asked for under its key; and where
     its end was that it was cancelled, as a new one."""
 
@@ -833,14 +838,14 @@ def again_after_lost(_: object) -> None:
     check((cell.key, cell.call("put", 1, key=5), cell.get()), (5, None, 1))
 
 
-def holds_in_tasks(folder) -> None:
+def holds_in_tasks(folder: pathlib.Path) -> None:
     """A task that is cancelled within its block, before it, or behind it gives back what it holds."""
 
-    async def work(server) -> None:
+    async def work(server: Kept) -> None:
         for name in NAMES:
             async with aio.connect(server.port, "lot", client=name) as lot, aio.connect(server.port, "lot") as other:
 
-                async def hold(ends=None) -> None:
+                async def hold(ends: asyncio.Event | None = None) -> None:
                     async with lot.holding("enter", "leave"):
                         check(await other.held(), 1)
                         if ends is not None:
@@ -877,7 +882,7 @@ def holds_in_tasks(folder) -> None:
                     await asyncio.sleep(0.2)
                 check(server.counts()[0], 0)
 
-    async def held_in_task(lot) -> None:
+    async def held_in_task(lot: aio.Object) -> None:
         async with lot.holding("enter", "leave"):
             pass
 
@@ -885,10 +890,10 @@ def holds_in_tasks(folder) -> None:
         asyncio.run(work(server))
 
 
-def pool(folder) -> None:
+def pool(folder: pathlib.Path) -> None:
     """Calls of threads overlap over a pool; what waits for a session in vain is cancelled; a closed pool ends calls."""
     with server_of(OBJECTS / "bounded_buffer.pp", 8, folder) as server, Pool(server.port, "bounded_buffer", 3) as buffers:
-        got = []
+        got: list[Any] = []
         threads = [threading.Thread(target=lambda: got.append(buffers.get())) for _ in range(2)]
         for it in threads:
             it.start()
@@ -918,10 +923,10 @@ def pool(folder) -> None:
         raised(Lost, "closed", buffers.waiting)
 
 
-def tasks(folder) -> None:
+def tasks(folder: pathlib.Path) -> None:
     """Calls of tasks: in order, beside each other over two objects, and cancelled with their tasks."""
 
-    async def work(port) -> None:
+    async def work(port: int) -> None:
         async with aio.connect(port, "bounded_buffer") as first, aio.connect(port, "bounded_buffer", client="ann") as second:
             got = asyncio.create_task(first.get())
             await asyncio.sleep(0.2)
@@ -953,17 +958,17 @@ def tasks(folder) -> None:
         asyncio.run(work(server.port))
 
 
-def placed(code):
+def placed(code: str) -> str:
     """The code of a user, to whom the library is installed, with the library as this tool has it."""
     return code.replace("from pathclient", "from clients.python.pathclient")
 
 
-def written_stubs(folder) -> None:
+def written_stubs(folder: pathlib.Path) -> None:
     """The classes that are written for each example can be called."""
     for source in OBJECTS.glob("*.pp"):
         for is_aio in (False, True):
             compile(stubs.stubs(source.read_text(encoding="ascii"), is_aio, source.name), source.name, "exec")
-    made = {}
+    made: dict[str, Any] = {}
     exec(placed(stubs.stubs((OBJECTS / "phone_book.pp").read_text(encoding="ascii"), False, "phone_book.pp")), made)
     with server_of(OBJECTS / "phone_book.pp", 1, folder) as server, made["PhoneBook"](server.port, client="ann") as book:
         check(book.enter("ada", "5", within=9), None)
@@ -991,7 +996,7 @@ def written_stubs(folder) -> None:
         check((rules, re.findall(r"def holding_(\w+)", stubs.stubs(text, False, "o"))), (rules, wanted))
 
 
-def judged(folder) -> None:
+def judged(folder: pathlib.Path) -> None:
     """What mypy says of the library, of what stubs writes, and of a program that calls by it."""
     for is_aio in (False, True):
         names = ("job_queue", "leader", "ledger", "phone_book", "print_spooler")
@@ -1008,13 +1013,13 @@ with PhoneBook(7000) as book:
         number: int = book.size()
 """)
     library = TOP / "clients" / "python"
-    words = ["mypy", "--strict", "--no-error-summary", "--cache-dir", folder / "cache", library / "pathclient", *folder.glob("*.py")]
+    words: list[str | pathlib.Path] = ["mypy", "--strict", "--no-error-summary", "--cache-dir", folder / "cache", library / "pathclient", *folder.glob("*.py")]
     env = {**os.environ, "MYPYPATH": f"{library}:{folder}"}
     ran = subprocess.run(words, capture_output=True, text=True, timeout=30 * SECONDS, check=False, cwd=folder, env=env)
     check((ran.returncode, ran.stdout), (0, ""))
 
 
-def client_of(folder, name):
+def client_of(folder: pathlib.Path, name: str) -> list[str | pathlib.Path]:
     """The words that run a client."""
     source = TOP / "examples" / "clients" / name
     if source.suffix == ".py":
@@ -1023,10 +1028,10 @@ def client_of(folder, name):
     return [folder / "client"]
 
 
-def gone(name, answers, output, error):
+def gone(name: str, answers: Rows, output: str, error: str) -> Attempt:
     """A client whose server is gone: what was answered is told, and what was not is told apart."""
 
-    def attempt(folder) -> None:
+    def attempt(folder: pathlib.Path) -> None:
         listener = answering(answers)
         words = [*client_of(folder, name), str(listener.port), "cell", "put 7", "get"]
         ran = subprocess.run(words, capture_output=True, text=True, timeout=SECONDS, check=False)
@@ -1035,10 +1040,10 @@ def gone(name, answers, output, error):
     return attempt
 
 
-def resuming(answers, status, output, error="", calls=("put 7", "get")):
+def resuming(answers: Sequence[Rows], status: int, output: str, error: str = "", calls: Sequence[str] = ("put 7", "get")) -> Attempt:
     """What the client that resumes prints, where these are the answers on the connections that it makes."""
 
-    def attempt(folder) -> None:
+    def attempt(folder: pathlib.Path) -> None:
         listener = answering(*answers)
         words = [*client_of(folder, "resuming.py"), str(listener.port), "cell", "ann", *calls]
         ran = subprocess.run(words, capture_output=True, text=True, timeout=SECONDS, check=False)
@@ -1047,7 +1052,7 @@ def resuming(answers, status, output, error="", calls=("put 7", "get")):
     return attempt
 
 
-def cut_resuming(folder) -> None:
+def cut_resuming(folder: pathlib.Path) -> None:
     """The client that resumes, over a connection that breaks at each byte of its calls and of their answers."""
     (folder / "meter.pp").write_text(METER)
     with server_of(folder / "meter.pp", 64, folder) as server:
@@ -1069,8 +1074,8 @@ def cut_resuming(folder) -> None:
             check(meter.add(0), total)
 
 
-def none_there(name):
-    def attempt(folder) -> None:
+def none_there(name: str) -> Attempt:
+    def attempt(folder: pathlib.Path) -> None:
         words = [*client_of(folder, name), str(free_port()), "cell", "get"]
         ran = subprocess.run(words, capture_output=True, text=True, timeout=SECONDS, check=False)
         check((ran.returncode, ran.stdout, ran.stderr.startswith("client: there is no server: ")), (3, "", True))
@@ -1078,7 +1083,7 @@ def none_there(name):
     return attempt
 
 
-def guide(folder) -> None:
+def guide(folder: pathlib.Path) -> None:
     """The last step of the guide: its object, its server, its calls."""
     text = (TOP / "docs" / "LANGUAGE.md").read_text(encoding="utf-8")
     blocks = re.findall(r"^```(\w*)\n(.*?)^```$", text, re.S | re.M)
@@ -1096,7 +1101,7 @@ def guide(folder) -> None:
 
 GONE = "client: the server is gone\n"
 UNKNOWN = "client: it is not known whether this was done: "
-TRIES = [
+TRIES: list[tuple[str, Any]] = [
     ("texts, and a procedure that replies nothing", calls),
     ("integers", integers),
     ("calls that are not taken", not_taken),
@@ -1232,7 +1237,7 @@ TRIES += [
 ]
 
 
-def trials():
+def trials() -> list[Trial]:
     return [Trial(title, in_folder("pathclient", attempt)) for title, attempt in TRIES]
 
 

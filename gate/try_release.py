@@ -26,10 +26,12 @@ import subprocess
 import sys
 import tarfile
 import tempfile
+from collections.abc import Sequence
+from typing import Any
 
 from clients.python.pathclient import Object
 from gate import kept
-from gate.tried import TOP, Wrong, check, given_words, holds, lacks, program, until, whole
+from gate.tried import TOP, Wrong, check, given_words, holds, lacks, program, there, until, whole
 
 SECONDS = 60
 # What a root has before a package is installed: what `dpkg`, the package's scripts and `pathserve` itself call, and `sh`.
@@ -41,8 +43,11 @@ DPKG = ("var/lib/dpkg/info", "var/lib/dpkg/updates", "var/lib/dpkg/triggers")
 PATH = {"PATH": "/usr/sbin:/usr/bin"}
 NOT_PROVED = "proved: not proved"
 
+# The files of a release: its archive, its package where there is one, and the file of an image.
+Files = list[pathlib.Path | None]
 
-def said(*words, status=0, **more):
+
+def said(*words: object, status: int = 0, **more: Any) -> str:
     """What a command says that has to end so."""
     more = {"cwd": "/", "stdin": subprocess.DEVNULL, **more}
     ran = subprocess.run([str(it) for it in words], stdout=subprocess.PIPE, stderr=subprocess.STDOUT, text=True, timeout=SECONDS, **more)
@@ -51,7 +56,7 @@ def said(*words, status=0, **more):
     return ran.stdout
 
 
-def made(folder):
+def made(folder: pathlib.Path) -> Files:
     """A release of the program, in this folder: its archive, its package, and the file of an image."""
     said(TOP / "tools" / "release", "--unproved", "--program", program(), folder)
     files = [next(folder.glob(it), None) for it in ("*.tar.gz", "*.deb", "Dockerfile")]
@@ -60,7 +65,7 @@ def made(folder):
     return files
 
 
-def children(process):
+def children(process: int) -> list[int]:
     text = pathlib.Path(f"/proc/{process}/task/{process}/children").read_text()
     return [int(it) for it in text.split()]
 
@@ -68,7 +73,7 @@ def children(process):
 class Root:
     """A root folder in which commands are run, with `proc` and as little else as they need."""
 
-    def __init__(self, folder) -> None:
+    def __init__(self, folder: pathlib.Path) -> None:
         self.top = folder
         for it in ("bin", "sbin", "lib", "lib64"):
             (self.top / "usr" / it).mkdir(parents=True)
@@ -80,10 +85,10 @@ class Root:
         for it, text in (("passwd", "root:x:0:0::/:/bin/sh\nnobody:x:65534:65534::/:/bin/sh\n"), ("group", "root:x:0:\nnogroup:x:65534:\n")):
             (self.top / "etc" / it).write_text(text)
         for it in PROGRAMS:
-            self.give(pathlib.Path(shutil.which(it)))
+            self.give(pathlib.Path(there(shutil.which(it), it)))
         self.give(program(), as_libraries_alone=True)
 
-    def give(self, file, as_libraries_alone=False) -> None:
+    def give(self, file: pathlib.Path, as_libraries_alone: bool = False) -> None:
         """Copies a program, and the files that `ldd` names."""
         if not as_libraries_alone:
             shutil.copy2(file.resolve(), self.top / "usr" / ("sbin" if "sbin" in str(file) else "bin") / file.name)
@@ -94,7 +99,7 @@ class Root:
                 place.parent.mkdir(parents=True, exist_ok=True)
                 shutil.copy2(pathlib.Path(name).resolve(), place)
 
-    def words(self, *words, user=None, is_first=False):
+    def words(self, *words: object, user: str | None = None, is_first: bool = False) -> list[str]:
         """The command that runs these words in the root, as this user, or as the first process of a new table of processes."""
         mounts = f"mount --bind /dev/null {self.top}/dev/null && mount "
         mounts += f"-t proc proc {self.top}/proc" if is_first else f"--rbind /proc {self.top}/proc"
@@ -102,51 +107,51 @@ class Root:
         more = ["--pid", "--fork", "--kill-child"] if is_first else []
         return ["unshare", "--mount", *more, "sh", "-c", f'{mounts} && exec "$@"', "sh", "chroot", *spec, str(self.top), *map(str, words)]
 
-    def ids(self, user):
+    def ids(self, user: str) -> list[str]:
         """The numbers of a user and of its group, as the root's own files have them."""
         rows = dict(it.split(":", 1) for it in (self.top / "etc" / "passwd").read_text().splitlines())
         holds(user in rows, f"there is no user {user}")
         return rows[user].split(":")[1:3]
 
-    def run(self, *words, user=None, **more):
+    def run(self, *words: object, user: str | None = None, **more: Any) -> str:
         return said(*self.words(*words, user=user), env=PATH, **more)
 
-    def at(self, path):
+    def at(self, path: str) -> pathlib.Path:
         return self.top / path.lstrip("/")
 
 
 class Started:
     """A server that was started in a root: the process that holds its input, and its own."""
 
-    def __init__(self, root, words, place, user, is_first=False, files=None) -> None:
+    def __init__(self, root: Root, words: Sequence[str], place: str, user: str | None, is_first: bool = False, files: int | None = None) -> None:
         limit = (lambda: resource.setrlimit(resource.RLIMIT_NOFILE, (files, files))) if files else None
         pipe = subprocess.PIPE
         self.ran = subprocess.Popen(
             root.words(*words, user=user, is_first=is_first), cwd="/", env=PATH, stdin=subprocess.DEVNULL, stdout=pipe,
             stderr=subprocess.STDOUT, text=True, start_new_session=True, preexec_fn=limit,
         )
-        self.heard = [self.ran.stdout.readline() for _ in range(2)]
+        self.heard = [there(self.ran.stdout).readline() for _ in range(2)]
         check(self.heard, ["pathserve: not proved\n", f"listening {place}\n"], "what the server says first")
         self.holder = children(self.ran.pid)[0] if is_first else self.ran.pid
         until(lambda: children(self.holder), "the server runs")
         self.server, self.place, self.root = children(self.holder)[0], place, root
 
-    def __enter__(self):
+    def __enter__(self) -> "Started":
         return self
 
-    def __exit__(self, *_) -> None:
+    def __exit__(self, *_: object) -> None:
         with contextlib.suppress(ProcessLookupError):
             os.killpg(self.ran.pid, signal.SIGKILL)
         self.ran.communicate()
 
-    def is_of(self, user) -> None:
+    def is_of(self, user: str) -> None:
         owner = pathlib.Path(f"/proc/{self.server}").stat().st_uid
         check(owner, int(self.root.ids(user)[0]), "the user of the server")
 
-    def client(self):
+    def client(self) -> Object:
         return Object(f"/proc/{self.server}/root{self.place}", "bounded_buffer", client="ann")
 
-    def end(self, number, *processes):
+    def end(self, number: int, *processes: int) -> tuple[str, int]:
         """Sends this signal: what it says behind, and its status."""
         for it in processes:
             os.kill(it, number)
@@ -154,17 +159,17 @@ class Started:
         return said, self.ran.returncode
 
 
-class Keys(dict):
+class Keys(dict[str, str]):
     """The keys of a unit and what they say."""
 
-    def __missing__(self, key) -> None:
+    def __missing__(self, key: str) -> None:
         raise Wrong(f"the unit says nothing of {key}")
 
 
 class Unit:
     """The unit of systemd for this name, and what systemd would do of it."""
 
-    def __init__(self, root, name) -> None:
+    def __init__(self, root: Root, name: str) -> None:
         self.root, self.name = root, name
         text = root.at("/usr/lib/systemd/system/pathserve@.service").read_text().replace("%i", name)
         rows = [it.split("=", 1) for it in text.splitlines() if "=" in it and not it.startswith("#")]
@@ -173,7 +178,7 @@ class Unit:
             holds(key not in self.keys, f"{key} stands twice in the unit")
             self.keys[key] = value
 
-    def start(self):
+    def start(self) -> Started:
         keys, user = self.keys, self.keys["User"]
         numbers = [int(it) for it in self.root.ids(user)]
         for base, kind in (("/var/lib", "State"), ("/run", "Runtime")):
@@ -203,7 +208,7 @@ class Unit:
         told = subprocess.run(words, cwd=top, capture_output=True, text=True, timeout=SECONDS).stderr
         check([it for it in told.splitlines() if "pathserve" in it], [], "what systemd says of the unit")
 
-    def starts_again(self, status):
+    def starts_again(self, status: int) -> bool:
         """Whether systemd starts it again after this status."""
         return self.keys["Restart"] == "always" and str(status) not in self.keys["RestartPreventExitStatus"].split()
 
@@ -216,25 +221,26 @@ def is_missing() -> bool:
     return any([lacks(it) for it in ("unshare", "chroot", "mount", "ldd", *PROGRAMS)])
 
 
-def archive(folder, release) -> None:
+def archive(folder: pathlib.Path, release: Files) -> None:
     """It is what its sums say, runs where no kit is, and is the same when it is made again."""
     first, again = release, made(folder / "again")
     for it, other in zip(first, again):
-        check(it and hashlib.sha256(it.read_bytes()).hexdigest(), other and hashlib.sha256(other.read_bytes()).hexdigest(), it and it.name)
-    with tarfile.open(first[0]) as tar:
+        check(it and hashlib.sha256(it.read_bytes()).hexdigest(), other and hashlib.sha256(other.read_bytes()).hexdigest(), it.name if it else "")
+    archived = there(first[0])
+    with tarfile.open(archived) as tar:
         holds(all(it.uid == it.gid == 0 and it.isfile() and ".." not in it.name for it in tar), "a file of the archive has another owner")
         tar.extractall(folder / "there")
     top = next((folder / "there").iterdir())
-    check(f"{top.name}.tar.gz", first[0].name, "the folder of the archive")
+    check(f"{top.name}.tar.gz", archived.name, "the folder of the archive")
     said("sha256sum", "--quiet", "-c", "SHA256SUMS", cwd=top)
     sums = [it.split("  ")[1] for it in (top / "SHA256SUMS").read_text().splitlines()]
     found = sorted(str(it.relative_to(top)) for it in top.rglob("*") if it.is_file() and it.name != "SHA256SUMS")
     check(sorted(sums), found, "the files of SHA256SUMS")
-    release = (top / "RELEASE").read_text().splitlines()
-    holds(NOT_PROVED in release, f"RELEASE says {release}")
-    holds(f"program: {hashlib.sha256(program().read_bytes()).hexdigest()}" in release, "RELEASE has another program")
+    told = (top / "RELEASE").read_text().splitlines()
+    holds(NOT_PROVED in told, f"RELEASE says {told}")
+    holds(f"program: {hashlib.sha256(program().read_bytes()).hexdigest()}" in told, "RELEASE has another program")
     commit = said("git", "log", "-1", "--format=%H", cwd=TOP).strip()
-    holds(any(it.startswith(f"commit: {commit}") for it in release), "RELEASE has another commit")
+    holds(any(it.startswith(f"commit: {commit}") for it in told), "RELEASE has another commit")
     bare = {"PATH": "/usr/bin:/bin"}
     words = ("run", "examples/objects/bounded_buffer.pp", "examples/scripts/bounded_buffer.script")
     wanted = subprocess.run([program(), *words], cwd=TOP, capture_output=True, text=True, timeout=SECONDS)
@@ -246,15 +252,15 @@ def archive(folder, release) -> None:
     shutil.copy(TOP / "examples/traces/ledger.trace", folder / "it.trace")
     said(top / "tools/timeline", folder / "it.trace")
     holds((folder / "it.svg").exists(), "tools/timeline draws nothing")
-    for it in ("LICENSE", "LICENSES", "docs/pathserve.1", "docs/GUIDE.md", "clients/python/pyproject.toml"):
-        holds((top / it).is_file(), f"there is no {it}")
+    for name in ("LICENSE", "LICENSES", "docs/pathserve.1", "docs/GUIDE.md", "clients/python/pyproject.toml"):
+        holds((top / name).is_file(), f"there is no {name}")
 
 
-def is_status(root, name) -> bool:
+def is_status(root: Root, name: str) -> str:
     return said("dpkg-query", f"--admindir={root.top}/var/lib/dpkg", "-W", "-f", "${Status}", name)
 
 
-def installed(folder, package):
+def installed(folder: pathlib.Path, package: pathlib.Path) -> tuple[Root, list[str]]:
     """A clean root in which the package is installed, and the paths of its files."""
     root = Root(folder / "root")
     # The package may stand on these, as this machine has them.
@@ -268,9 +274,9 @@ def installed(folder, package):
     return root, [it.removeprefix(".") for it in rows if not it.endswith("/")]
 
 
-def package(folder, release) -> None:
+def package(folder: pathlib.Path, release: Files) -> None:
     """It is installed, serves, is killed, serves again, and is removed; what it kept stays."""
-    root, files = installed(folder, release[1])
+    root, files = installed(folder, there(release[1]))
     check([it for it in files if not root.at(it).exists() and not root.at(it).is_symlink()], [], "files that are not there")
     holds(NOT_PROVED in root.at("/usr/share/doc/pathserve/RELEASE").read_text(), "RELEASE does not say that it is not proved")
     version = root.run("pathserve", "--version", user="nobody").splitlines()[-1]
@@ -307,17 +313,18 @@ def package(folder, release) -> None:
     for word in ("-r", "-P"):
         root.run("dpkg", "--force-unsafe-io", word, "pathserve")
         check([it for it in files if root.at(it).exists() or root.at(it).is_symlink()], [], f"files that are there behind dpkg {word}")
-        for it in ("/var/lib/pathserve/buffer/bounded_buffer.journal", "/etc/pathserve/buffer.pp"):
-            holds(root.at(it).exists(), f"{it} is gone behind dpkg {word}")
+        for kept_file in ("/var/lib/pathserve/buffer/bounded_buffer.journal", "/etc/pathserve/buffer.pp"):
+            holds(root.at(kept_file).exists(), f"{kept_file} is gone behind dpkg {word}")
         holds(not root.at("/usr/lib/pathserve").exists() and not root.at("/usr/share/doc/pathserve").exists(), "a folder is left")
 
 
-def image(folder, release) -> None:
+def image(folder: pathlib.Path, release: Files) -> None:
     """What the Dockerfile says, done in a clean root, of the archive alone."""
     root = Root(folder / "root")
-    archive, _, file = release
+    archive, file = there(release[0]), there(release[2])
     rows = re.sub(r"\\\n", " ", file.read_text()).splitlines()
-    done, user = {}, None
+    done: dict[str, Any] = {}
+    user: str | None = None
     for word, rest in (it.split(" ", 1) for it in rows if it and not it.startswith("#")):
         if word == "FROM":
             holds(not done and rest.startswith("debian:"), f"the image is made of {rest}")

@@ -9,6 +9,7 @@ The last line is `try_socket: N passed, M failed`; the exit status is 0 where M 
 """
 import contextlib
 import os
+import pathlib
 import pwd
 import socket
 import stat
@@ -23,32 +24,32 @@ CELL = TOP / "examples" / "objects" / "cell.pp"
 SECONDS = 20
 
 
-def server(top, path="it.sock", sessions=4, folder="data"):
+def server(top: pathlib.Path, path: str = "it.sock", sessions: int = 4, folder: str = "data") -> Server:
     """A server of a cell at a path, for so many connections, over a folder of its own."""
     (top / folder).mkdir(exist_ok=True)
     return Server("serve", CELL, top / folder, "--sessions", sessions, "--stop-with-input", place=top / path)
 
 
-def mode(top):
+def mode(top: pathlib.Path) -> str:
     return oct(stat.S_IMODE((top / "it.sock").stat().st_mode))
 
 
-def ends(it, said=None) -> None:
+def ends(it: Server, said: str | None = None) -> None:
     """It ends with status 0, and says this alone, where it is known."""
     found = it.ended(SECONDS)
     check(found, (found.said, 0, found.error) if said is None else (said, 0, ""), "the end")
 
 
-def is_refused(it, why) -> None:
+def is_refused(it: Server, why: str) -> None:
     """It does not start, since nobody can listen there."""
     check(it.refused(SECONDS), ("", 3, f"{it.place}: nobody can listen at this path{why}\nread fault\n"), "a start")
 
 
-def names(top):
+def names(top: pathlib.Path) -> list[str]:
     return sorted(it.name for it in top.iterdir() if it.name not in ("data", "other"))
 
 
-def serves(top) -> None:
+def serves(top: pathlib.Path) -> None:
     """It is there for its owner and its group alone, serves as a port does, and is gone at the end."""
     with server(top) as it:
         check(mode(top), "0o660", "the mode")
@@ -59,7 +60,7 @@ def serves(top) -> None:
         check(names(top), ["it.sock.lock"], "what is there")
 
 
-def last_connection(top) -> None:
+def last_connection(top: pathlib.Path) -> None:
     """It ends when so many connections have ended, and who comes behind them is let go at once."""
     with server(top, sessions=2) as it, contextlib.ExitStack() as stack:
         ones = [stack.enter_context(socket.socket(socket.AF_UNIX)) for _ in range(5)]
@@ -78,7 +79,7 @@ def last_connection(top) -> None:
         ends(it, "cell entries 0\n")
 
 
-def stops(top) -> None:
+def stops(top: pathlib.Path) -> None:
     """A stop lets a client go that is there, and one that has connected and was not taken."""
     with server(top, sessions=1) as it, socket.socket(socket.AF_UNIX) as one, socket.socket(socket.AF_UNIX) as late:
         one.settimeout(SECONDS)
@@ -93,7 +94,7 @@ def stops(top) -> None:
         check(one.recv(100), b"", "what was heard")
 
 
-def stale(top) -> None:
+def stale(top: pathlib.Path) -> None:
     """What a killed server left is replaced."""
     with server(top) as it:
         it.kill()
@@ -103,7 +104,7 @@ def stale(top) -> None:
         ends(it)
 
 
-def two(top) -> None:
+def two(top: pathlib.Path) -> None:
     """A path that is served is not taken from its server."""
     with server(top) as it:
         is_refused(server(top, folder="other"), ": it is taken")
@@ -111,7 +112,7 @@ def two(top) -> None:
         ends(it)
 
 
-def something_else(top) -> None:
+def something_else(top: pathlib.Path) -> None:
     """What is there and is no socket stays, and so does the folder."""
     (top / "it.sock").write_text("mine")
     is_refused(server(top), ": it is no socket")
@@ -121,7 +122,7 @@ def something_else(top) -> None:
     check(names(top), ["it.sock", "it.sock.lock", "x" * 120 + ".lock"], "what is there")
 
 
-def replaced(top) -> None:
+def replaced(top: pathlib.Path) -> None:
     """A socket that somebody put in place of the one that was made is not removed."""
     with server(top) as it, socket.socket(socket.AF_UNIX) as other:
         (top / "it.sock").unlink()
@@ -130,7 +131,7 @@ def replaced(top) -> None:
         check(names(top), ["it.sock", "it.sock.lock"], "what is there")
 
 
-def another_user(top) -> None:
+def another_user(top: pathlib.Path) -> None:
     """Nobody else may connect, but the group of the socket."""
     if os.getuid() != 0:
         print("not run: root")
@@ -139,7 +140,7 @@ def another_user(top) -> None:
     nobody = pwd.getpwnam("nobody")
     code = "import socket,sys\ntry:\n socket.socket(socket.AF_UNIX).connect(sys.argv[1]); print('connected')\nexcept OSError as it: print(it.strerror)"
 
-    def tried():
+    def tried() -> str:
         words = ["/usr/bin/env", "python3", "-c", code, it.place]
         ran = subprocess.run(words, user=nobody.pw_uid, group=nobody.pw_gid, extra_groups=[], capture_output=True, text=True,
                              env={"PATH": "/usr/bin:/bin"}, check=False, timeout=SECONDS)
@@ -152,7 +153,7 @@ def another_user(top) -> None:
         ends(it)
 
 
-def clients(top) -> None:
+def clients(top: pathlib.Path) -> None:
     """Each client of examples/clients takes a path."""
     built = top / "client"
     source = TOP / "examples" / "clients"
@@ -160,7 +161,8 @@ def clients(top) -> None:
     with server(top) as it:
         with Object(it.place, "cell") as cell:
             cell.put(3)
-        for words in ([built], [sys.executable, source / "client.py"]):
+        commands: list[list[str | pathlib.Path]] = [[built], [sys.executable, source / "client.py"]]
+        for words in commands:
             ran = subprocess.run([*words, it.place, "cell", "bump 1", "get"], capture_output=True, text=True, check=False, timeout=SECONDS)
             check((ran.returncode, ran.stderr), (0, ""), "what the client ended with")
         ran = subprocess.run([sys.executable, source / "resuming.py", it.place, "cell", "ann", "get"], capture_output=True, text=True,
@@ -174,7 +176,7 @@ def clients(top) -> None:
     raise Wrong("there is a server")
 
 
-def keeper(top) -> None:
+def keeper(top: pathlib.Path) -> None:
     """`pathserve keep` listens at a path too, and removes it."""
     folder, path = top / "data", top / "it.sock"
     folder.mkdir()
@@ -192,7 +194,7 @@ def keeper(top) -> None:
 TRIES = [serves, last_connection, stops, stale, two, something_else, replaced, another_user, clients, keeper]
 
 
-def trials():
+def trials() -> list[Trial]:
     return [Trial(f"{it.__name__}: {it.__doc__}", in_folder("socket", it)) for it in TRIES]
 
 

@@ -16,6 +16,7 @@ failed`; the exit status is 0 where M is 0 and N is not.
 import contextlib
 import ctypes
 import os
+import pathlib
 import re
 import shutil
 import socket
@@ -23,11 +24,13 @@ import subprocess
 import sys
 import threading
 import time
+from collections.abc import Callable
+from typing import Any, TypeVar
 
 from clients.python.pathclient import CallError, Expired, Lost, NoServer, Object, Rejected
 from gate import kept
 from gate.served import Server, free_port
-from gate.tried import TOP, Wrong, check, given_words, holds, lacks, program, until, whole
+from gate.tried import TOP, Wrong, check, given_words, holds, lacks, program, there, until, whole
 
 SECONDS, CLIENTS = 60, 4
 # The address that the clients know, and the ports of routers and of servers.
@@ -41,30 +44,32 @@ end;
 """
 NEW_NETWORK = 0x40000000  # CLONE_NEWNET
 
+T = TypeVar("T")
+
 
 class Network:
     """A network of its own, which stays while its process does."""
 
-    def __init__(self):
+    def __init__(self) -> None:
         self.keeper = subprocess.Popen(["unshare", "--net", "cat"], stdin=subprocess.PIPE, stdout=subprocess.DEVNULL)
         self.file = f"/proc/{self.keeper.pid}/ns/net"
         until(lambda: os.readlink(self.file) != os.readlink("/proc/self/ns/net"), "a network of its own", 10)
         self.ip("link", "set", "lo", "up")
 
-    def words(self, *words):
+    def words(self, *words: object) -> list[str]:
         return ["nsenter", f"--net={self.file}", *map(str, words)]
 
-    def ip(self, *words):
+    def ip(self, *words: object) -> None:
         ran = subprocess.run(self.words("ip", *words), capture_output=True, text=True, timeout=SECONDS)
         holds(ran.returncode == 0, f"ip {' '.join(map(str, words))}: {ran.stderr.strip()}")
 
-    def enter(self):
+    def enter(self) -> None:
         """The thread that calls this is in this network from now on."""
         with open(self.file) as it:
             if ctypes.CDLL(None, use_errno=True).setns(it.fileno(), NEW_NETWORK):
                 raise OSError(ctypes.get_errno(), "setns")
 
-    def end(self):
+    def end(self) -> None:
         self.keeper.kill()
         self.keeper.communicate()
 
@@ -72,9 +77,10 @@ class Network:
 class Host(Network):
     """A host with a server over a folder, and a router before it."""
 
-    def __init__(self, switch, name, number):
+    def __init__(self, switch: Network, name: str, number: int) -> None:
         super().__init__()
-        self.switch, self.name, self.server = switch, name, None
+        self.switch, self.name = switch, name
+        self.server: Server | None = None
         switch.ip("link", "add", "name", name, "type", "veth", "peer", "name", "eth0", "netns", self.keeper.pid)
         switch.ip("link", "set", name, "master", "switch", "up")
         self.ip("address", "add", f"10.77.0.{number}/24", "dev", "eth0")
@@ -83,7 +89,7 @@ class Host(Network):
         threading.Thread(target=self.route, args=(ready,), daemon=True).start()
         ready.wait(SECONDS)
 
-    def route(self, ready):
+    def route(self, ready: threading.Event) -> None:
         """Hands on what comes to the address of this host."""
         self.enter()
         taker = socket.create_server(("0.0.0.0", PORT))
@@ -99,7 +105,7 @@ class Host(Network):
                 one.setsockopt(socket.IPPROTO_TCP, socket.TCP_NODELAY, 1)
                 threading.Thread(target=hand_on, args=(one, other), daemon=True).start()
 
-    def start(self, source, folder):
+    def start(self, source: pathlib.Path, folder: pathlib.Path) -> None:
         """Starts a server here, and takes the address."""
         self.server = Server("keep", source, folder, "--stop-with-input", place=OWN, by=self.words(program()))
         self.server.start()
@@ -107,18 +113,19 @@ class Host(Network):
         # (what a host says to all when it takes an address)
         self.switch.ip("neighbour", "flush", "all")
 
-    def is_gone(self):
-        self.server.child.kill()
+    def is_gone(self) -> None:
+        server = there(self.server)
+        server.child.kill()
         self.switch.ip("link", "set", self.name, "down")
-        self.server.kill()
+        server.kill()
 
-    def end(self):
+    def end(self) -> None:
         if self.server:
             self.server.kill()
         super().end()
 
 
-def hand_on(one, other):
+def hand_on(one: socket.socket, other: socket.socket) -> None:
     with contextlib.suppress(OSError):
         while piece := one.recv(1 << 16):
             other.sendall(piece)
@@ -130,7 +137,7 @@ def hand_on(one, other):
 class Hosts:
     """Two hosts, and the network of the clients between them."""
 
-    def __enter__(self):
+    def __enter__(self) -> "Hosts":
         self.stack = contextlib.ExitStack()
         self.switch = Network()
         self.stack.callback(self.switch.end)
@@ -142,7 +149,7 @@ class Hosts:
             self.stack.callback(it.end)
         return self
 
-    def __exit__(self, *_):
+    def __exit__(self, *_: object) -> None:
         self.stack.close()
 
 
@@ -150,13 +157,15 @@ class Client(threading.Thread):
     """Adds one after the other by a name, as a program has to that wants each to be done once: what is lost is asked again under its
     key, until it is known, or the session is not as it was left."""
 
-    def __init__(self, network, name):
+    def __init__(self, network: Network, name: str) -> None:
         super().__init__(daemon=True)
         self.network, self.name = network, name
-        self.replies, self.gap, self.wrong, self.last, self.stops = [], 0.0, None, None, threading.Event()
+        self.gap, self.stops = 0.0, threading.Event()
+        self.replies: list[Any] = []
+        self.wrong: CallError | OSError | None = None
         self.start()
 
-    def run(self):
+    def run(self) -> None:
         try:
             self.network.enter()
             it = self.opened()
@@ -168,7 +177,7 @@ class Client(threading.Thread):
         except (CallError, OSError) as error:
             self.wrong = error
 
-    def opened(self):
+    def opened(self) -> Object:
         end = time.monotonic() + SECONDS
         while True:
             try:
@@ -178,7 +187,7 @@ class Client(threading.Thread):
                 if time.monotonic() > end:
                     raise
 
-    def added(self, it, key):
+    def added(self, it: Object, key: Any) -> Any:
         while True:
             try:
                 return it.call("add", within=0.3, key=key)
@@ -188,11 +197,11 @@ class Client(threading.Thread):
                 pass
 
 
-def in_network(network, work):
+def in_network(network: Network, work: Callable[[], T]) -> T:
     """What this comes to in that network."""
-    found = []
+    found: list[T] = []
 
-    def run():
+    def run() -> None:
         network.enter()
         found.append(work())
 
@@ -203,24 +212,24 @@ def in_network(network, work):
     return found[0]
 
 
-def total(network):
+def total(network: Network) -> Any:
     with contextlib.closing(Object(PORT, "meter", ADDRESS, 10)) as it:
         return it.total()
 
 
-def prepared(folder):
+def prepared(folder: pathlib.Path) -> tuple[pathlib.Path, pathlib.Path, pathlib.Path]:
     (folder / "meter.pp").write_text(METER)
     for it in ("one", "two"):
         (folder / it).mkdir()
     return folder / "meter.pp", folder / "one", folder / "two"
 
 
-def is_whole(source, folder):
+def is_whole(source: pathlib.Path, folder: pathlib.Path) -> None:
     ran = subprocess.run([program(), "audit", source, folder], capture_output=True, text=True, timeout=SECONDS)
     holds(ran.returncode == 0 and ran.stdout.endswith(" whole\n"), f"audit says {ran.stdout!r}")
 
 
-def a_shared_folder(folder):
+def a_shared_folder(folder: pathlib.Path) -> None:
     """Nothing that was answered is lost, and nothing is done twice."""
     source, data, _ = prepared(folder)
     with Hosts() as hosts:
@@ -249,7 +258,7 @@ def a_shared_folder(folder):
         print(f"  behind the end of the first one, and the clients had no answer for {max(it.gap for it in clients):.1f} s")
 
 
-def a_copied_folder(folder):
+def a_copied_folder(folder: pathlib.Path) -> None:
     """What was answered before the last copy began is there; what came behind it is lost, and its clients are told so."""
     source, data, copy = prepared(folder)
     with Hosts() as hosts:
@@ -276,7 +285,7 @@ def a_copied_folder(folder):
         print(f"  (since the last copy began {answered - known} were answered)")
 
 
-def copied(data, copy):
+def copied(data: pathlib.Path, copy: pathlib.Path) -> bool:
     """Copies a folder as it is, while its server runs."""
     if shutil.which("rsync"):
         return subprocess.run(["rsync", "-a", "--delete", f"{data}/", f"{copy}/"], timeout=SECONDS).returncode in (0, 24)
@@ -289,7 +298,7 @@ def copied(data, copy):
     return True
 
 
-def two_servers(folder):
+def two_servers(folder: pathlib.Path) -> None:
     """On one machine a folder has one server; the second one starts when the first one is gone."""
     source, data, _ = prepared(folder)
     with Hosts() as hosts:
@@ -303,7 +312,7 @@ def two_servers(folder):
         hosts.two.start(source, data)
 
 
-def a_manifest(folder):
+def a_manifest(folder: pathlib.Path) -> None:
     """The file for Kubernetes: its objects are accepted, and the folders of the image are those that it mounts."""
     text = (TOP / "examples" / "kubernetes.yaml").read_text()
     parts = {name: re.sub(r"(?m)^ {4}", "", part) for name, part in re.findall(r"(?m)^  ([\w.]+): \|\n((?: {4}.*\n)+)", text)}
@@ -313,11 +322,11 @@ def a_manifest(folder):
     said = subprocess.run([program(), "check", folder / "objects.pp"], capture_output=True, text=True, timeout=SECONDS)
     check((said.returncode, said.stdout.splitlines()[-1]), (0, "1 objects, 0 refused"), "what is said of the objects")
     image = (TOP / "tools" / "package" / "Dockerfile").read_text()
-    command = re.search(r"(?m)^CMD (.*)$", image)[1]
+    command = there(re.search(r"(?m)^CMD (.*)$", image))[1]
     mounts = re.findall(r"mountPath: (\S+)\}", text)
     for it in re.findall(r'"(/[^"]+)"', command):
         holds(any(it.startswith(one) for one in mounts), f"{it} is in no folder that is mounted")
-    holds(re.search(r'server \S+ unix@(\S+)', parts["haproxy.cfg"])[1] in command, "the router goes to another socket")
+    holds(there(re.search(r'server \S+ unix@(\S+)', parts["haproxy.cfg"]))[1] in command, "the router goes to another socket")
     numbers = set(re.findall(r"(?:runAsUser|runAsGroup|fsGroup): (\d+)", text)) | set(re.findall(r"--[gu]id (\d+)", image))
     check(len(numbers), 1, "how many users and groups there are")
     if shutil.which("haproxy"):
@@ -325,7 +334,7 @@ def a_manifest(folder):
         check(said.returncode, 0, said.stderr)
 
 
-def a_router(folder):
+def a_router(folder: pathlib.Path) -> None:
     """HAProxy, by the file of examples/router: each object by its port, and by the name that a client opens."""
     text = (TOP / "examples" / "router" / "haproxy.cfg").read_text()
     ports = {it: str(free_port()) for it in sorted(set(re.findall(r"127\.0\.0\.1:(\d+)", text)))}

@@ -25,10 +25,12 @@ import threading
 import time
 import urllib.error
 import urllib.request
+from collections.abc import Callable, Iterator, Mapping
+from typing import Any
 
 from gate.kept import Server, Talk
 from gate.served import resets
-from gate.tried import TOP, Trial, Wrong, check, given_words, holds, run, until, whole
+from gate.tried import TOP, Trial, Wrong, check, given_words, holds, run, there, until, whole
 from tools import status
 
 TOOL = TOP / "tools" / "status"
@@ -92,7 +94,7 @@ SPOILT = [
 ]
 
 
-def text_of(time=SERVER["pathserve_status_seconds"], calls=CALLS, **more):
+def text_of(time: int = SERVER["pathserve_status_seconds"], calls: Mapping[tuple[str, str], tuple[int, ...]] = CALLS, **more: object) -> str:
     """The text of a file."""
     found = []
     for name, (kind, about) in HEADS.items():
@@ -114,9 +116,9 @@ VALUE = re.compile(r"[+-]?(?:[0-9]+(?:\.[0-9]*)?(?:[eE][+-]?[0-9]+)?|Inf)|NaN")
 PAIR = re.compile(r'([a-zA-Z_][a-zA-Z0-9_]*)="((?:[^"\\\n]|\\[\\"n])*)"(,|$)')
 
 
-def labels_of(text):
+def labels_of(text: str) -> frozenset[tuple[str, str]] | None:
     """The pairs of labels, or none where these are none."""
-    found = []
+    found: list[tuple[str, str]] = []
     while text:
         pair = PAIR.match(text)
         if not pair or pair[1] in dict(found):
@@ -126,12 +128,16 @@ def labels_of(text):
     return frozenset(found)
 
 
-def fault_of(text):
+def fault_of(text: str) -> str | None:
     """What is wrong with a text in the format of Prometheus, if anything: of each metric one HELP, one TYPE before its
     samples, all samples behind each other, and no sample twice."""
     if not text.endswith("\n"):
         return "the last line has no end"
-    helped, kinds, seen, closed, last = set(), {}, set(), set(), None
+    helped: set[str] = set()
+    kinds: dict[str, str] = {}
+    seen: set[tuple[str, frozenset[tuple[str, str]]]] = set()
+    closed: set[str] = set()
+    last: str | None = None
     for number, line in enumerate(text[:-1].split("\n"), 1):
         words = line.split(" ", 3)
         if words[:2] == ["#", "HELP"]:
@@ -145,7 +151,7 @@ def fault_of(text):
         elif not line.startswith("#"):
             found = re.fullmatch(r"([^{ ]+)(?:\{(.*)\})? (\S+)", line)
             labels = labels_of(found[2] or "") if found else None
-            if labels is None or not METRIC.fullmatch(found[1]) or not VALUE.fullmatch(found[3]) or found[1] not in kinds or found[1] not in helped:
+            if not found or labels is None or not METRIC.fullmatch(found[1]) or not VALUE.fullmatch(found[3]) or found[1] not in kinds or found[1] not in helped:
                 return f"line {number} is no sample"
             if found[1] != last and found[1] in closed or (found[1], labels) in seen:
                 return f"line {number} stands elsewhere, or comes twice"
@@ -155,14 +161,14 @@ def fault_of(text):
     return None
 
 
-def promtool(text):
+def promtool(text: str) -> bool:
     """Whether promtool takes a text."""
     ran = subprocess.run(["promtool", "check", "metrics"], input=text, capture_output=True, text=True, timeout=60)
     # (a hint, as of a name that is not to its taste, is status 3)
     return ran.returncode in (0, 3)
 
 
-def is_read(text, wanted):
+def is_read(text: str, wanted: bool) -> str | None:
     why = fault_of(text)
     if (why is None) != wanted:
         return f"the format is said to have {why}"
@@ -171,14 +177,14 @@ def is_read(text, wanted):
     return None
 
 
-def spoilt(old, new):
+def spoilt(old: str, new: str) -> str | None:
     text = text_of()
     if text.count(old) < 1:
         return f"there is no {old!r}"
     return is_read(text.replace(old, new, 1), False)
 
 
-def table(folder):
+def table(folder: pathlib.Path) -> str | None:
     """What is wrong with the table of a file, if anything."""
     (folder / "status.prom").write_text(text_of())
     found = status.read(folder)
@@ -189,7 +195,7 @@ def table(folder):
     return None if GONE in late and GONE not in told else "it does not say that the server is gone"
 
 
-def rates(folder):
+def rates(folder: pathlib.Path) -> str | None:
     """What is wrong with calls a second, if anything: the calls that ended since the file before, by their seconds."""
     reading = status.Reading(folder)
     (folder / "status.prom").write_text(text_of())
@@ -207,7 +213,7 @@ def rates(folder):
     return None if found == ["0.0", "0.0", "0.0"] else f"the rates of a new server are {found}"
 
 
-def ran(folder, *words):
+def ran(folder: pathlib.Path, *words: str) -> tuple[object, str, str]:
     told, error, before, sys.argv = io.StringIO(), io.StringIO(), sys.argv, [str(TOOL), str(folder), *words]
     with contextlib.redirect_stdout(told), contextlib.redirect_stderr(error):
         try:
@@ -219,7 +225,7 @@ def ran(folder, *words):
     return found, told.getvalue(), error.getvalue()
 
 
-def statuses(folder):
+def statuses(folder: pathlib.Path) -> str | None:
     """What is wrong with how it ends, if anything."""
     place, now = folder / "status.prom", int(time.time())
     place.unlink(missing_ok=True)
@@ -236,7 +242,7 @@ def statuses(folder):
     return None
 
 
-def asked(port, path):
+def asked(port: int, path: str) -> tuple[int, str, str]:
     try:
         with urllib.request.urlopen(f"http://127.0.0.1:{port}{path}", timeout=60) as it:
             return it.status, it.headers["Content-Type"], it.read().decode()
@@ -244,13 +250,13 @@ def asked(port, path):
         return error.code, "", ""
 
 
-def over_http(folder):
+def over_http(folder: pathlib.Path) -> str | None:
     """What is wrong with what a scraper and a browser get, if anything."""
     place = folder / "status.prom"
     place.unlink(missing_ok=True)
     child = subprocess.Popen([TOOL, folder, "--http", "0"], stdout=subprocess.PIPE, text=True)
     try:
-        port = int(child.stdout.readline().removeprefix("listening "))
+        port = int(there(child.stdout).readline().removeprefix("listening "))
         if [asked(port, it)[0] for it in ("/", "/metrics", "/x")] != [503, 503, 404]:
             return "without a file it does not answer 503"
         text = text_of(int(time.time()), every_seconds=600)
@@ -275,18 +281,19 @@ def over_http(folder):
     finally:
         child.kill()
         child.wait()
-        child.stdout.close()
+        there(child.stdout).close()
 
 
-def watched(folder):
+def watched(folder: pathlib.Path) -> str | None:
     """What is wrong with --watch, if anything: the second table has rates."""
-    place, told = folder / "status.prom", []
+    place = folder / "status.prom"
+    told: list[str] = []
     place.write_text(text_of())
     child = subprocess.Popen([TOOL, folder, "--watch", "0.05"], stdout=subprocess.PIPE, text=True)
     ended = threading.Timer(60, child.kill)
     ended.start()
     try:
-        for line in child.stdout:
+        for line in there(child.stdout):
             told.append(line)
             if line.startswith("job_queue  submit") and len(told) < 12:
                 new = folder / "status.prom.new"
@@ -299,7 +306,7 @@ def watched(folder):
         ended.cancel()
         child.kill()
         child.wait()
-        child.stdout.close()
+        there(child.stdout).close()
 
 
 # A server, and what its clients do.
@@ -321,7 +328,7 @@ end;
 MOMENT = re.compile(r"\d{4}-\d\d-\d\dT\d\d:\d\d:\d\d\.\d{3}Z")
 
 
-def found_in(server):
+def found_in(server: Server) -> status.Status | None:
     """The status that a server writes now, or none where there is none yet."""
     with contextlib.suppress(FileNotFoundError):
         text = (server.folder / "status.prom").read_text(encoding="ascii")
@@ -332,11 +339,11 @@ def found_in(server):
     return None
 
 
-def shows(server, wanted, **labels):
+def shows(server: Server, wanted: Mapping[str, float], **labels: str) -> status.Status:
     """Waits until a status has these numbers, and gives it."""
-    found = []
+    found: list[status.Status | None] = []
 
-    def is_so():
+    def is_so() -> object:
         found[:] = [found_in(server)]
         return found[0] and all(found[0].of(name, **labels) == number for name, number in wanted.items())
 
@@ -344,18 +351,18 @@ def shows(server, wanted, **labels):
         until(is_so, "", seconds=5)
     except Wrong:
         raise Wrong(f"{ {it: found[0] and found[0].of(it, **labels) for it in wanted} }, not {wanted}") from None
-    return found[0]
+    return there(found[0])
 
 
-def ends_of(it, name, op):
+def ends_of(it: status.Status, name: str, op: str) -> tuple[int, ...]:
     return tuple(it.of("calls_total", object=name, operation=op, end=end) for end in ENDS)
 
 
-def lines_of(server, name):
+def lines_of(server: Server, name: str) -> str:
     return (server.folder / f"{name}.journal").read_bytes().partition(b"\0")[0].decode()
 
 
-def numbers_are_those_of_the_clients(folder):
+def numbers_are_those_of_the_clients(folder: pathlib.Path) -> None:
     """Calls by how they ended, who waits and for how long, who was cancelled; sums are the lengths of the histories."""
     server = Server(folder, SOURCE, "--status", "1", "--at-once", "50")
     begun = time.time()
@@ -409,11 +416,11 @@ def numbers_are_those_of_the_clients(folder):
     server.end()
 
 
-def over(server):
+def over(server: Server) -> None:
     """Raises where tools/status does not show a server that goes on."""
     child = subprocess.Popen([TOOL, server.folder, "--http", "0"], stdout=subprocess.PIPE, text=True)
     try:
-        port = int(child.stdout.readline().removeprefix("listening "))
+        port = int(there(child.stdout).readline().removeprefix("listening "))
         code, _, text = asked(port, "/metrics")
         check((code, fault_of(text)), (200, None), "what a scraper gets")
         code, _, page = asked(port, "/")
@@ -421,12 +428,12 @@ def over(server):
     finally:
         child.kill()
         child.wait()
-        child.stdout.close()
+        there(child.stdout).close()
     ran = subprocess.run([TOOL, server.folder], capture_output=True, text=True, timeout=60, check=False)
     holds(ran.returncode == 0 and "buffer: epoch 1" in ran.stdout, f"the table is {ran.stdout + ran.stderr!r}")
 
 
-def a_status_that_cannot_be_written(folder):
+def a_status_that_cannot_be_written(folder: pathlib.Path) -> None:
     """The server goes on, says so once, and writes the next one that it can."""
     for words, said in ((), "{}: this file cannot be written\n"), (("--log", "text"), 'WARN no-status path="{}"\n'):
         server = Server(folder, SOURCE, "--status", "1", *words)
@@ -442,7 +449,7 @@ def a_status_that_cannot_be_written(folder):
         check(server.end()[1], 0, "the status")
 
 
-def events(server):
+def events(server: Server) -> list[Any]:
     """The events of a log of JSON, in order: each with what it tells, without its time."""
     found = []
     for line in server.error().splitlines():
@@ -455,7 +462,7 @@ def events(server):
     return found
 
 
-def a_log_of_json(folder):
+def a_log_of_json(folder: pathlib.Path) -> None:
     """A start, a client that breaks, an end; then a recovery."""
     server = Server(folder, SOURCE, "--log", "json")
     server.start()
@@ -476,7 +483,7 @@ def a_log_of_json(folder):
     server.end()
 
 
-def a_log_of_text(folder):
+def a_log_of_text(folder: pathlib.Path) -> None:
     """The same lines for people; without --log there are none. Without --status nothing is done to its file."""
     server = Server(folder, SOURCE, "--log", "text")
     server.start()
@@ -492,7 +499,7 @@ def a_log_of_text(folder):
     check((server.folder / "status.prom").read_text(), "of another\n", "a file that is no status of the server")
 
 
-def a_new_epoch(folder):
+def a_new_epoch(folder: pathlib.Path) -> None:
     """Where none can begin a line says so, and the counts go on over the one that does."""
     server = Server(folder, SOURCE, "--status", "1", "--log", "json")
     wall = server.folder / "cell.journal.new"
@@ -524,7 +531,7 @@ end;
 """
 
 
-def what_is_held_is_told(folder):
+def what_is_held_is_told(folder: pathlib.Path) -> None:
     """Of each object how many calls are held, also of those of a name that is gone; 0 of one without holds."""
     server = Server(folder, HOLDS, "--status", "1")
     server.start()
@@ -550,7 +557,7 @@ def what_is_held_is_told(folder):
 SERVED = (numbers_are_those_of_the_clients, what_is_held_is_told, a_status_that_cannot_be_written, a_log_of_json, a_log_of_text, a_new_epoch)
 
 
-def served(trial, folder):
+def served(trial: Callable[[pathlib.Path], object], folder: pathlib.Path) -> str | None:
     """What is wrong with what a server does, if anything."""
     folder.mkdir()
     try:
@@ -560,7 +567,7 @@ def served(trial, folder):
     return None
 
 
-def tries(folder):
+def tries(folder: pathlib.Path) -> Iterator[tuple[str, Callable[[], object]]]:
     yield "a file", lambda: is_read(text_of(), True)
     for old, new in SPOILT:
         yield f"{new!r} for {old!r}", lambda: spoilt(old, new)
@@ -570,7 +577,7 @@ def tries(folder):
         yield trial.__name__.replace("_", " "), lambda: served(trial, folder / trial.__name__)
 
 
-def trials(folder):
+def trials(folder: pathlib.Path) -> Iterator[Trial]:
     return (Trial(title, attempt) for title, attempt in tries(folder))
 
 

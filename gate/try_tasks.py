@@ -13,9 +13,12 @@ is 0 where M is 0 and N is not.
 """
 import collections
 import contextlib
+import pathlib
 import random
 import threading
 import time
+from collections.abc import Callable
+from typing import Any
 
 from clients.python.pathclient import CallError, Cancelled, Lost, NoServer, Object, Refused
 from gate import kept
@@ -26,18 +29,20 @@ from gate.tried import TOP, Wrong, check, given_words, holds, loads, until
 class Task:
     """A server on the objects of a task, with clients in threads."""
 
-    def __init__(self, folder, name, seed):
+    def __init__(self, folder: pathlib.Path, name: str, seed: int) -> None:
         self.server = Server(folder, (TOP / "gate" / "tasks" / f"{name}.pp").read_text(), at_path=True)
-        self.random, self.faults, self.threads, self.stops = random.Random(seed), [], [], False
+        self.random, self.stops = random.Random(seed), False
+        self.faults: list[str] = []
+        self.threads: list[threading.Thread] = []
         self.server.start()
 
-    def object(self, name, client):
+    def object(self, name: str, client: str) -> "Patient":
         return Patient(self, name, client)
 
-    def run(self, work, *words):
+    def run(self, work: Callable[..., Any], *words: Any) -> None:
         """Has a client work in a thread of its own."""
 
-        def body():
+        def body() -> None:
             try:
                 work(*words)
             except (CallError, Wrong, OSError, ValueError) as fault:
@@ -46,13 +51,13 @@ class Task:
         self.threads.append(threading.Thread(target=body, daemon=True))
         self.threads[-1].start()
 
-    def kill(self, times):
+    def kill(self, times: int) -> None:
         for _ in range(times):
             time.sleep(self.random.uniform(0.05, 0.4))
             self.server.kill()
             self.server.start()
 
-    def join(self, seconds=60):
+    def join(self, seconds: float = 60) -> None:
         end = time.monotonic() + seconds
         for it in self.threads:
             it.join(max(0.0, end - time.monotonic()))
@@ -60,7 +65,7 @@ class Task:
         self.threads = []
         holds(not self.faults, f"{len(self.faults)} faults: {self.faults[:3]}")
 
-    def end(self, *names):
+    def end(self, *names: str) -> None:
         check(self.server.end()[1], 0, "the status")
         self.server.is_whole(*names)
 
@@ -70,16 +75,17 @@ class Patient:
     call, since it cannot tell `keep` from `serve`, nor behind the time that a call may take: that is done here. A call
     that was cancelled since the connection broke is made anew."""
 
-    def __init__(self, task, name, client):
-        self.task, self.name, self.client, self.it = task, name, client, None
+    def __init__(self, task: Task, name: str, client: str) -> None:
+        self.task, self.name, self.client = task, name, client
+        self.it: Object | None = None
 
-    def connected(self):
+    def connected(self) -> Object:
         while self.it is None:
             with contextlib.suppress(NoServer, Lost):
                 self.it = Object(self.task.server.place, self.name, client=self.client, wait=20)
         return self.it
 
-    def __call__(self, operation, *arguments, within=None):
+    def __call__(self, operation: str, *arguments: Any, within: float | None = None) -> Any:
         while True:
             it = self.connected()
             key = it.key
@@ -96,7 +102,7 @@ class Patient:
                     with contextlib.suppress(Cancelled):
                         return it.call(operation, *arguments, key=key)
 
-    def close(self):
+    def close(self) -> None:
         if self.it:
             self.it.close()
 
@@ -104,11 +110,12 @@ class Patient:
 # Tasks.
 
 
-def a_semaphore_of_five(folder, kills, seed):
+def a_semaphore_of_five(folder: pathlib.Path, kills: int, seed: int) -> None:
     """Twelve workers go in and out; never more than five are inside, and at the end all slots are free."""
-    task, inside, most, lock = Task(folder, "limits", seed), set(), [0], threading.Lock()
+    task, most, lock = Task(folder, "limits", seed), [0], threading.Lock()
+    inside: set[str] = set()
 
-    def work(name):
+    def work(name: str) -> None:
         sem = task.object("sem", name)
         sem("held")
         for _ in range(12):
@@ -141,11 +148,11 @@ def a_semaphore_of_five(folder, kills, seed):
     task.end("sem", "bucket", "window")
 
 
-def a_limiter(folder, kills, seed):
+def a_limiter(folder: pathlib.Path, kills: int, seed: int) -> None:
     """As many things are done as tokens were given, whatever dies meanwhile."""
     task, given, used = Task(folder, "limits", seed), [0], [0, 0, 0]
 
-    def tick():
+    def tick() -> None:
         bucket = task.object("bucket", "ticker")
         while given[0] < 120:
             bucket("refill")
@@ -153,7 +160,7 @@ def a_limiter(folder, kills, seed):
             time.sleep(0.001)
         bucket.close()
 
-    def grab(at):
+    def grab(at: int) -> None:
         bucket = task.object("bucket", f"g{at}")
         for _ in range(40):
             bucket("grab")
@@ -176,16 +183,18 @@ def a_limiter(folder, kills, seed):
     task.end("sem", "bucket", "window")
 
 
-def an_inventory(folder, kills, seed):
+def an_inventory(folder: pathlib.Path, kills: int, seed: int) -> None:
     """What was restocked is there, is reserved, or was sold; a reservation ends once."""
-    task, sold, ended, lock = Task(folder, "inventory", seed), [], [], threading.Lock()
+    task, lock = Task(folder, "inventory", seed), threading.Lock()
+    sold: list[int] = []
+    ended: list[Any] = []
     total, now = 400, [1]
     first = task.object("inventory", "owner")
     first("open_reservations")
     first("restock", "lamp", total)
     first("tick", 1)
 
-    def shop(name, draw):
+    def shop(name: str, draw: random.Random) -> None:
         it = task.object("inventory", name)
         it("open_reservations")
         for turn in range(25):
@@ -202,7 +211,7 @@ def an_inventory(folder, kills, seed):
                 # else it ends by itself
         it.close()
 
-    def sweep():
+    def sweep() -> None:
         it = task.object("inventory", "sweeper")
         it("open_reservations")
         while not task.stops or it("open_reservations"):
@@ -230,22 +239,23 @@ def an_inventory(folder, kills, seed):
     task.end("inventory")
 
 
-def a_queue_of_jobs(folder, kills, seed):
+def a_queue_of_jobs(folder: pathlib.Path, kills: int, seed: int) -> None:
     """Each job is done, by one worker but where its lease ran out; urgent ones come first."""
-    task, done, lock = Task(folder, "work", seed), collections.Counter(), threading.Lock()
+    task, lock = Task(folder, "work", seed), threading.Lock()
+    done: collections.Counter[str] = collections.Counter()
     jobs, now = [f"j{at}" for at in range(60)], [10]
     first = task.object("work", "owner")
     first("waiting")
     first("tick", now[0])
 
-    def submit(mine):
+    def submit(mine: list[str]) -> None:
         it = task.object("work", f"submit{mine[0]}")
         it("waiting")
         for job in mine:
             it("submit_urgent" if job.endswith("3") else "submit", job)
         it.close()
 
-    def work(name, draw):
+    def work(name: str, draw: random.Random) -> None:
         it = task.object("work", name)
         it("waiting")
         while not task.stops:
@@ -261,7 +271,7 @@ def a_queue_of_jobs(folder, kills, seed):
                     done[job] += 1
         it.close()
 
-    def tick():
+    def tick() -> None:
         it = task.object("work", "ticker")
         it("waiting")
         while not task.stops:
@@ -289,11 +299,12 @@ def a_queue_of_jobs(folder, kills, seed):
     task.end("work")
 
 
-def a_leader(folder, kills, seed):
+def a_leader(folder: pathlib.Path, kills: int, seed: int) -> None:
     """For a token there is one leader, and a lease outlives the server."""
-    task, terms, now, lock = Task(folder, "lease", seed), [], [100], threading.Lock()
+    task, now, lock = Task(folder, "lease", seed), [100], threading.Lock()
+    terms: list[tuple[Any, str]] = []
 
-    def candidate(name, draw):
+    def candidate(name: str, draw: random.Random) -> None:
         it, token = task.object("lease", name), None
         it("token")
         while not task.stops:
@@ -341,15 +352,16 @@ def a_leader(folder, kills, seed):
     task.end("lease")
 
 
-def a_ledger(folder, kills, seed):
+def a_ledger(folder: pathlib.Path, kills: int, seed: int) -> None:
     """Each transfer that was answered is in the ledger, once."""
-    task, answered = Task(folder, "bank", seed), collections.Counter()
+    task = Task(folder, "bank", seed)
+    answered: collections.Counter[str] = collections.Counter()
     first = task.object("bank", "owner")
     first("done_ids")
     first("enter", "a", 1_000_000)
     first("enter", "b", 0)
 
-    def transfer(name):
+    def transfer(name: str) -> None:
         it = task.object("bank", name)
         it("done_ids")
         turn = 0

@@ -15,6 +15,7 @@ import subprocess
 import sys
 import tempfile
 import threading
+from collections.abc import Sequence
 
 from gate.tried import TOP, given_words, program, whole
 
@@ -52,26 +53,30 @@ COMMANDS = (
     ("serve faulty.pp . 7", True, True),
 )
 
+# The words of a command line; and its status, what it wrote, and what standard error got.
+Words = Sequence[str | pathlib.Path]
+Outcome = tuple[int, bytes, bytes]
+
 # What is typed at a prompt, with a Ctrl-D, and what it is answered.
 TYPED = b"do s1 put 7\nput 8\nwhy 2\nshow\n\x04"
 PROMPTED = b"call 1\nstarted 1\nsteps 1 4\ndone 1\nbad line 2\nwhy 2 Unknown\nv = [7]\n"
 
 
-def at_pipe(folder, words):
+def at_pipe(folder: pathlib.Path, words: Words) -> Outcome:
     """The status of a command, what it wrote, and what standard error got."""
     return at_pipe_of(folder, words, b"")
 
 
-def at_pipe_of(folder, words, text):
+def at_pipe_of(folder: pathlib.Path, words: Words, text: bytes) -> Outcome:
     """The same where standard input has a text."""
     ran = subprocess.run(words, cwd=folder, input=text, capture_output=True, timeout=SECONDS)
     return ran.returncode, ran.stdout, ran.stderr
 
 
-def at_terminal(folder, words):
+def at_terminal(folder: pathlib.Path, words: Words) -> Outcome:
     """The same where standard error is a terminal."""
     outer, inner = pty.openpty()
-    said = []
+    said: list[bytes] = []
 
     def hear() -> None:
         # (the end of a terminal that nobody holds is an error)
@@ -91,15 +96,15 @@ def at_terminal(folder, words):
     return ran.returncode, output, b"".join(said).replace(b"\r\n", b"\n")
 
 
-def fault_of(folder, command, is_told, is_of_source):
+def fault_of(folder: pathlib.Path, command: str, is_told: bool, is_of_source: bool) -> str | None:
     """What is wrong with a command, or none."""
     name, *files = command.split()
-    port = []
+    port: list[str] = []
     if name == "serve":
         # A port that anybody may take; a source that is refused is told all the same.
         *files, _ = files
         port = ["61001"]
-    words = [program(), name, *files, *port]
+    words: Words = [program(), name, *files, *port]
     whole = at_pipe(folder, [*words, "--explain"])
     if bool(whole[2]) != is_told:
         return f"{whole[2]!r} is told with --explain"
@@ -117,7 +122,7 @@ def fault_of(folder, command, is_told, is_of_source):
     return None
 
 
-def at_prompt(folder, words):
+def at_prompt(folder: pathlib.Path, words: Words) -> Outcome:
     """What `try` wrote to standard output and standard error where four lines and an end are typed at a terminal."""
     outer, inner = pty.openpty()
     os.write(outer, TYPED)
@@ -127,9 +132,9 @@ def at_prompt(folder, words):
     return ran.returncode, ran.stdout, ran.stderr
 
 
-def prompt_fault(folder):
+def prompt_fault(folder: pathlib.Path) -> str | None:
     """What is wrong with a prompt, or none: it stands before each line, and what is said of one before the next one."""
-    words = [program(), "try", "fine.pp"]
+    words: Words = [program(), "try", "fine.pp"]
     why = at_pipe_of(folder, words, TYPED.rstrip(b"\x04"))[2]
     wanted = (0, PROMPTED, b"cell> cell> " + why + b"cell> cell> cell> \n")
     found = at_prompt(folder, words)

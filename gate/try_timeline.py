@@ -19,21 +19,27 @@ import subprocess
 import sys
 import tempfile
 import xml.etree.ElementTree as tree
+from collections.abc import Callable, Iterable, Iterator, Mapping, Sequence
+from typing import Any
 
 from gate.drawn_scripts import Script
-from gate.tried import Trial, run, whole
+from gate.tried import Trial, run, there, whole
 from tools import timeline
 
 TOOL = pathlib.Path(__file__).resolve().parent.parent / "tools" / "timeline"
 OBJECTS = TOOL.parent.parent / "examples" / "objects"
 # Loaded once: to start it anew for each trace would take most of the time.
 SVG = "{http://www.w3.org/2000/svg}"
+# An event of a page, or `<` or `>`; a bar of a page; what came of a run of the tool: its status, what it said, its pages.
+Event = Any
+Bar = tuple[str, str, Event, Event, str]
+Ran = tuple[int, str, list[pathlib.Path]]
 CELL = ["object cell", "part v 0101000100000000"]
 
 # A title, the lines of a trace, the events of a page (or none), and the bars of each page as they are to be: row,
 # kind, from and to an event, tooltip. `<` and `>` stand for a bar that comes from the page before, and one that runs
 # on.
-SMALL = [
+SMALL: list[tuple[str, list[str], int | None, list[list[Bar]]]] = [
     (
         "calls that overlap, and each kind of end",
         ["object account", "part sum 0101000100000064", "start 1 s1 balance", "start 2 s2 balance", "end 2 done 100", "end 1 done 100",
@@ -106,7 +112,7 @@ BAD = ["", "#", "object cell", "part v 0101000100000000", "START 2 s2 get", "sta
        "end 1 done 'a\tb'", "end 1 done '\xe9'", "\tend 1 done"]
 NOT_RUNNING = ["end 2 done", "end 65536 refused no"]
 # Traces of which nothing is drawn.
-UNDRAWN = [([], 1), (["object"], 1), (["object 9"], 1), (["part v 00"], 1), (["object a b"], 1), (["object o", "part v 0"], 2),
+UNDRAWN: list[tuple[list[str], int]] = [([], 1), (["object"], 1), (["object 9"], 1), (["part v 00"], 1), (["object a b"], 1), (["object o", "part v 0"], 2),
            (["object o", "part v 0A"], 2), (["object o", "part v"], 2), (["object o", "part 'v' 00"], 2), (["object o", "part v 00", "end 1"], 3)]
 
 
@@ -148,64 +154,76 @@ SAID = [("legal 5", 0, None, None), ("line 6 wrong reply", 1, None, 4), ("line 1
         ("line 14 bad", 1, 11, None), ("line 4 not running", 1, 1, None), ("no object account", 1, None, None), ("line 2 bad", 1, 0, None)]
 
 
-def classes(it):
+def classes(it: tree.Element) -> list[str]:
     return (it.get("class") or "").split()
 
 
-def spans(row, kind):
+def length_of(it: tree.Element, name: str) -> float:
+    """A length that an element says."""
+    return float(there(it.get(name), name))
+
+
+def title_of(it: tree.Element) -> str:
+    """What an element tells where the pointer rests."""
+    return there(there(it.find(SVG + "title")).text)
+
+
+def spans(row: tree.Element, kind: str) -> Iterator[tuple[float, float, str]]:
     """Of each rectangle of this kind in a row: from where to where it is, and what it tells."""
     for it in row.iter(SVG + "rect"):
         if classes(it)[:1] == [kind]:
-            left, wide = float(it.get("x")), float(it.get("width"))
-            yield left, left + wide, it.find(SVG + "title").text
+            left, wide = length_of(it, "x"), length_of(it, "width")
+            yield left, left + wide, title_of(it)
 
 
 class Page:
     """What the picture of a page shows."""
 
-    def __init__(self, path) -> None:
+    def __init__(self, path: pathlib.Path) -> None:
         root = tree.fromstring(path.read_bytes())
-        texts = [(it.get("class") or "", float(it.get("x")), "".join(it.itertext())) for it in root.iter(SVG + "text")]
+        texts = [(it.get("class") or "", length_of(it, "x"), "".join(it.itertext())) for it in root.iter(SVG + "text")]
         self.ticks = [(x, int(said)) for kind, x, said in texts if kind.split()[:1] == ["tick"]]
         self.summary = [said for kind, _, said in texts if kind in ("title", "summary", "fault")]
         self.links = {"".join(it.itertext()).strip(): it.get("href") for it in root.iter(SVG + "a")}
         self.rows = [it for it in root.iter(SVG + "g") if it.get("class") == "row"]
         self.strips = [it for it in root.iter(SVG + "g") if it.get("class") == "strip"]
-        self.tall, self.wide = float(root.get("height")), float(root.get("width"))
+        self.tall, self.wide = length_of(root, "height"), length_of(root, "width")
         self.legend = [said for kind, _, said in texts if kind == "key"]
         # Of each operation in the legend its colour, and the letters that stand for one.
-        self.colours, self.key = {}, {}
+        self.colours: dict[str, str] = {}
+        self.key: dict[str, str] = {}
         for it in (it for it in root.iter(SVG + "g") if it.get("class") == "operation"):
             *letter, name = ["".join(one.itertext()) for one in it.iter(SVG + "text")]
-            self.colours[name] = classes(it.find(SVG + "rect"))[1]
+            self.colours[name] = classes(there(it.find(SVG + "rect")))[1]
             self.key |= dict.fromkeys(letter, name)
-        self.marks = [float(it.get("x1")) for it in root.iter(SVG + "line") if it.get("class") == "mark"]
+        self.marks = [length_of(it, "x1") for it in root.iter(SVG + "line") if it.get("class") == "mark"]
         self.cuts = [it for it in root.iter(SVG + "line") if it.get("class") == "cut"]
 
-    def names(self):
-        return [it.text for row in self.rows for it in row.iter(SVG + "text") if it.get("class") == "name end"]
+    def names(self) -> list[str]:
+        return [it.text or "" for row in self.rows for it in row.iter(SVG + "text") if it.get("class") == "name end"]
 
-    def unlabelled(self):
+    def unlabelled(self) -> list[str]:
         """Bars whose label is none of their call, or does not fit, or that have none and had room for a letter; or whose
         colour is not that of their operation; letters that nobody has."""
-        found, used = [], set()
+        found: list[str] = []
+        used: set[str] = set()
         for row in self.rows:
             pieces = [it for it in row if classes(it)[:1] != ["inside"]]
             for bar, after in zip(pieces, [*pieces[1:], None]):
                 kind = classes(bar)
                 if kind[:1] != ["bar"] or kind[1] == "many":
                     continue
-                words = bar.find(SVG + "title").text.split("\n")[0].split(": ", 1)[1]
+                words = title_of(bar).split("\n")[0].split(": ", 1)[1]
                 operation = words.split(" ")[0]
                 # What failed is red, and its colour stands inside of it, where there is room.
                 if kind[2:] != ([] if kind[1] == "failed" else [self.colours[operation]]):
                     found.append(f"{words} has the colour {kind[2:]}")
-                left, wide = float(bar.get("x")), float(bar.get("width"))
+                left, wide = length_of(bar, "x"), length_of(bar, "width")
                 label = after if after is not None and (after.get("class") or "").startswith("label") else None
                 if label is None:
                     found += [f"{words} has no letter"] if wide >= 8 and len(self.key) < 62 else []
                     continue
-                said, at = label.text, float(label.get("x"))
+                said, at = there(label.text), length_of(label, "x")
                 is_word = said in (words, operation) and (len(said) > 1 or said not in self.key)
                 if not is_word:
                     used.add(said)
@@ -215,43 +233,44 @@ class Page:
                     found.append(f"{said} stands beside {words}")
         return found + [f"{it} is no bar's" for it in self.key if it not in used]
 
-    def slot(self):
+    def slot(self) -> float:
         """How wide an event is. Where one alone has a number, the next one would stand 72 pixels behind it."""
         if len(self.ticks) < 2:
             return 72
         (left, first), (right, last) = self.ticks[0], self.ticks[-1]
         return (right - left) / (last - first)
 
-    def place(self, x):
+    def place(self, x: float) -> float:
         """The event that stands here by the axis."""
         left, first = self.ticks[0]
         return first + (x - left) / self.slot()
 
-    def bars(self, first, last):
+    def bars(self, first: int, last: int) -> list[Bar]:
         """What the rows show: row, kind, from and to an event, tooltip. A bar reaches two pixels over its events, or
         nearly half of the way to the next one."""
-        reach, found = min(2, self.slot() / 2 - 0.25), []
+        reach = min(2, self.slot() / 2 - 0.25)
+        found: list[Bar] = []
         for row, name in zip(self.rows, self.names()):
             for bar in row.iter(SVG + "rect"):
                 kind = classes(bar)
                 if kind[0] == "bar":
-                    left, wide = float(bar.get("x")), float(bar.get("width"))
+                    left, wide = length_of(bar, "x"), length_of(bar, "width")
                     start, end = (self.event(it, first, last) for it in (left + reach, left + wide - reach))
-                    found.append((name, kind[1], start, end, bar.find(SVG + "title").text))
+                    found.append((name, kind[1], start, end, title_of(bar)))
         return found
 
-    def waits(self, first, last):
+    def waits(self, first: int, last: int) -> list[tuple[str, int, Event, Event]]:
         """Who waits: row, number of the call, from and to an event."""
         return [(name, int(title.split()[1]), self.event(left, first, last), self.event(right, first, last))
                 for row, name in zip(self.rows, self.names()) for left, right, title in spans(row, "wait")]
 
-    def holds(self, first, last):
+    def holds(self, first: int, last: int) -> list[tuple[str, Event, Event, list[int]]]:
         """What is held: row, from and to an event, and the calls that took it (0: one before the trace)."""
         return [(name, self.event(left, first, last), self.event(right, first, last),
                  [int(it.split()[3].rstrip(",")) if "by call" in it.split(",")[0] else 0 for it in title.split("\n")[1:]])
                 for row, name in zip(self.rows, self.names()) for left, right, title in spans(row, "hold")]
 
-    def event(self, x, first, last):
+    def event(self, x: float, first: int, last: int) -> Event:
         place = self.place(x)
         if place < first - 0.2 or place > last + 0.2:
             return "<" if place < first else ">"
@@ -259,14 +278,15 @@ class Page:
             raise ValueError(f"{x} stands between events")
         return round(place)
 
-    def hidden(self):
+    def hidden(self) -> list[str | None]:
         """Bars that overlap another one, or stand outside their row or the picture."""
-        found, before = [], 0.0
+        before = 0.0
+        found: list[str | None] = []
         for row in self.rows:
             lanes: dict[float, list[tuple[float, float]]] = {}
             for bar in row.iter(SVG + "rect"):
                 if classes(bar)[:1] == ["bar"]:
-                    left, wide, top = (float(bar.get(it)) for it in ("x", "width", "y"))
+                    left, wide, top = (length_of(bar, it) for it in ("x", "width", "y"))
                     lanes.setdefault(top, []).append((left, left + wide))
             tops = sorted(lanes)
             found += [row.get("id") for it in tops if it < before or it + 16 > self.tall]
@@ -281,22 +301,22 @@ class Page:
 class Index:
     """What an index shows: of each page its link, its events, what its bars tell, and how wide they are."""
 
-    def __init__(self, path) -> None:
+    def __init__(self, path: pathlib.Path) -> None:
         root = tree.fromstring(path.read_bytes())
         links = [it for it in root.iter(SVG + "a")]
         self.links = [("".join(it.itertext()).strip(), it.get("href")) for it in links]
         self.events = [it.text for it in root.iter(SVG + "text") if it.get("class") == "soft"]
-        self.here = [float(it.get("y")) for it in root.iter(SVG + "text") if it.text == "here"]
-        place = {(round(float(it.find(SVG + "text").get("x"))), round(float(it.find(SVG + "text").get("y")))): at for at, it in enumerate(links)}
-        self.bars = [[] for _ in links]
+        self.here = [length_of(it, "y") for it in root.iter(SVG + "text") if it.text == "here"]
+        place = {(round(length_of(there(it.find(SVG + "text")), "x")), round(length_of(there(it.find(SVG + "text")), "y"))): at for at, it in enumerate(links)}
+        self.bars: list[list[tuple[str, float, str]]] = [[] for _ in links]
         for bar in root.iter(SVG + "rect"):
             if (bar.get("class") or "").startswith("bar "):
-                x, y = float(bar.get("x")), float(bar.get("y")) + 10
+                x, y = length_of(bar, "x"), length_of(bar, "y") + 10
                 [at] = [at for (left, top), at in place.items() if top == round(y) and left <= x < left + 500]
-                self.bars[at].append((bar.get("class").split()[1], float(bar.get("width")), bar.find(SVG + "title").text))
+                self.bars[at].append((classes(bar)[1], length_of(bar, "width"), title_of(bar)))
 
 
-def index_faults(path, drawn, ends, most, events):
+def index_faults(path: pathlib.Path, drawn: Sequence[pathlib.Path], ends: Iterable[tuple[str, int]], most: int, events: int) -> str | None:
     """What is wrong with an index, if anything: `ends` are kinds and events of the ends."""
     index, counts = Index(path), [dict.fromkeys(("done", "refused", "failed"), 0) for _ in drawn]
     for kind, event in ends:
@@ -316,7 +336,7 @@ def index_faults(path, drawn, ends, most, events):
     return None
 
 
-def ran(folder, lines, *words):
+def ran(folder: pathlib.Path, lines: Sequence[str], *words: str) -> Ran:
     """Runs the tool on a trace in an empty folder: its status, what it said on standard error, its pages, or the one
     picture; where there are pages, the picture with no number is the index, which is left in the folder."""
     for it in folder.iterdir():
@@ -328,11 +348,11 @@ def ran(folder, lines, *words):
     drawn = [it for it in folder.iterdir() if it.suffix == ".svg"]
     if len(drawn) > 1:
         drawn.remove(folder / "a b.svg")
-    drawn.sort(key=lambda it: int(re.search(r"(\d*)\.svg", it.name)[1] or 0))
+    drawn.sort(key=lambda it: int(there(re.search(r"(\d*)\.svg", it.name))[1] or 0))
     return status, told.getvalue(), drawn
 
 
-def small(folder, lines, most, wanted):
+def small(folder: pathlib.Path, lines: Sequence[str], most: int | None, wanted: Sequence[Sequence[Bar]]) -> str | None:
     """What is wrong with the picture of a small trace, if anything."""
     status, error, drawn = ran(folder, lines, *([] if most is None else ["--events", str(most)]))
     if status or error or len(drawn) != len(wanted):
@@ -352,9 +372,9 @@ def small(folder, lines, most, wanted):
         kinds = {bar[1] for bar in bars}
         if [it for it in page.legend if it in LEGEND.values()] != ([] if kinds <= {"done"} else [said for it, said in LEGEND.items() if it in kinds]):
             return f"page {place + 1} has the legend {page.legend}"
-        links = {"first": 0, "previous": place - 1} if place else {}
-        links |= {"next": place + 1, "last": len(drawn) - 1} if place + 1 < len(drawn) else {}
-        links = {name: drawn[it].name.replace(" ", "%20") for name, it in links.items()}
+        places = {"first": 0, "previous": place - 1} if place else {}
+        places |= {"next": place + 1, "last": len(drawn) - 1} if place + 1 < len(drawn) else {}
+        links = {name: drawn[it].name.replace(" ", "%20") for name, it in places.items()}
         if page.links != ({"index": "a%20b.svg"} if len(drawn) > 1 else {}) | links:
             return f"page {place + 1} has links {page.links}"
         if page.unlabelled():
@@ -365,7 +385,7 @@ def small(folder, lines, most, wanted):
     return None
 
 
-def window(folder, lines, first, most, bars):
+def window(folder: pathlib.Path, lines: Sequence[str], first: int, most: int, bars: Sequence[Bar]) -> object:
     """What is wrong with the one picture that begins with an event, if anything."""
     status, error, drawn = ran(folder, lines, "--from", str(first), "--events", str(most))
     if status or error or [it.name for it in drawn] != [f"a b-from-{first}.svg"]:
@@ -378,14 +398,14 @@ def window(folder, lines, first, most, bars):
     return page.unlabelled() or page.hidden() or (None if any(it.startswith(f"events {first} to {last} of {events}") for it in page.summary) else f"it says {page.summary}")
 
 
-def cut_bars(first, last, calls):
+def cut_bars(first: int, last: int, calls: Mapping[int, Sequence[Any]]) -> dict[int, tuple[str, str, Event, Event]]:
     """The bars of calls, as number, row, kind, start and end, that one picture of these events shows."""
     shown = {it: call for it, call in calls.items() if call[2] <= last and (call[3] == ">" or call[3] >= first)}
     return {it: (row, kind, "<" if start < first else start, ">" if end == ">" or end > last else end)
             for it, (row, kind, start, end) in shown.items()}
 
 
-def windows(folder, trace):
+def windows(folder: pathlib.Path, trace: "Drawn") -> str | None:
     """What is wrong with pictures of a long trace that begin somewhere, if anything."""
     for first in (1, 2, 777, trace.events - 401, trace.events - 1, trace.events):
         status, error, drawn = ran(folder, trace.lines, "--from", str(first))
@@ -401,7 +421,7 @@ def windows(folder, trace):
     return None
 
 
-def lettered(folder):
+def lettered(folder: pathlib.Path) -> str | None:
     """What is wrong with the letters of operations whose names begin alike, if anything: each has its own."""
     names = ["put", "pay", "p", "pp", "up", "_".join("put"), "P", *(f"put{it}" for it in range(60)), *(f"q{it}" for it in range(30))]
     lines = list(CELL)
@@ -419,11 +439,11 @@ def lettered(folder):
     return None
 
 
-def said(folder, word, status, last, marked):
+def said(folder: pathlib.Path, word: str, status: int, last: int | None, marked: int | None) -> str | None:
     """What is wrong with the picture of a trace of which an audit says this, if anything."""
     lines = SMALL[0][1]
 
-    def drawn_with(more):
+    def drawn_with(more: Sequence[str]) -> Ran:
         # The folder is emptied before each run, so the program that audits stands beside it.
         with tempfile.TemporaryDirectory() as place:
             fake = pathlib.Path(place) / "fake"
@@ -457,7 +477,7 @@ def said(folder, word, status, last, marked):
     return None
 
 
-def damaged(folder, line, why):
+def damaged(folder: pathlib.Path, line: str, why: str) -> str | None:
     """What is wrong with the picture of a trace whose fourth line is damaged, if anything."""
     status, error, drawn = ran(folder, [*CELL, "start 1 s1 get", line, "end 1 done 3"])
     if (status, error, len(drawn)) != (1, f"line 4 {why}\n", 1):
@@ -469,7 +489,7 @@ def damaged(folder, line, why):
     return None if page.bars(1, 1) == bars else f"the picture shows {page.bars(1, 1)}"
 
 
-def undrawn(folder, lines, line):
+def undrawn(folder: pathlib.Path, lines: Sequence[str], line: int) -> str | None:
     status, error, drawn = ran(folder, lines)
     told = (status, error, len(drawn))
     return None if told == (1, f"line {line} bad\n", 0) else f"{told}"
@@ -478,11 +498,13 @@ def undrawn(folder, lines, line):
 class Drawn:
     """A drawn trace: its lines, and of each call its row, its kind, its start and its end."""
 
-    def __init__(self, seed, calls, sessions, at_once) -> None:
+    def __init__(self, seed: int, calls: int, sessions: int, at_once: int) -> None:
         draw = random.Random(seed)
-        self.lines, self.calls, self.events, busy, idle = [*CELL], {}, 0, [], list(range(1, sessions + 1))
+        self.lines, self.events, idle = [*CELL], 0, list(range(1, sessions + 1))
+        self.calls: dict[int, list[Any]] = {}
+        busy: list[tuple[int, int]] = []
         # All numbers stand in their order: then nobody waits, and there is less to draw.
-        numbers = range(1, 65537) if calls == 65536 else draw.sample(range(1, 65537), calls)
+        numbers: Sequence[int] = range(1, 65537) if calls == 65536 else draw.sample(range(1, 65537), calls)
         while len(self.calls) < calls or len(busy) > 3:
             self.events += 1
             if len(self.calls) < calls and idle and len(busy) < at_once and (not busy or draw.random() < 0.55):
@@ -499,7 +521,7 @@ class Drawn:
                 idle.append(session)
 
 
-def long(folder, trace):
+def long(folder: pathlib.Path, trace: "Drawn | Worlds") -> str | None:
     """What is wrong with the pages of a drawn trace, if anything."""
     status, error, drawn = ran(folder, trace.lines)
     if status or error or len(drawn) != max(-(-trace.events // 400), 1):
@@ -508,7 +530,7 @@ def long(folder, trace):
         ends = [(kind, end) for _, kind, _, end in trace.calls.values() if end != ">"]
         if why := index_faults(folder / "a b.svg", drawn, ends, 400, trace.events):
             return why
-    pieces = {it: [] for it in trace.calls}
+    pieces: dict[int, list[tuple[int, str, str, Event, Event]]] = {it: [] for it in trace.calls}
     for place, path in enumerate(drawn):
         page, first, last = Page(path), place * 400 + 1, min(place * 400 + 400, trace.events)
         if page.hidden() or page.unlabelled():
@@ -524,7 +546,7 @@ def long(folder, trace):
     return None
 
 
-def slow_waits(calls):
+def slow_waits(calls: Mapping[int, Sequence[Any]]) -> Iterator[tuple[str, int, Event, Event]]:
     """Who waits in the trace of these calls, from its rules: number and events. A call waits where one with a later
     number has started, and the one before it of its session has ended."""
     for number, (row, _, start, _) in calls.items():
@@ -534,7 +556,7 @@ def slow_waits(calls):
             yield row, number, max(since, free), start
 
 
-def waiting(folder, trace):
+def waiting(folder: pathlib.Path, trace: Drawn) -> str | None:
     """What is wrong with the grey lines of a drawn trace, if anything."""
     status, error, drawn = ran(folder, trace.lines, "--events", "100000")
     if status or error or len(drawn) != 1:
@@ -546,10 +568,11 @@ def waiting(folder, trace):
 class Slots:
     """A drawn trace of build_slots, and what is held in it: each with its session, the events, and its call."""
 
-    def __init__(self, seed) -> None:
-        draw, held = random.Random(seed), []
+    def __init__(self, seed: int) -> None:
+        draw = random.Random(seed)
+        held: list[tuple[int, int, int]] = []
         self.lines, self.events = ["object build_slots"], 0
-        self.holds: list[tuple[int, int, int | str, int]] = []
+        self.holds: list[tuple[int, int, Event, int]] = []
         for number in range(1, 200):
             session = draw.randrange(1, 7)
             is_taken = len(held) < 3 and (not held or draw.random() < 0.5)
@@ -565,13 +588,13 @@ class Slots:
         self.holds += [(session, start, ">", number) for session, start, number in held]
 
 
-def holding(folder, trace):
+def holding(folder: pathlib.Path, trace: Slots) -> str | None:
     """What is wrong with what is held in a drawn trace, if anything: at each event, by whom it was taken."""
     status, error, drawn = ran(folder, trace.lines, "--objects", str(OBJECTS / "build_slots.pp"))
     if status or error or len(drawn) != 1:
         return f"status {status}, {error!r}, {len(drawn)} pages"
     page = Page(drawn[0])
-    found = [set() for _ in range(trace.events)]
+    found: list[set[tuple[str, int]]] = [set() for _ in range(trace.events)]
     for row, first, end, calls in page.holds(1, trace.events):
         for event in range(first, trace.events if end == ">" else end):
             found[event] |= {(row, it) for it in calls}
@@ -580,17 +603,18 @@ def holding(folder, trace):
     if found != wanted:
         return f"it shows {found}, not {wanted}"
     most = max(map(len, wanted))
-    said = ["".join(it.find(SVG + "text").itertext()) for it in page.strips]
+    said = ["".join(there(it.find(SVG + "text")).itertext()) for it in page.strips]
     if said != [f"take_slot; give_slot holds {most} at most"]:
         return f"the strips say {said}"
     return None if levels(page, most) == [len(it) for it in wanted] else f"the strip shows {levels(page, most)}"
 
 
-def levels(page, most):
+def levels(page: Page, most: int) -> list[int]:
     """How many the one strip shows behind each event."""
-    words = re.findall("([MVH])([0-9.]+)(?: ([0-9.]+))?", page.strips[0].find(SVG + "path").get("d"))
+    words = re.findall("([MVH])([0-9.]+)(?: ([0-9.]+))?", there(there(page.strips[0].find(SVG + "path")).get("d")))
     base, last = float(words[0][2]), words[-2][1]
-    found, level = [], 0
+    level = 0
+    found: list[int] = []
     for kind, it, _ in words[1:]:
         if kind == "V":
             level = round((base - float(it)) / 22 * most)
@@ -600,13 +624,13 @@ def levels(page, most):
     return found
 
 
-def kept(folder):
+def kept(folder: pathlib.Path) -> object:
     """What is wrong with the picture of an epoch, if anything."""
     status, error, drawn = ran(folder, [*KEPT, *BEHIND], "--objects", str(OBJECTS / "build_slots.pp"))
     if status or error or len(drawn) != 1:
         return f"status {status}, {error!r}, {len(drawn)} pages"
     page = Page(drawn[0])
-    shown = (page.bars(1, 10), KEPT_BARS), (page.waits(1, 10), KEPT_WAITS), (page.holds(1, 10), KEPT_HOLDS)
+    shown: tuple[tuple[Sequence[Any], Sequence[Any]], ...] = (page.bars(1, 10), KEPT_BARS), (page.waits(1, 10), KEPT_WAITS), (page.holds(1, 10), KEPT_HOLDS)
     for found, wanted in shown:
         if sorted(map(str, found)) != sorted(map(str, wanted)):
             return f"it shows {found}"
@@ -619,13 +643,13 @@ def kept(folder):
     return page.unlabelled() or page.hidden() or None
 
 
-def not_kept(folder, number, line):
+def not_kept(folder: pathlib.Path, number: int, line: str) -> str | None:
     lines = [*KEPT[: number - 1], line, *KEPT[number:], *BEHIND]
     status, error, _ = ran(folder, lines)
     return None if (status, error) == (1, f"line {number} bad\n") else f"status {status}, {error!r}"
 
 
-def folder_says(folder, word, status, told, marked):
+def folder_says(folder: pathlib.Path, word: str, status: int, told: str, marked: int | None) -> str | None:
     """What is wrong with the picture of an epoch of whose folder an audit says this, if anything."""
     with tempfile.TemporaryDirectory() as place:
         fake = pathlib.Path(place) / "fake"
@@ -640,7 +664,7 @@ def folder_says(folder, word, status, told, marked):
     return None
 
 
-def shapes(folder):
+def shapes(folder: pathlib.Path) -> str | None:
     """What is wrong with what is read of paths, if anything."""
     (folder / "it.pp").write_text(SHAPES)
     lines, number = ["object o"], 0
@@ -657,10 +681,11 @@ def shapes(folder):
 class Worlds:
     """The trace that a drawn script leaves in a slow world, in the same form."""
 
-    def __init__(self, seed) -> None:
+    def __init__(self, seed: int) -> None:
         script = Script(seed)
         script.draw_lines()
-        self.lines, self.calls, self.events = list(script.world.trace_lines()), {}, 0
+        self.lines, self.events = list(script.world.trace_lines()), 0
+        self.calls: dict[int, list[Any]] = {}
         for words in (it.split(" ") for it in self.lines):
             self.events += words[0] in ("start", "end")
             if words[0] == "start":
@@ -669,7 +694,7 @@ class Worlds:
                 self.calls[int(words[1])][1:] = [words[2], self.calls[int(words[1])][2], self.events]
 
 
-def statuses(folder):
+def statuses(folder: pathlib.Path) -> str | None:
     """What is wrong with the statuses of calls that cannot be done, if anything."""
     (folder / "it.trace").write_text("object o\n")
     (folder / "two.trace").write_text("object o\nstart 1 s1 a\nend 1 done\n")
@@ -692,7 +717,7 @@ def statuses(folder):
     return None
 
 
-def stored(folder, trace):
+def stored(folder: pathlib.Path, trace: pathlib.Path) -> str | None:
     """What is wrong with the picture that is stored beside a trace, if anything: it is what the tool draws."""
     objects = str(OBJECTS / f"{trace.stem}.pp")
     status, error, drawn = ran(folder, trace.read_text(encoding="ascii").split("\n"), "--objects", objects)
@@ -701,7 +726,7 @@ def stored(folder, trace):
     return None
 
 
-def tries(folder):
+def tries(folder: pathlib.Path) -> Iterator[tuple[str, Callable[[], object]]]:
     """What is tried: a title, and what is wrong with it."""
     for title, lines, most, wanted in SMALL:
         yield title, lambda: small(folder, lines, most, wanted)
@@ -739,7 +764,7 @@ def tries(folder):
     yield "statuses", lambda: statuses(folder)
 
 
-def trials(folder):
+def trials(folder: pathlib.Path) -> Iterator[Trial]:
     return (Trial(title, attempt) for title, attempt in tries(folder))
 
 

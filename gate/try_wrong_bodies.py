@@ -54,6 +54,8 @@ import tempfile
 import threading
 import time
 import traceback
+from collections.abc import Callable, Collection, Iterable, Mapping, Sequence
+from typing import Any
 
 from gate import clauses
 from gate.tried import TOP
@@ -71,12 +73,12 @@ PRINTING = threading.Lock()
 LAST = threading.local()
 
 
-def say(text) -> None:
+def say(text: str) -> None:
     with PRINTING:
         print(text, flush=True)
 
 
-def kit_logic():
+def kit_logic() -> str:
     """The logic of the kit, in which proofs are checked, as `rt version` names it: releases of a kit share one."""
     said = subprocess.run(["rt", "version"], check=True, capture_output=True, text=True).stdout
     _, word, logic = said.partition(" logic ")
@@ -85,24 +87,24 @@ def kit_logic():
     return f"logic {logic.strip()}"
 
 
-def edits(top, name):
+def edits(top: pathlib.Path, name: str) -> list[pathlib.Path]:
     """The files of a crate's folder of wrong bodies, but those that are only to be read."""
     return [it for it in repository.files(top / "crates" / name / EDITS) if it.suffix != ".md"]
 
 
-def digest(top, lines, name, kit):
+def digest(top: pathlib.Path, lines: Mapping[str, str], name: str, kit: str) -> str:
     return repository.digest(top, lines, name, kit, EDITS)
 
 
-def recorded():
+def recorded() -> dict[str, list[str]]:
     """The lines of wrong-bodies.tried by crate, each as its words."""
     rows = TRIED.read_text(encoding="utf-8").splitlines() if TRIED.exists() else []
     return {row.split()[0]: row.split() for row in rows if row.strip()}
 
 
-def record(lines, changes) -> None:
+def record(lines: Mapping[str, str], changes: Mapping[str, list[str] | None]) -> None:
     """Writes what was tried, and leaves out crates that are gone: a change is a line's words, or None to take it out."""
-    rows = {**recorded(), **changes}
+    rows: dict[str, list[str] | None] = {**recorded(), **changes}
     kept = [" ".join(words) for name, words in sorted(rows.items()) if words and name in lines and edits(TOP, name)]
     if not kept and not TRIED.exists():
         return
@@ -111,11 +113,11 @@ def record(lines, changes) -> None:
     os.replace(part, TRIED)
 
 
-def fits(row, lines, name, kit):
+def fits(row: list[str] | None, lines: Mapping[str, str], name: str, kit: str) -> bool:
     return row is not None and row[1:] == [digest(TOP, lines, name, kit), str(len(edits(TOP, name))), "edits"]
 
 
-def told_of_edits(top, name):
+def told_of_edits(top: pathlib.Path, name: str) -> list[str]:
     """What is wrong with the edits of a crate before any is tried."""
     found = edits(top, name)
     wrong = [f"{name}: {len(found)} wrong bodies, and at most {MOST_EDITS} are of use"] * (len(found) > MOST_EDITS)
@@ -123,11 +125,11 @@ def told_of_edits(top, name):
     return wrong + [f"{name}/{it.stem}: {text}" for it in found if clause_of(it) is None]
 
 
-def clause_of(file):
+def clause_of(file: str | pathlib.Path) -> clauses.Clause | None:
     return clauses.named_by(pathlib.Path(file).read_text(encoding="utf-8", errors="replace"))
 
 
-def check(lines, named, kit):
+def check(lines: Mapping[str, str], named: Collection[str], kit: str) -> tuple[int, int]:
     """Compares the digests, looks whether each edit names a clause, and tries nothing."""
     rows, passed, failed = recorded(), 0, 0
     for name in sorted({*lines, *rows} if not named else named):
@@ -150,7 +152,7 @@ def check(lines, named, kit):
     return passed, failed
 
 
-def load_rt():
+def load_rt() -> Any:
     """The kit's command as a module: its own functions judge the edits."""
     made = rt_of_kit()
     if not made:
@@ -160,7 +162,7 @@ def load_rt():
             sys.exit(f"try_wrong_bodies: the rt of this kit has no {name}(): see how its must-fail tries an edit now")
     checked = made.checked
 
-    def remembered(*given):
+    def remembered(*given: Any) -> Any:
         ran = checked(*given)
         LAST.said = ran.stdout.split("\n")
         return ran
@@ -170,7 +172,7 @@ def load_rt():
     return made
 
 
-def copy_sources(lines, needed, to) -> None:
+def copy_sources(lines: Mapping[str, str], needed: Sequence[str], to: pathlib.Path) -> None:
     """Copies the files of these crates that git knows or would take, the wrong bodies as must-fail edits."""
     words = ["git", "-C", str(TOP), "ls-files", "-z", "--cached", "--others", "--exclude-standard"]
     listed = subprocess.run(words, check=True, capture_output=True).stdout.split(b"\0")
@@ -183,7 +185,7 @@ def copy_sources(lines, needed, to) -> None:
     (to / "crates.txt").write_text("".join(f"{lines[it]}\n" for it in needed), encoding="utf-8")
 
 
-def copy_work(name, part, to) -> None:
+def copy_work(name: str, part: str, to: pathlib.Path) -> None:
     """Copies what earlier checks left of a crate, where they left it."""
     made = TOP / "crates" / name / "out" / part
     if made.is_dir():
@@ -191,7 +193,7 @@ def copy_work(name, part, to) -> None:
         subprocess.run(["cp", "-r", "--reflink=auto", str(made), str(to / "crates" / name / "out")], check=True)
 
 
-def prepare(rt, lines, names, to):
+def prepare(rt: Any, lines: Mapping[str, str], names: Sequence[str], to: pathlib.Path) -> dict[str, Any]:
     """Makes the copy, and returns its crates by name, lowest first."""
     needed = [it for it in lines if any(it in [name, *repository.below(lines, name)] for name in names)]
     copy_sources(lines, needed, to)
@@ -212,7 +214,7 @@ def prepare(rt, lines, names, to):
     return crates
 
 
-def take_kept(rt, top, crates) -> None:
+def take_kept(rt: Any, top: pathlib.Path, crates: Mapping[str, Any]) -> None:
     """Gives the copy the libraries that `rt ci` proved of the same sources on this machine, as far as these go from the lowest."""
     if not all(hasattr(rt, it) for it in ("Crate", "Kept", "handles_of")):
         return
@@ -230,19 +232,19 @@ def take_kept(rt, top, crates) -> None:
     rt.Crate.allowed = before
 
 
-def is_newer(library, crate) -> bool:
+def is_newer(library: pathlib.Path, crate: pathlib.Path) -> bool:
     """Whether a library was made after each file of its crate."""
     files = [it for part in repository.PARTS for it in repository.files(crate / part)]
     return library.is_dir() and all(it.stat().st_mtime < library.stat().st_mtime for it in files)
 
 
-def take_unstamped(crates) -> None:
+def take_unstamped(crates: Mapping[str, Any]) -> None:
     """Takes the libraries that `rt ci` has made in this tree for built, with a kit that keeps none of them: it stamps none.
     They fit each other alone, so only where it made all, and each after its files."""
     made = {it: TOP / "crates" / it / "out" / "rlib" for it, crate in crates.items() if not crate.is_program}
     if any((it / "stamp").exists() for it in made.values()):
         return
-    taken = set()
+    taken: set[str] = set()
     for name, crate in crates.items():
         library = made.get(name)
         if library and is_newer(library / f"{name}.rlib", TOP / "crates" / name) and all(it.name in taken for it in crate.below()):
@@ -250,7 +252,7 @@ def take_unstamped(crates) -> None:
             taken.add(name)
 
 
-def build(crate):
+def build(crate: Any) -> bool:
     """Builds a library that crates above it want, where it is not built, and returns whether that went well."""
     if crate.is_built():
         return True
@@ -266,12 +268,12 @@ def build(crate):
     return not status
 
 
-def is_refused(rt, found) -> bool:
+def is_refused(rt: Any, found: Any) -> bool:
     """Whether an edit was refused by the prover, and not only by one of its limits. (Older kits tell it by a truth value.)"""
     return found[0] in (True, getattr(rt, "REFUSED", True))
 
 
-def tell(rt, crate, edit, found):
+def tell(rt: Any, crate: Any, edit: str, found: Any) -> bool:
     """Says what came of an edit, and returns whether the prover refused it by the clause that it names."""
     was_refused, said = is_refused(rt, found), found[1].partition(": ")[2]
     if was_refused and NAME_GONE in said:
@@ -282,7 +284,7 @@ def tell(rt, crate, edit, found):
     return False
 
 
-def is_by_its_clause(rt, crate, file, edit, said, how) -> bool:
+def is_by_its_clause(rt: Any, crate: Any, file: str, edit: "Edit | None", said: list[str], how: str) -> bool:
     """Says of an edit that was refused by which clause, and returns whether that is the one that it names. Of the lines
     of its check those of its functions count, where these are known."""
     texts, _ = rt.read_edit(file, crate.folder)
@@ -339,7 +341,7 @@ Function = collections.namedtuple("Function", "whole path proofs source head las
 Edit = collections.namedtuple("Edit", "file functions source lines")
 
 
-def function_at(lines, at):
+def function_at(lines: Sequence[str], at: int) -> tuple[int, int] | None:
     """The first and last line of the function in whose body a line stands, counted from 0, or None."""
     first = next((it for it in range(at, -1, -1) if HEAD.match(lines[it])), None)
     if first is None:
@@ -351,12 +353,14 @@ def function_at(lines, at):
     return (first, last) if last is not None and opens is not None and opens < at < last else None
 
 
-def function_of(source, lines, first, last):
+def function_of(source: str, lines: Sequence[str], first: int, last: int) -> Function | None:
     """The function at these lines, or None where its path is not known."""
     above = next((at for at in range(first, 0, -1) if not lines[at - 1].strip() or lines[at - 1].rstrip().endswith(("{", "}", ";"))), 0)
     module = source[len("src/") : -len(".rt")].removesuffix("/mod")
     module = "" if module in ("lib", "main") else module
-    name, is_held = HEAD.match(lines[first])[1], lines[first][0] == " "
+    head = HEAD.match(lines[first])
+    assert head, lines[first]
+    name, is_held = head[1], lines[first][0] == " "
     holder = next((it for it in reversed(lines[:first]) if HOLDER.match(it)), "") if is_held else ""
     cycle = next((found[1] for it in lines[max(first - 3, 0) : first] if (found := CYCLE.search(it))), None)
     held = IMPL.match(holder)
@@ -374,7 +378,7 @@ def function_of(source, lines, first, last):
     return Function(f"+{cycle}" if cycle else way, way.replace("/", "::"), proofs, source, first + 1, last + 1, above + 1)
 
 
-def edit_of_functions(rt, crate, file):
+def edit_of_functions(rt: Any, crate: Any, file: str) -> Edit | None:
     """The edit of this file, or None where it changes more than bodies of functions and imports of a source file."""
     texts, why = rt.read_edit(file, crate.folder)
     if why or len(texts) != 1:
@@ -391,16 +395,16 @@ def edit_of_functions(rt, crate, file):
     spans = {function_at(before, at) for at in {*changed, *called} - imports}
     if not spans or None in spans:
         return None
-    functions = [function_of(source, before, *it) for it in sorted(spans)]
+    functions = [function_of(source, before, *it) for it in sorted(it for it in spans if it)]
     return None if None in functions else Edit(file, functions, source, changed)
 
 
-def functions_checked(rt, crate, texts, paths, kept):
+def functions_checked(rt: Any, crate: Any, texts: Mapping[str, str], paths: Iterable[str], kept: str) -> Any:
     """Checks the functions of these paths alone, in a copy of the crate with these texts."""
     return rt.checked(crate, texts, ["--jobs", "1", *(word for it in sorted({*paths}) for word in ("--only", it))], kept)
 
 
-def holder_of(lines, function):
+def holder_of(lines: Sequence[str], function: Function) -> str:
     """The type whose method a function is, or an empty text."""
     if lines[function.head - 1][:1] != " ":
         return ""
@@ -409,7 +413,7 @@ def holder_of(lines, function):
     return held[1] if held else ""
 
 
-def lines_of(said, function):
+def lines_of(said: Iterable[str], function: Function) -> list[str]:
     """The lines of a check that are of a function: of its lines, or of the files of its proof."""
     told = []
     for it in said:
@@ -419,28 +423,30 @@ def lines_of(said, function):
     return told
 
 
-def is_refused_itself(said, function) -> bool:
+def is_refused_itself(said: Iterable[str], function: Function) -> bool:
     """Whether a check has refused a function for what it does: not for a function that it calls, and not for a name alone."""
     told = lines_of(said, function)
     return any(": error" in it and not NAMES.match(it) or it.startswith("note: src/") and "is not proved" in it for it in told)
 
 
-def refused_in_rounds(rt, crate, edits, kept):
+def refused_in_rounds(rt: Any, crate: Any, edits: list[Edit], kept: str) -> dict[str, bool]:
     """Tries edits of functions' bodies, in a round one of each function. Returns the files of those that the prover
     refused, with whether that was by the clause that they name. A function is not looked at where one that it calls is
     refused: so those that are left are tried in rounds again, and at last each by itself."""
-    refused, left, most = {}, edits, len(edits)
+    refused: dict[str, bool] = {}
+    left, most = edits, len(edits)
     while left:
-        rounds = []
+        rounds: list[list[Edit]] = []
         for edit in left:
             whole = {it.whole for it in edit.functions}
             is_free = lambda it: whole.isdisjoint(one.whole for other in it for one in other.functions)
             at = next((it for it in rounds if len(it) < most and is_free(it)), None)
             if at is None:
-                rounds.append(at := [])
+                at = []
+                rounds.append(at)
             at.append(edit)
         for at in rounds:
-            texts = {}
+            texts: dict[str, list[str]] = {}
             for edit in at:
                 text = pathlib.Path(crate.folder, edit.source).read_text(encoding="utf-8")
                 lines = texts.setdefault(edit.source, text.split("\n"))
@@ -456,7 +462,7 @@ def refused_in_rounds(rt, crate, edits, kept):
     return refused
 
 
-def refused_of(rt, crate, edits, texts, kept):
+def refused_of(rt: Any, crate: Any, edits: list[Edit], texts: Mapping[str, str], kept: str) -> dict[str, bool]:
     """Checks the functions of these edits alone, with these texts. Returns the files of the edits that the prover refused,
     with whether that was by the clause that they name."""
     ran = functions_checked(rt, crate, texts, [one.path for it in edits for one in it.functions], kept)
@@ -467,10 +473,13 @@ def refused_of(rt, crate, edits, texts, kept):
     return {it.file: is_by_its_clause(rt, crate, it.file, it, said, how) for it in edits if any(is_refused_itself(said, one) for one in it.functions)}
 
 
-def edit_of_clause(rt, crate, file):
+def edit_of_clause(rt: Any, crate: Any, file: str) -> Edit | None:
     """The edit of this file as one of the function whose clause it names, where one of the crate's functions alone has that name."""
-    clause, found = clause_of(file), []
-    for path in repository.files(pathlib.Path(crate.folder, "src")) if clause and clause.kind == "ensures" else ():
+    clause = clause_of(file)
+    found: list[Function | None] = []
+    if not clause or clause.kind != "ensures":
+        return None
+    for path in repository.files(pathlib.Path(crate.folder, "src")):
         lines, source = path.read_text(encoding="utf-8").split("\n"), str(path.relative_to(crate.folder))
         for at, line in enumerate(lines):
             head = HEAD.match(line)
@@ -483,7 +492,7 @@ def edit_of_clause(rt, crate, file):
     return Edit(file, found, found[0].source, {}) if len(found) == 1 and found[0] else None
 
 
-def try_edits(rt, crate):
+def try_edits(rt: Any, crate: Any) -> tuple[int, int]:
     """Tries the edits of a crate, over work of a check of what is edited, or of the crate itself, and counts them."""
     started, flags = time.time(), ["--jobs", "1"]
     kept = f"{crate.folder}/out/incremental"
@@ -491,7 +500,7 @@ def try_edits(rt, crate):
     good, bad = rt.edits_of(crate)
     for file in bad:
         say(f"{crate.name}/{os.path.basename(file)}: BAD EDIT: its name is of letters, digits, _, - and . and ends in .edit")
-    refused = {}
+    refused: dict[str, bool] = {}
     if crate.is_built():
         refused = refused_in_rounds(rt, crate, [it for it in (edit_of_functions(rt, crate, file) for file in good) if it], kept)
         for file in (it for it in good if it not in refused):
@@ -505,9 +514,9 @@ def try_edits(rt, crate):
             say(f"{crate.name}: NOT PROVED as it stands, so its edits were not tried; what was said last:")
             say("\n".join(first.stdout.splitlines()[-12:]))
             return 0, len(good) + len(bad)
-        for edit in left:
-            found = rt.must_fail(crate, edit, flags, kept)
-            passed += tell(rt, crate, edit, found if is_refused(rt, found) else rt.must_fail(crate, edit, flags))
+        for file in left:
+            found = rt.must_fail(crate, file, flags, kept)
+            passed += tell(rt, crate, file, found if is_refused(rt, found) else rt.must_fail(crate, file, flags))
         if rt.checked(crate, {}, flags, kept).returncode:
             # What an edit left behind may then be why a later one was refused.
             say(f"{crate.name}: is no longer proved over the work of its edits: each of them again, from nothing")
@@ -516,7 +525,7 @@ def try_edits(rt, crate):
     return passed, len(good) + len(bad) - passed
 
 
-def try_crates(lines, names, kit, jobs, folder):
+def try_crates(lines: Mapping[str, str], names: Sequence[str], kit: str, jobs: int, folder: pathlib.Path) -> tuple[int, int]:
     """Tries the edits of these crates in a copy, records those that were all refused, and counts the edits."""
     # Where rt puts what it makes for a check.
     tempfile.tempdir = str(folder / "rooms")
@@ -531,7 +540,7 @@ def try_crates(lines, names, kit, jobs, folder):
     if jobs != rt.processors():
         os.environ["RT_JOBS"] = str(jobs)
 
-    def tried(name, given):
+    def tried(name: str, given: Any) -> tuple[int, int]:
         if not all(given[it.name, "lib"] for it in crates[name].below()):
             say(f"{name}: a library below is not proved, so its edits were not tried")
             counts = 0, len(edits(top, name))
@@ -546,7 +555,7 @@ def try_crates(lines, names, kit, jobs, folder):
             record(lines, {name: row if is_well else None})
         return counts
 
-    tasks = {}
+    tasks: dict[tuple[str, str], Any] = {}
     for name, crate in crates.items():
         waits = [(it.name, "lib") for it in crate.below()]
         weight, memory = crate.count(rb"\n"), rt.need(crate)
@@ -559,15 +568,15 @@ def try_crates(lines, names, kit, jobs, folder):
     return sum(it[0] for it in counts), sum(it[1] for it in counts)
 
 
-def end(passed, failed):
+def end(passed: int, failed: int) -> int:
     say(f"try_wrong_bodies: {passed} passed, {failed} failed")
     return 1 if failed else 0
 
 
-def in_own_folder(work):
+def in_own_folder(work: Callable[[pathlib.Path], int]) -> int:
     """Does the work in a process of its own, with a temporary folder that is gone afterwards, however that ends."""
 
-    def stop(number, _: object) -> None:
+    def stop(number: int, _: object) -> None:
         sys.exit(128 + number)
 
     for it in (signal.SIGINT, signal.SIGTERM, signal.SIGHUP):

@@ -24,6 +24,8 @@ import re
 import subprocess
 import sys
 import tempfile
+from collections.abc import Callable, Iterable, Mapping
+from typing import Any
 
 from gate import cases, switched
 from gate.tried import TOP
@@ -40,22 +42,24 @@ class Edit:
     name: str
     file: str = ""
     title: str = ""
-    gone: list = dataclasses.field(default_factory=list)
-    told: list = dataclasses.field(default_factory=list)
-    changes: list = dataclasses.field(default_factory=list)
+    gone: list[str] = dataclasses.field(default_factory=list)
+    told: list[str] = dataclasses.field(default_factory=list)
+    changes: list[tuple[pathlib.Path, str, str]] = dataclasses.field(default_factory=list)
 
     def is_served(self) -> bool:
         """Whether its case is one of a server."""
         return self.file.startswith("cases/serve/")
 
-    def marks(self):
+    def marks(self) -> set[tuple[str | pathlib.Path, str]]:
         """What no other edit of the same program may have."""
         return {(self.file, self.title), *((file, old) for file, old, _ in self.changes)}
 
 
-def read_edit(path):
+def read_edit(path: pathlib.Path) -> Edit:
     """The edit of this file. What stands behind a word and a space is the line, with the spaces that it begins with."""
-    edit, file, old = Edit(f"{path.parent.parent.name}/{path.stem}"), None, None
+    edit = Edit(f"{path.parent.parent.name}/{path.stem}")
+    file: pathlib.Path | None = None
+    old: str | None = None
     for line in path.read_text(encoding="utf-8").splitlines():
         key, _, text = line.partition(": ")
         if key == "case":
@@ -67,11 +71,12 @@ def read_edit(path):
         elif key == "old":
             old = text
         elif key == "new":
+            assert file and old is not None, f"{path}: a line comes for none of a file"
             edit.changes.append((file, old, text))
     return edit
 
 
-def fault_of(edit):
+def fault_of(edit: Edit) -> str:
     """Why an edit cannot be tried, or nothing."""
     if not edit.changes or bool(edit.gone or edit.told) == edit.is_served():
         return "it changes no line, or tells no line of the answer, or one of a session"
@@ -81,7 +86,7 @@ def fault_of(edit):
     return "" if case_of(edit) else f"no case `{edit.title}` in {edit.file}"
 
 
-def case_of(edit):
+def case_of(edit: Edit) -> Any:
     """The case that an edit names, or None."""
     path = TOP / edit.file
     if edit.is_served():
@@ -89,9 +94,9 @@ def case_of(edit):
     return next((it for it in cases.cases_of(path) if it.title == edit.title), None) if path.is_file() else None
 
 
-def rounds_of(edits):
+def rounds_of(edits: Iterable[Edit]) -> list[list[Edit]]:
     """The edits that tell lines, in rounds: those of a round can be on in one program."""
-    rounds = []
+    rounds: list[list[Edit]] = []
     for edit in edits:
         fits = [it for it in rounds if not any(edit.marks() & other.marks() for other in it)]
         if fits:
@@ -101,7 +106,7 @@ def rounds_of(edits):
     return rounds
 
 
-def can_be_off(edit):
+def can_be_off(edit: Edit) -> bool:
     """Whether an edit can stand in a program and be off."""
     try:
         for file, old, new in edit.changes:
@@ -111,25 +116,25 @@ def can_be_off(edit):
     return True
 
 
-def on(edits):
+def on(edits: Iterable[Edit]) -> dict[pathlib.Path, str]:
     """What changes the sources so that these edits are on: the text of each of their files, as it then is."""
-    texts = {}
+    texts: dict[pathlib.Path, str] = {}
     for file, old, new in (it for edit in edits for it in edit.changes):
         text = texts.get(file) or (TOP / file).read_text(encoding="utf-8")
         texts[file] = text.replace(old + "\n", new + "\n")
     return texts
 
 
-def off(edits):
+def off(edits: Iterable[Edit]) -> dict[pathlib.Path, str]:
     """The same so that each of these edits is there and off; the first one has the number 1."""
-    found = {}
+    found: dict[pathlib.Path, list[tuple[int, str, str]]] = {}
     for number, edit in enumerate(edits, 1):
         for file, old, new in edit.changes:
             found.setdefault(file, []).append((number, old, new))
     return {file: switched.with_edits((TOP / file).read_text(encoding="utf-8"), changes) for file, changes in found.items()}
 
 
-def built(texts, folder):
+def built(texts: Mapping[pathlib.Path, str], folder: str) -> tuple[pathlib.Path | None, str]:
     """The program with these texts in place of files, and why there is none."""
     top = pathlib.Path(folder) / "repo"
     ready.copy_sources(top)
@@ -141,7 +146,7 @@ def built(texts, folder):
         return None, str(stop)
 
 
-def answer(case, program):
+def answer(case: cases.Case, program: pathlib.Path) -> bytes:
     """What the program answers to a case: its output and its errors, where an input is named by its name."""
     with tempfile.TemporaryDirectory(prefix="cases-") as folder:
         placed = cases.Placed(case, program, folder)
@@ -150,28 +155,29 @@ def answer(case, program):
         return ran.stdout + ran.stderr.replace(os.fsencode(folder) + b"/", b"")
 
 
-def differences(wanted, found):
+def differences(wanted: bytes, found: bytes) -> tuple[list[str], list[str]]:
     """The lines that only the first text has, and those that only the second one has, in their order."""
     a, b = wanted.decode(errors="replace").splitlines(), found.decode(errors="replace").splitlines()
-    gone, told = [], []
+    gone: list[str] = []
+    told: list[str] = []
     for what, first, last, at, end in difflib.SequenceMatcher(None, a, b, autojunk=False).get_opcodes():
         if what != "equal":
             gone, told = gone + a[first:last], told + b[at:end]
     return gone, told
 
 
-def passes(edit, program):
+def passes(edit: Edit, program: pathlib.Path) -> tuple[bool, str]:
     """Whether the case of a server that an edit names passes, and what was said of it."""
-    words = [TOP / "gate" / "run_sessions", "--program", program, edit.title]
+    words: list[str | pathlib.Path] = [TOP / "gate" / "run_sessions", "--program", program, edit.title]
     ran = subprocess.run(words, stdin=subprocess.DEVNULL, capture_output=True, text=True)
     return not re.search(r": 0 passed, [1-9]\d* failed$", ran.stdout.strip()), ran.stdout[-500:]
 
 
-def said_of(edit, program):
+def said_of(edit: Edit, program: pathlib.Path) -> str:
     """What is wrong with what the program answers to the case of an edit, or nothing."""
     if edit.is_served():
-        told, said = passes(edit, program)
-        return f"its case passes:\n{said}" if told else ""
+        is_passed, said = passes(edit, program)
+        return f"its case passes:\n{said}" if is_passed else ""
     case = case_of(edit)
     try:
         gone, told = differences((case.output or b"") + case.error, answer(case, program))
@@ -184,7 +190,7 @@ def said_of(edit, program):
     return "its case fails otherwise:\n" + "\n".join([*(f"    gone: {it}" for it in gone), *(f"    told: {it}" for it in told)])
 
 
-def try_switched(edits, tell) -> None:
+def try_switched(edits: Iterable[Edit], tell: Callable[[Edit, str], object]) -> None:
     """Tries edits that stand in one program, each of them off, and tells of each what is wrong."""
     with tempfile.TemporaryDirectory(prefix="wrong-by-case-") as folder:
         program, why = built(off(edits), folder)
@@ -212,7 +218,7 @@ def main() -> int:
         edits += [read_edit(path) for path in paths if stem in ("", path.stem)]
     said = {}
 
-    def tell(edit, fault) -> None:
+    def tell(edit: Edit, fault: str) -> None:
         """Says what is wrong with an edit, as soon as it is known."""
         said[edit.name] = fault
         print(f"{edit.name}: {fault or 'caught by its case'}", flush=True)

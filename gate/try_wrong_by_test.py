@@ -24,10 +24,16 @@ FOLDER = "wrong-by-test"
 SECONDS = 300
 TOLD = re.compile(r"^test (\S+) \.\.\. (\w+)", re.M)
 
+# A file of the repository, the line to go, and the one to come.
+Change = tuple[pathlib.Path, str, str]
 
-def read_edit(path):
+
+def read_edit(path: pathlib.Path) -> tuple[str, list[Change]]:
     """The test that an edit names, and its changes: a file of the repository with a line to go and one to come."""
-    test, file, old, changes = None, None, None, []
+    test: str | None = None
+    file: pathlib.Path | None = None
+    old: str | None = None
+    changes: list[Change] = []
     for line in path.read_text(encoding="utf-8").splitlines():
         key, _, text = line.partition(": ")
         if key == "test":
@@ -37,14 +43,16 @@ def read_edit(path):
         elif key == "old":
             old = text
         elif key == "new":
+            assert file and old is not None, f"{path}: a line comes for none of a file"
             changes.append((file, old, text))
+    assert test is not None, f"{path} names no test"
     return test, changes
 
 
-def look_at(name, path):
+def look_at(name: str, path: pathlib.Path) -> str | None:
     """Says what is wrong, where an edit does not apply, or its test is not there."""
     test, changes = read_edit(path)
-    texts = {}
+    texts: dict[pathlib.Path, str] = {}
     for file, old, new in changes:
         text = texts.get(file) or file.read_text(encoding="utf-8")
         if text.count(old + "\n") != 1:
@@ -57,7 +65,7 @@ def look_at(name, path):
     return None
 
 
-def try_edit(name, path, folder):
+def try_edit(name: str, path: pathlib.Path, folder: str) -> str | None:
     """Says what is wrong, where the test does not fail under an edit."""
     test, changes = read_edit(path)
     top = pathlib.Path(folder)

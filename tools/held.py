@@ -3,11 +3,14 @@ of `take_slot; give_slot` a slot is held."""
 import collections
 import dataclasses
 import re
+from collections.abc import Callable, Collection, Iterable, Iterator, Sequence as Sequence_
 
-from gate.slow_world import Any, Bound, Burst, Name, Sequence
+from gate.slow_world import Any, Bound, Burst, Name, Node, Sequence
 from tools import traced
 
 TOKEN = re.compile(r"(\{[^}]*\}|\(\*.*?\*\)|\s+)|('(?:[^'\n]|'')*'|[a-z][a-z0-9_]*|[0-9]+|.)", re.DOTALL)
+
+Nodes = list[Node]
 
 
 class Unread(Exception):
@@ -17,29 +20,31 @@ class Unread(Exception):
 class Reader:
     """Reads constants and paths of one object, from its tokens."""
 
-    def __init__(self, tokens) -> None:
-        self.tokens, self.constants = tokens[::-1], {}
+    def __init__(self, tokens: list[str]) -> None:
+        self.tokens = tokens[::-1]
+        self.constants: dict[str, int] = {}
 
-    def next(self, *wanted):
+    def next(self, *wanted: str) -> str | None:
         """Takes the next token, where it is one of these (any where none is given)."""
         if self.tokens and (not wanted or self.tokens[-1] in wanted):
             return self.tokens.pop()
         return None
 
-    def must(self, *wanted):
+    def must(self, *wanted: str) -> str:
         found = self.next(*wanted)
         if found is None:
             raise Unread(f"{self.tokens[-1] if self.tokens else 'the end'} stands where {' or '.join(wanted)} is due")
         return found
 
-    def paths(self):
+    def paths(self) -> Nodes:
         """The paths of the object."""
-        found = []
+        found: Nodes = []
         self.next()
         self.must(";")
         if self.next("const"):
             while self.tokens and self.tokens[-1] not in ("path", "var", "entry", "end"):
                 name = self.next()
+                assert name is not None
                 self.must("=")
                 self.constants[name] = self.number(self.next() or "")
                 self.must(";")
@@ -49,24 +54,25 @@ class Reader:
             self.must(";")
         return found
 
-    def number(self, word):
+    def number(self, word: str) -> int:
         if not word.isdecimal():
             raise Unread(f"{word} stands where a number is due")
         return int(word)
 
-    def several(self, kind, sign, member):
+    def several(self, kind: Callable[..., Node], sign: str, member: Callable[[], Node]) -> Node:
         found = [member()]
         while self.next(sign):
             found.append(member())
         return found[0] if len(found) == 1 else kind(*found)
 
-    def list(self):
+    def list(self) -> Node:
         return self.several(Any, ",", self.sequence)
 
-    def sequence(self):
+    def sequence(self) -> Node:
         return self.several(Sequence, ";", self.item)
 
-    def item(self):
+    def item(self) -> Node:
+        found: Node
         if self.next("("):
             found = self.list()
             self.must(")")
@@ -87,7 +93,7 @@ class Reader:
         return found
 
 
-def paths_of(source, name):
+def paths_of(source: str, name: str) -> Nodes:
     """The paths of the object of this name in a source."""
     tokens = [it for _, it in TOKEN.findall(source.lower()) if it]
     starts = [at for at, it in enumerate(tokens) if it == "object"]
@@ -97,7 +103,7 @@ def paths_of(source, name):
     raise Unread(f"there is no object {name}")
 
 
-def text_of(node, is_alone=True):
+def text_of(node: Node, is_alone: bool = True) -> str:
     """The text of a node, in parentheses where it stands in another one and needs them."""
     if isinstance(node, Name):
         return node.op
@@ -109,7 +115,7 @@ def text_of(node, is_alone=True):
     return said if is_alone else f"({said})"
 
 
-def nodes_of(node):
+def nodes_of(node: Node) -> Iterator[Node]:
     yield node
     for it in getattr(node, "members", None) or ([node.inner] if hasattr(node, "inner") else []):
         yield from nodes_of(it)
@@ -126,7 +132,7 @@ class Hold:
     given: int | None = None
 
     @property
-    def session(self):
+    def session(self) -> int | None:
         """In whose row it is drawn: it is of the session that took it; of one that was held before nobody tells, and so
         it is of the one that gave it back."""
         return self.taker.session if self.taker else self.giver.session if self.giver else None
@@ -137,11 +143,11 @@ class Turn:
     """A `;`: its text, how many it holds behind each event (and before the first), and what it holds."""
 
     text: str
-    counts: list
-    holds: list
+    counts: list[int]
+    holds: list[Hold]
 
 
-def events_of(calls):
+def events_of(calls: Sequence_[traced.Call]) -> Iterator[tuple[str, str]]:
     """The starts and ends that a path counts; a call that was cancelled is none of them."""
     for place, call in enumerate(calls, 1):
         yield "cancel" if call.start is None else "start" if call.start == place else "end", call.operation
@@ -150,20 +156,22 @@ def events_of(calls):
 class Holding:
     """What is held at a moment."""
 
-    def __init__(self, count) -> None:
+    def __init__(self, count: int) -> None:
         self.holds = [Hold(None, 0) for _ in range(count)]
-        self.oldest, self.own = collections.deque(self.holds), collections.defaultdict(list)
+        self.oldest = collections.deque(self.holds)
+        self.own: collections.defaultdict[int, list[Hold]] = collections.defaultdict(list)
 
-    def take(self, call, place) -> None:
+    def take(self, call: traced.Call, place: int) -> None:
         one = Hold(call, place)
         self.holds.append(one)
         self.oldest.append(one)
         self.own[call.session].append(one)
 
-    def give(self, call, place) -> None:
+    def give(self, call: traced.Call, place: int) -> None:
         """A call uses up the newest of its own session, else the oldest of all: a path does not tell which."""
         own = self.own[call.session]
-        for found, pop in ((own, own.pop), (self.oldest, self.oldest.popleft)):
+        ways: tuple[tuple[Collection[Hold], Callable[[], Hold]], ...] = ((own, own.pop), (self.oldest, self.oldest.popleft))
+        for found, pop in ways:
             while found:
                 one = pop()
                 if one.given is None:
@@ -171,7 +179,7 @@ class Holding:
                     return
 
 
-def turn_of(text, sides, calls, past):
+def turn_of(text: str, sides: tuple[Node, Node], calls: Sequence_[traced.Call], past: Sequence_[tuple[str, str]]) -> Turn:
     """What a `;` between these two sides holds."""
     events = [*past, *events_of(calls)]
     ended, started = sides[0].ended(events), sides[1].started(events)
@@ -186,10 +194,10 @@ def turn_of(text, sides, calls, past):
     return Turn(text, counts, holding.holds)
 
 
-def turns_of(paths, calls, past):
+def turns_of(paths: Iterable[Node], calls: Sequence_[traced.Call], past: Sequence_[tuple[str, str]]) -> list[Turn]:
     """What each `;` of these paths holds, where it ever holds something; `calls` has of each event its call, and `past`
     what the paths had counted before."""
-    sides = {}
+    sides: dict[str, tuple[Node, Node]] = {}
     for node in (it for path in paths for it in nodes_of(path) if isinstance(it, Sequence)):
         for left, right in zip(node.members, node.members[1:]):
             sides.setdefault(f"{text_of(left, False)}; {text_of(right, False)}", (left, right))

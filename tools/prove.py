@@ -9,11 +9,13 @@ each took, for the next run to say how long it may take. The exit status is 0, o
 and then one line says why; no half of a result stays.
 """
 import os
+import pathlib
 import re
 import selectors
 import subprocess
 import sys
 import time
+from collections.abc import Sequence
 
 from tools import progress, ready, repository
 
@@ -21,12 +23,14 @@ from tools import progress, ready, repository
 SILENCE = 60
 
 
-def heard_out(words, folder, run):
+def heard_out(words: Sequence[str | pathlib.Path], folder: pathlib.Path, run: progress.Progress) -> tuple[int, str]:
     """Runs `rt ci` in this folder, tells how far it is, and returns its exit status and all that it said."""
-    said, rest = [], b""
+    said: list[str] = []
+    rest = b""
     with subprocess.Popen(
         words, cwd=folder, stdin=subprocess.DEVNULL, stdout=subprocess.PIPE, stderr=subprocess.STDOUT
     ) as ran, selectors.DefaultSelector() as waits:
+        assert ran.stdout
         waits.register(ran.stdout, selectors.EVENT_READ)
         try:
             due = time.monotonic() + SILENCE
@@ -52,7 +56,7 @@ def heard_out(words, folder, run):
     return ran.returncode, "\n".join(said)
 
 
-def reason(status, said):
+def reason(status: int, said: str) -> str:
     """What failed: the first crate that is not proved, and why."""
     crate = re.search(r"^rt: (\w+)(?:: its tests are)? NOT PROVED", said, re.M)
     if not crate or "the disk is full" in ready.reason(status, said):

@@ -18,7 +18,7 @@ import signal
 import subprocess
 import sys
 import tempfile
-from collections.abc import Iterator
+from collections.abc import Callable, Iterator, Mapping
 
 from tools import repository
 from tools.repository import TOP
@@ -42,11 +42,11 @@ class Stop(Exception):
     """Why there is no program, in one line."""
 
 
-def say(text) -> None:
+def say(text: object) -> None:
     print(f"pathserve: {text}", file=sys.stderr, flush=True)
 
 
-def kit():
+def kit() -> pathlib.Path:
     """The folder of the Rattle kit."""
     found = shutil.which("rt")
     if not found:
@@ -54,21 +54,21 @@ def kit():
     return pathlib.Path(os.path.realpath(found)).parent.parent
 
 
-def needed(folder, *names) -> None:
+def needed(folder: pathlib.Path, *names: str) -> None:
     """Stops where the kit in this folder lacks one of these files."""
     for name in names:
         if not (folder / name).exists():
             raise Stop(f"the Rattle kit in {folder} lacks {name}")
 
 
-def stands_on(lines, program=PROGRAM):
+def stands_on(lines: Mapping[str, str], program: str = PROGRAM) -> list[str]:
     """The crates of a program, each after those that it stands on."""
     if program not in lines:
         raise Stop(f"crates.txt has no line for {program}")
     return [*repository.below(lines, program), program]
 
 
-def of_kit(lines, folder, program=PROGRAM):
+def of_kit(lines: Mapping[str, str], folder: pathlib.Path, program: str = PROGRAM) -> dict[str, list[str]]:
     """The crates of the kit in this folder that a program stands on, each with those that it uses."""
     waiting, found = ["std", "core"], {}
     for crate in stands_on(lines, program):
@@ -83,12 +83,12 @@ def of_kit(lines, folder, program=PROGRAM):
     return found
 
 
-def digest(top, of_kit):
+def digest(top: pathlib.Path, of_kit: pathlib.Path) -> str:
     """The sha256 of all that a proof of the program reads: the kit's name, HANDLES, and of each crate of the program
     its line in crates.txt and its files."""
     summed = hashlib.sha256()
 
-    def add(part) -> None:
+    def add(part: bytes) -> None:
         summed.update(b"%d:" % len(part) + part)
 
     add((of_kit / "KIT-ID").read_bytes())
@@ -102,7 +102,7 @@ def digest(top, of_kit):
     return summed.hexdigest()
 
 
-def copy_sources(to, program=PROGRAM) -> None:
+def copy_sources(to: pathlib.Path, program: str = PROGRAM) -> None:
     """Copies what a program is built from: the lines and the folders of its crates, but no wrong bodies, and not what was
     built of them."""
     to.mkdir(parents=True)
@@ -118,18 +118,18 @@ def copy_sources(to, program=PROGRAM) -> None:
     shutil.copyfile(TOP / "HANDLES", to / "HANDLES")
 
 
-def sha256(file):
+def sha256(file: pathlib.Path) -> str:
     return hashlib.sha256(file.read_bytes()).hexdigest()
 
 
-def text_of(file):
+def text_of(file: pathlib.Path) -> str | None:
     try:
         return file.read_text(encoding="utf-8")
     except (OSError, ValueError):
         return None
 
 
-def write(file, text) -> None:
+def write(file: pathlib.Path, text: str) -> None:
     """Writes a file so that it stands whole, or is as it was."""
     new = file.with_name(f"{file.name}.{os.getpid()}.new")
     try:
@@ -142,14 +142,14 @@ def write(file, text) -> None:
         new.unlink(missing_ok=True)
 
 
-def stands(kind, of_sources):
+def stands(kind: str, of_sources: str) -> bool:
     """Whether a whole program of this kind stands that was built from the sources of this digest."""
     program = OUT / kind / PROGRAM
     told = text_of(OUT / kind / f"{PROGRAM}.sources")
     return told is not None and os.access(program, os.X_OK) and told == f"{of_sources}\n{sha256(program)}\n"
 
 
-def place(program, folder):
+def place(program: pathlib.Path, folder: pathlib.Path) -> str:
     """Copies a program into a folder, where it stands whole or is as it was, and returns its digest."""
     folder.mkdir(parents=True, exist_ok=True)
     new = folder / f"{PROGRAM}.new"
@@ -165,18 +165,18 @@ def place(program, folder):
     return summed
 
 
-def put(kind, program, of_sources) -> None:
+def put(kind: str, program: pathlib.Path, of_sources: str) -> None:
     """Has this program stand as the one of its kind, built from the sources of this digest."""
     summed = place(program, OUT / kind)
     # Until this is written, what stands there of the one before names another program.
     write(OUT / kind / f"{PROGRAM}.sources", f"{of_sources}\n{summed}\n")
 
 
-def look():
+def look() -> str:
     return subprocess.run([TOP / "tools" / "look"], stdout=subprocess.PIPE, text=True).stdout
 
 
-def choose():
+def choose() -> str | None:
     """The kind of the program to run: the proved one, or else the other, where that was built from the sources as they
     are; else None."""
     before, of_sources = look(), digest(TOP, kit())
@@ -190,7 +190,7 @@ def choose():
     return None
 
 
-def given_words():
+def given_words() -> list[str]:
     """The words of this tool's command line but `--program FILE`, which `program` heeds."""
     words = sys.argv[1:]
     if FLAG in words[:-1]:
@@ -200,7 +200,7 @@ def given_words():
 
 
 @functools.cache
-def program():
+def program() -> pathlib.Path:
     """The program that this tool tries: FILE where its command line has `--program FILE`, or else the one that its
     environment names, or else the one that ./pathserve runs, which is built first where none stands. Where there is
     none this tool ends."""
@@ -226,7 +226,7 @@ def new_folder(prefix: str = "pathserve-", room: pathlib.Path | str | None = Non
 
 
 @contextlib.contextmanager
-def turn(kind):
+def turn(kind: str) -> Iterator[None]:
     """Waits while another call builds a program of this kind."""
     OUT.mkdir(exist_ok=True)
     with open(OUT / f"{kind}.lock", "w") as lock:
@@ -238,7 +238,7 @@ def turn(kind):
         yield
 
 
-def is_left(folder) -> bool:
+def is_left(folder: pathlib.Path) -> bool:
     """Whether no build uses this folder: each locks a file in its own."""
     try:
         with open(folder / "lock", "rb") as lock:
@@ -249,7 +249,7 @@ def is_left(folder) -> bool:
 
 
 @contextlib.contextmanager
-def room(kind):
+def room(kind: str) -> Iterator[pathlib.Path]:
     """A new folder for a build, outside the repository, where no check of it looks. What killed builds left goes."""
     mark = f"pathserve-{kind}-"
     for left in filter(is_left, ROOMS.glob(f"{mark}*")):
@@ -263,7 +263,7 @@ def room(kind):
         shutil.rmtree(folder, ignore_errors=True)
 
 
-def reason(status, said):
+def reason(status: int, said: str) -> str:
     """Why a command failed: by its status and what it said, of which that is the first error, or else the last line."""
     if FULL in said or "the disk is full" in said:
         return "the disk is full"
@@ -274,7 +274,7 @@ def reason(status, said):
     return (found or lines[-1:] or [f"it ended with status {status}"])[0][:300]
 
 
-def keep_log(kind, said):
+def keep_log(kind: str, said: str) -> str:
     """Keeps all that the commands of a build said, and returns where; none where it can't be written."""
     file = OUT / f"{kind}.log"
     with contextlib.suppress(OSError):
@@ -283,11 +283,11 @@ def keep_log(kind, said):
     return ""
 
 
-def end(number, _: object) -> None:
+def end(number: int, _: object) -> None:
     raise SystemExit(128 + number)
 
 
-def ran(work):
+def ran(work: Callable[[], object]) -> int:
     """Does the work of a tool, and returns its exit status: where there is no program, one line says why."""
     for it in (signal.SIGTERM, signal.SIGHUP):
         signal.signal(it, end)

@@ -28,6 +28,8 @@ import shutil
 import subprocess
 import sys
 import tarfile
+from collections.abc import Mapping
+from typing import Any
 
 from tools import ready, repository
 from tools.repository import TOP
@@ -43,7 +45,7 @@ GIVEN = (
 MACHINE, DEBIAN = "x86_64", "amd64"
 
 
-def said(*words, **more):
+def said(*words: object, **more: Any) -> str:
     """What a command says that has to do."""
     ran = subprocess.run([str(it) for it in words], cwd=TOP, stdin=subprocess.DEVNULL, capture_output=True, text=True, **more)
     if ran.returncode:
@@ -55,7 +57,7 @@ def said(*words, **more):
 class Commit:
     """The commit that is released."""
 
-    def __init__(self, is_proved) -> None:
+    def __init__(self, is_proved: bool) -> None:
         self.name, self.time = said("git", "log", "-1", "--format=%H %ct").split()
         is_changed = bool(said("git", "status", "--porcelain").strip())
         if is_changed and is_proved:
@@ -64,7 +66,7 @@ class Commit:
         self.files = said("git", "ls-files", "-z", "--", *GIVEN).split("\0")[:-1]
 
 
-def the_program(is_proved):
+def the_program(is_proved: bool) -> tuple[pathlib.Path, str | None]:
     """The program that is released, and the digest of its sources where it was built from these."""
     of_sources = ready.digest(TOP, ready.kit())
     if is_proved:
@@ -75,7 +77,7 @@ def the_program(is_proved):
     return program, of_sources if ready.stands(ready.UNPROVED, of_sources) and program.parent == ready.OUT / ready.UNPROVED else None
 
 
-def version_of(program):
+def version_of(program: pathlib.Path) -> str:
     """The version, which the program and CHANGELOG.md have to say alike."""
     found = re.fullmatch(r"pathserve (\d+\.\d+\.\d+)\n", said(program, "--version"))
     first = re.search(r"(?m)^## (\d+\.\d+\.\d+)$", (TOP / "CHANGELOG.md").read_text(encoding="utf-8"))
@@ -84,7 +86,7 @@ def version_of(program):
     return found[1]
 
 
-def libraries_of(program):
+def libraries_of(program: pathlib.Path) -> tuple[list[str], str | None]:
     """The shared libraries that a program needs, and the version of glibc that it needs at least."""
     ran = subprocess.run(["ldd", program], capture_output=True, text=True)
     names = re.findall(r"^\s+(\S+) => ", ran.stdout, re.M)
@@ -92,7 +94,7 @@ def libraries_of(program):
     return names, ".".join(map(str, max((int(it[0]), int(it[1])) for it in versions))) if versions else None
 
 
-def notices(kit):
+def notices(kit: pathlib.Path) -> str:
     """The licences of the crates of the kit that the program is made of, as the kit has them."""
     text, without = "The program is linked with these crates of the Rattle kit.\n", []
     for name in sorted(ready.of_kit(repository.crates(), kit)):
@@ -108,7 +110,7 @@ def notices(kit):
 class Release:
     """The files of a release, by their paths below its folder: each its bytes, and whether it is a program."""
 
-    def __init__(self, is_proved) -> None:
+    def __init__(self, is_proved: bool) -> None:
         kit = ready.kit()
         commit, (program, of_sources) = Commit(is_proved), the_program(is_proved)
         self.number = version_of(program)
@@ -134,7 +136,7 @@ class Release:
         self.files["RELEASE"] = "".join(f"{name}: {it}\n" for name, it in lines.items()).encode()
         self.files["SHA256SUMS"] = sums(self.files)
 
-    def write_archive(self, file) -> None:
+    def write_archive(self, file: pathlib.Path) -> None:
         """Writes the tar file."""
         with open(file, "wb") as raw, gzip.GzipFile("", "wb", 9, raw, self.time) as packed:
             with tarfile.TarFile(mode="w", fileobj=packed, format=tarfile.USTAR_FORMAT) as tar:
@@ -145,14 +147,14 @@ class Release:
                     entry.size = len(self.files[path])
                     tar.addfile(entry, io.BytesIO(self.files[path]))
 
-    def place_in(self, path):
+    def place_in(self, path: str) -> str:
         """Where Debian's package has a file of the release."""
         if path == "pathserve" or path.startswith("libexec/"):
             return f"usr/lib/pathserve/{path}"
         names = {"docs/pathserve.1": "usr/share/man/man1/pathserve.1.gz", "LICENSE": "usr/share/doc/pathserve/copyright"}
         return names.get(path, f"usr/share/doc/pathserve/{path}")
 
-    def write_package(self, file, room) -> None:
+    def write_package(self, file: pathlib.Path, room: pathlib.Path) -> None:
         """Writes Debian's package."""
         top = room / "package"
         for path, content in self.files.items():
@@ -175,7 +177,7 @@ class Release:
         env = {**os.environ, "SOURCE_DATE_EPOCH": str(self.time)}
         said("dpkg-deb", "--root-owner-group", "-Zgzip", "--build", top, file, env=env)
 
-    def control(self, size):
+    def control(self, size: int) -> str:
         lines = {
             "Package": "pathserve",
             "Version": self.version,
@@ -194,18 +196,18 @@ class Release:
         return "".join(f"{name}: {it}\n" for name, it in lines.items())
 
 
-def sums(files):
+def sums(files: Mapping[str, bytes]) -> bytes:
     """The lines of `sha256sum` for these files."""
     return "".join(f"{hashlib.sha256(files[it]).hexdigest()}  {it}\n" for it in sorted(files)).encode()
 
 
-def put(file, content, is_program=False) -> None:
+def put(file: pathlib.Path, content: bytes, is_program: bool = False) -> None:
     file.parent.mkdir(parents=True, exist_ok=True)
     file.write_bytes(content)
     file.chmod(0o755 if is_program else 0o644)
 
 
-def work(is_proved, folder) -> None:
+def work(is_proved: bool, folder: pathlib.Path) -> None:
     release = Release(is_proved)
     folder.mkdir(parents=True, exist_ok=True)
     with ready.new_folder("release-", ready.ROOMS) as room:

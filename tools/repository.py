@@ -5,13 +5,15 @@ import itertools
 import os
 import pathlib
 import re
+from collections.abc import Iterable, Mapping, Set
+from typing import Any
 
 TOP = pathlib.Path(__file__).resolve().parent.parent
 # The folders of a crate that a proof reads.
 PARTS = ("src", "specs", "proofs")
 
 
-def crates(top=TOP):
+def crates(top: pathlib.Path = TOP) -> dict[str, str]:
     """The lines of crates.txt by the names of their crates, in the order of the file."""
     lines = {}
     for line in (top / "crates.txt").read_text(encoding="utf-8").splitlines():
@@ -21,7 +23,7 @@ def crates(top=TOP):
     return lines
 
 
-def below(lines, name):
+def below(lines: Mapping[str, str], name: str) -> list[str]:
     """The crates of the repository that a crate stands on, each after those that it stands on itself."""
     found = []
     for library in lines[name].partition(":")[2].replace(",", " ").split():
@@ -30,7 +32,7 @@ def below(lines, name):
     return found
 
 
-def files(folder):
+def files(folder: pathlib.Path) -> list[pathlib.Path]:
     """The files at or below a folder, in the order of their paths; none where there is no such folder."""
     found = [pathlib.Path(at) / name for at, _, names in os.walk(folder) for name in names]
     return sorted(found, key=lambda it: it.relative_to(folder).parts)
@@ -42,15 +44,15 @@ CLAUSES = {"requires", "ensures", "ghost"}
 WORD = re.compile(r"[\w']+")
 
 
-def without_comments(source):
+def without_comments(source: str) -> str:
     return "".join(it for it in PIECE.findall(source) if not it.startswith("//"))
 
 
-def has_macros(source) -> bool:
+def has_macros(source: str) -> bool:
     return "macro_rules!" in source
 
 
-def without_bodies(source):
+def without_bodies(source: str) -> str:
     """A source without comments, without functions that no other crate can name, and without the bodies of the others, but those of
     constant functions, which types may name. What is left are types, constants, imports, and signatures with their clauses."""
     pieces = [it for it in PIECE.findall(source) if not it.startswith("//")]
@@ -59,7 +61,7 @@ def without_bodies(source):
     # What is kept, where in it the item begins that is read, and whether each block that is open is that of a trait or its impl.
     kept, start, blocks, at = [], 0, [], 0
 
-    def behind(opening):
+    def behind(opening: int) -> int:
         """The place behind the brace that closes the one at this place."""
         depth = 0
         for place in range(opening, len(pieces)):
@@ -107,23 +109,23 @@ def without_bodies(source):
 IMPORT = re.compile(r"(?:(pub)(?:\([^)]*\))? )?(ghost )?\buse ([^;{}]*?)(?:\{([^{}]*)\}|(\w+))(?: as (\w+))?;")
 
 
-def known_as(path, item):
+def known_as(path: str, item: str) -> str:
     """The name by which a file knows what it imports from behind this path."""
     name = item.split(" as ")[-1].split("::")[-1].replace("◌", "").strip()
     return WORD.findall(path)[-1] if name == "self" else name
 
 
-def without_spare_names(source):
+def without_spare_names(source: str) -> str:
     """What `without_bodies` left, without the imports that nothing in it names, and without the names of private modules."""
     source = re.sub(r"(?<!pub )\bmod \w+;", "", source)
     rest = IMPORT.sub("", source)
 
-    def is_named(name) -> bool:
+    def is_named(name: str) -> bool:
         if not re.fullmatch(r"[\w']+", name):
             return name in rest
         return re.search(rf"(?<![\w']){name}(?![\w'])", rest) is not None
 
-    def kept(found):
+    def kept(found: re.Match[str]) -> str:
         public, ghost, path, several, one, other = found.groups()
         items = [it.strip() for it in several.split(",")] if several is not None else [f"{one} as {other}" if other else one]
         items = [it for it in items if it and (public or is_named(known_as(path, it)))]
@@ -132,7 +134,7 @@ def without_spare_names(source):
     return " ".join(IMPORT.sub(kept, source).split())
 
 
-def interface(folder):
+def interface(folder: pathlib.Path) -> dict[pathlib.Path, str]:
     """What a proof of a crate above may read of the crate in this folder: its definitions, and of its sources the types, the constants and
     the signatures and clauses of the functions that other crates can name. A call is known by its contract alone. A source
     with a macro is read whole, since what a macro says becomes a body above."""
@@ -142,7 +144,7 @@ def interface(folder):
     private = re.compile(r"\bconst (\w+): [^;{}]*;")
     text = "\n".join([*sources.values(), *specs.values()])
 
-    def kept(found):
+    def kept(found: re.Match[str]) -> str:
         is_public = re.search(r"\bpub(\(\w+\))? $", found.string[: found.start()])
         is_named = len(re.findall(rf"\b{found[1]}\b", text)) > 1
         return found[0] if is_public or is_named else ""
@@ -151,7 +153,7 @@ def interface(folder):
     return {it: text for it, text in {**sources, **specs}.items() if text}
 
 
-def imports_for(imports, text):
+def imports_for(imports: Iterable[tuple[str, ...]], text: str) -> str:
     """Of these imports those that a text names, in one order. The rest of a text means the same without the others, and so
     do the operators of the kit."""
     found = set()
@@ -169,12 +171,17 @@ def imports_for(imports, text):
 BARE_IMPL = re.compile(r"\bimpl\b(?:(?!\bfor\b)[^{};])*\{\s*\}")
 
 
-def functions_apart(source):
+def functions_apart(source: str) -> tuple[str, list[tuple[str, str, str | None]]]:
     """A source of an interface without its functions, and these as names, texts, and the head of the impl in which each
     stands, or None. Each text has the imports that it names. Methods of traits and of their impls stay, and so do constant
     functions."""
     imports = IMPORT.findall(source)
-    pieces, rest, found, header, blocks, heads, at = PIECE.findall(IMPORT.sub("", source)), [], [], [], [], [], 0
+    pieces, at = PIECE.findall(IMPORT.sub("", source)), 0
+    rest: list[str] = []
+    found: list[tuple[str, str, str | None]] = []
+    header: list[str] = []
+    blocks: list[bool] = []
+    heads: list[str] = []
     while at < len(pieces):
         piece = pieces[at]
         if piece == "fn" and "const" not in header and not (blocks and blocks[-1]):
@@ -206,11 +213,11 @@ ANTT_USE = re.compile(r"^use ([^{}\n]*?)(?:\{([^{}]*)\}|([\w']+)(?: as ([\w']+))
 ANTT_NAME = re.compile(r"^\s*(?:(?:pub|abbrev|record|data|mutual|unfoldable|opaque|given|let|where) )*([^\s:({=]+)", re.M)
 
 
-def definitions_apart(text):
+def definitions_apart(text: str) -> list[tuple[str, frozenset[str]]]:
     """The blocks of a file of definitions, one for each definition or for several that stand together, each with the
     imports that it names; and the names that it declares: of its types, their fields and constructors, and its functions."""
     imports = [("", "", *it) for it in ANTT_USE.findall(text)]
-    blocks = []
+    blocks: list[str] = []
     for block in re.split(r"\n\s*\n", ANTT_USE.sub("", text)):
         if block.strip():
             # What is indented from its first line on belongs to what stands before it.
@@ -236,7 +243,7 @@ IMPL_HEAD = re.compile(r"\bimpl\b([^{};]*\bfor\b)?([^{]*)\{")
 Part = collections.namedtuple("Part", "crate path function text words named types heads impl")
 
 
-def meant(path, text):
+def meant(path: pathlib.Path, text: str) -> str:
     """A text without what means nothing: the list of modules, and the lines of a file of antt that are comments."""
     if path.suffix == ".rt":
         return re.sub(r"\b(?:pub(?:\(\w+\))? )?mod \w+;", "", text)
@@ -244,8 +251,8 @@ def meant(path, text):
     return "\n".join(it for it in rows if path.name != "Lib.antt" or not re.fullmatch(r"\s*(pub )?mod \w+\s*", it))
 
 
-def part_of(crate, path, function, text, impl=None):
-    named = set()
+def part_of(crate: str, path: pathlib.Path, function: str | frozenset[str], text: str, impl: str | None = None) -> Part:
+    named: set[tuple[str, ...]] = set()
     for at in PATH.findall(text):
         words = WORD.findall(at)
         named.update(words if len(words) > 1 or at.endswith("*") else [(words[0],)], itertools.combinations(words, 2))
@@ -262,7 +269,7 @@ BODY = re.compile(r"(?:\{|\((?!.*\{))(.*)", re.S)
 SHOWN_FIELD = re.compile(r"\bpub (?!\()(.*)", re.S)
 
 
-def public_modules(folder):
+def public_modules(folder: pathlib.Path) -> set[pathlib.Path]:
     """The paths of the sources of a crate to which a path of public modules leads from its root."""
     waiting, found = [(pathlib.Path("src/lib.rt"), pathlib.Path("src"))], set()
     while waiting:
@@ -275,7 +282,7 @@ def public_modules(folder):
     return found
 
 
-def apart(text, marks):
+def apart(text: str, marks: str) -> list[str]:
     """The parts of a text between those of these marks that stand outside of all brackets; a `}` stays with what it ends."""
     found, depth = [""], 0
     for it in PIECE.findall(text):
@@ -288,12 +295,14 @@ def apart(text, marks):
     return [it.strip() for it in found if it.strip()]
 
 
-def types_of_impl(text):
+def types_of_impl(text: str) -> set[str]:
     """The words of the type for which the impl is that this text begins, or ends with the head of."""
-    return set(WORD.findall(IMPL_HEAD.search(text)[2]))
+    head = IMPL_HEAD.search(text)
+    assert head, text
+    return set(WORD.findall(head[2]))
 
 
-def shown_of(rest, functions, is_public, types):
+def shown_of(rest: str, functions: Iterable[tuple[str, str, str | None]], is_public: bool, types: Set[str]) -> list[tuple[bool, set[str], set[str]]]:
     """Of the rest of a source and its functions, as triples: whether it is seen outside of its crate by itself, the names by
     which it is else reached, and the words that are reached with it: of a struct its head and its public fields, of an enum
     what its variants hold. An impl is reached by these types of its crate alone."""
@@ -335,17 +344,21 @@ def parts_above(folder: pathlib.Path) -> list[Part]:
 def read_parts(folder: pathlib.Path) -> list[Part]:
     """The parts of the interface of the crate in this folder, as it is now. Of a type that no other crate can come by
     no method can be called there, so what it has in private modules is left out."""
-    public, sources, found = public_modules(folder), {}, []
+    public = public_modules(folder)
+    sources: dict[pathlib.Path, tuple[str, list[tuple[str, str, str | None]]]] = {}
+    found: list[Part] = []
     for path, text in sorted(interface(folder).items()):
         if path.suffix == ".rt":
             text = meant(path, text)
             sources[path] = (text, []) if has_macros(text) else functions_apart(text)
-            found += [part_of(folder.name, path, *it) for it in [("", sources[path][0]), *sources[path][1]]]
+            found.append(part_of(folder.name, path, "", sources[path][0]))
+            found += [part_of(folder.name, path, *it) for it in sources[path][1]]
         else:
             found += [part_of(folder.name, path, names, it) for it, names in definitions_apart(meant(path, text))]
     types = {it for rest, _ in sources.values() for it in DECLARED.findall(rest)}
     there = [it for path, (rest, functions) in sources.items() for it in shown_of(rest, functions, path in public, types)]
-    shown, more = set(), [it for it in there if it[0]]
+    shown: set[str] = set()
+    more = [it for it in there if it[0]]
     while more:
         shown.update(word for it in more for word in it[2])
         there = [it for it in there if it not in more]
@@ -354,7 +367,7 @@ def read_parts(folder: pathlib.Path) -> list[Part]:
     return [it for it in found if is_had(it)]
 
 
-def calls_in(source):
+def calls_in(source: str) -> set[tuple[str, bool]]:
     """The names that stand behind a point or two colons in a source, each with whether arguments follow: both where that
     is not seen."""
     found = set()
@@ -364,13 +377,13 @@ def calls_in(source):
     return found
 
 
-def calls_of(method):
+def calls_of(method: Part) -> set[tuple[str, bool]]:
     """How a method is called."""
     takes = re.search(rf"\bfn {method.function}\b[^(]*\(\s*(?:&\s*)?(?:'\w+ )?(?:mut )?self\s*(,(?!\s*\))|,?\s*\))", method.text)
     return {(method.function, takes[1] == ",")} if takes else {(method.function, True), (method.function, False)}
 
 
-def parts_named(top, lines, name, folders):
+def parts_named(top: pathlib.Path, lines: Mapping[str, str], name: str, folders: Iterable[str]) -> tuple[list[Part], frozenset[str]]:
     """The parts of the crates below that a crate's files name, and that these name again, in order, and all words of its own files."""
     texts, all_files = [], [it for folder in folders for it in files(top / "crates" / name / folder)]
     for file in all_files:
@@ -389,9 +402,12 @@ def parts_named(top, lines, name, folders):
     unreached = {crate: {it for it in waiting if it[0] == crate} for crate in {it.crate for it in there}}
     # A macro is named at the root of its crate, wherever it stands.
     roots = {it for it, parts in waiting.items() if it[1].name in ("Lib.antt", "lib.rt", "main.rt") or any(has_macros(part.text) for part in parts)}
-    found, reached, types, words, fresh = set(), set(), set(), set(own.words), [own]
+    found: set[Part] = set()
+    reached: set[tuple[str, pathlib.Path]] = set()
+    types: set[tuple[str, str]] = set()
+    words, fresh = set(own.words), [own]
 
-    def is_named(place, by) -> bool:
+    def is_named(place: tuple[str, pathlib.Path], by: Part) -> bool:
         crate, path = place
         module = path.parent.name if path.stem == "mod" else path.stem
         if place in roots or module in by.named and crate == by.crate:
@@ -399,12 +415,12 @@ def parts_named(top, lines, name, folders):
         from_root = (crate, module) in by.named or (crate,) in by.named and module in by.named
         return crate != by.crate and (from_root or module in by.named and any((crate, it) in by.named for it in path.parts[1:-1]))
 
-    def is_of_types(part) -> bool:
+    def is_of_types(part: Part) -> bool:
         # An impl for a type of no crate below, as one of the kit or a parameter, is found by its trait.
         heads = {it for head, behind in part.heads for it in (behind if not behind.isdisjoint(has_impls) else head | behind)}
         return any(name in heads and (crate == part.crate or crate in part.words) for crate, name in types)
 
-    def counts(it):
+    def counts(it: Part) -> bool:
         if it.path.suffix != ".rt":
             # A name that is no word (an operator) counts where its file does.
             return not it.function or any(name in words or not WORD.fullmatch(name) for name in it.function)
@@ -437,7 +453,7 @@ def parts_named(top, lines, name, folders):
     return [it for it in there if it in found], own.words
 
 
-def digest(top, lines, name, kit, *more):
+def digest(top: pathlib.Path, lines: Mapping[str, str], name: str, kit: str, *more: str) -> str:
     """The sha256 of all on which it hangs whether a body of this crate is refused: the kit's logic, the crate's files,
     those of its folders `more` too, and of the crates below it what these files name, and what that names, and so on; of
     their lines in crates.txt the names of the crates with what stands beside these, and what the crate's own files name
@@ -458,7 +474,7 @@ def digest(top, lines, name, kit, *more):
     counts rather than too little. gate/try_asked looks whether it does."""
     summed = hashlib.sha256()
 
-    def add(part) -> None:
+    def add(part: bytes) -> None:
         summed.update(b"%d:" % len(part) + part)
 
     found, words = parts_named(top, lines, name, (*PARTS, *more))
@@ -475,12 +491,12 @@ def digest(top, lines, name, kit, *more):
     return summed.hexdigest()
 
 
-def remember_stamps(rt) -> None:
+def remember_stamps(rt: Any) -> None:
     """Has the kit's command make each stamp of a crate once: one hangs on those of all crates below it, which it makes
     again for each. From the next call on they are made anew. No file may change in between."""
     make, made = getattr(rt, "make_stamp", rt.rtlib.Crate.stamp), {}
 
-    def stamp(crate):
+    def stamp(crate: Any) -> Any:
         if crate.folder not in made:
             made[crate.folder] = make(crate)
         return made[crate.folder]

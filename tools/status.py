@@ -21,6 +21,7 @@ import re
 import sys
 import threading
 import time
+from collections.abc import Iterator, Mapping
 
 NAME = "status.prom"
 SAMPLE = re.compile(r"([a-zA-Z_:][a-zA-Z0-9_:]*)(?:\{([^}]*)\})? ([0-9]+)")
@@ -39,8 +40,9 @@ class Unread(Exception):
 class Status:
     """What one file says."""
 
-    def __init__(self, text) -> None:
-        self.text, self.numbers = text, {}
+    def __init__(self, text: str) -> None:
+        self.text = text
+        self.numbers: dict[tuple[str, frozenset[tuple[str, str]]], int] = {}
         for line in text.split("\n"):
             found = SAMPLE.fullmatch(line)
             if found:
@@ -51,45 +53,45 @@ class Status:
             raise Unread("it does not say when it was written")
         self.time = self.of("status_seconds")
 
-    def of(self, name, **labels):
+    def of(self, name: str, **labels: str) -> int:
         return self.numbers.get((f"pathserve_{name}", frozenset(labels.items())), 0)
 
-    def labels(self, name, *wanted):
+    def labels(self, name: str, *wanted: str) -> list[tuple[str, ...]]:
         """The values of these labels under which there is a number of this name, in the order of the file."""
         found = (dict(labels) for it, labels in self.numbers if it == f"pathserve_{name}")
         return list(dict.fromkeys(tuple(it.get(one, "") for one in wanted) for it in found))
 
-    def age(self, now):
+    def age(self, now: float) -> float:
         return max(now - self.time, 0)
 
-    def stands(self, now):
+    def stands(self, now: float) -> bool:
         """Whether no file came for so long that the server is gone, or stands still."""
         return self.age(now) > PATIENCE * max(self.of("every_seconds"), 1)
 
 
-def read(folder):
+def read(folder: pathlib.Path) -> Status:
     return Status((folder / NAME).read_text(encoding="utf-8"))
 
 
-def counted(number):
+def counted(number: int) -> str:
     return f"{number:,}"
 
 
-def lasting(seconds):
+def lasting(seconds: float) -> str:
     for size, unit in ((86400, "d"), (3600, "h"), (60, "min")):
         if seconds >= 2 * size:
             return f"{seconds // size:.0f} {unit}"
     return f"{seconds:.0f} s"
 
 
-def sized(count):
+def sized(count: int) -> str:
     for size, unit in ((10**9, "GB"), (10**6, "MB"), (10**3, "KB")):
         if count >= size:
             return f"{count / size:.1f} {unit}"
     return f"{count} B"
 
 
-def rate(status, before, labels):
+def rate(status: Status, before: Status | None, labels: Mapping[str, str]) -> str:
     """How many calls a second ended since an earlier file."""
     if before is None or status.time <= before.time:
         return ""
@@ -98,7 +100,7 @@ def rate(status, before, labels):
     return f"{max(sums[0] - sums[1], 0) / (status.time - before.time):,.1f}"
 
 
-def head(status, now):
+def head(status: Status, now: float) -> Iterator[str]:
     """What is told of the server."""
     start = status.of("start_seconds")
     since = datetime.datetime.fromtimestamp(start, datetime.timezone.utc).strftime("%Y-%m-%d %H:%M:%S UTC")
@@ -110,7 +112,7 @@ def head(status, now):
         yield "THE SERVER IS GONE, OR STANDS STILL"
 
 
-def rows(status, before):
+def rows(status: Status, before: Status | None) -> Iterator[list[str]]:
     """Of each operation what it did, as texts."""
     for name, op in status.labels("calls_total", "object", "operation"):
         labels = {"object": name, "operation": op}
@@ -119,7 +121,7 @@ def rows(status, before):
         yield [name, op, *ends, rate(status, before, labels), *now]
 
 
-def objects(status, now):
+def objects(status: Status, now: float) -> Iterator[str]:
     """What is told of each object."""
     for (name,) in status.labels("epoch", "object"):
         epoch, taken, most, size, syncs, synced, sessions, cancelled, waits, held = (status.of(it, object=name) for it in OF_OBJECT)
@@ -130,7 +132,7 @@ def objects(status, now):
                f"{counted(sessions)} sessions, {counted(cancelled)} cancelled{kept}{longest}")
 
 
-def table(status, before, now):
+def table(status: Status, before: Status | None, now: float) -> Iterator[str]:
     """The lines of a table for a terminal."""
     yield from head(status, now)
     lines = [list(HEADS), *rows(status, before)]
@@ -155,16 +157,17 @@ td.some{{background:#e69f0033;font-weight:600}}td.bad{{background:#d1242f33;font
 """
 
 
-def marked(place, text):
+def marked(place: int, text: str) -> str:
     """A cell: what waits and what failed stands out."""
     kind = {"waits": "some", "failed": "bad"}.get(HEADS[place], "") if text != "0" else ""
     return f"<td class={kind}>{html.escape(text)}</td>" if kind else f"<td>{html.escape(text)}</td>"
 
 
-def page(status, before, now):
+def page(status: Status, before: Status | None, now: float) -> str:
     """The page for a browser."""
     told = list(head(status, now))
-    lines, last = [], None
+    lines: list[str] = []
+    last: str | None = None
     for row in rows(status, before):
         first = " class=first" if row[0] != last else ""
         cells = [row[0] if first else "", *row[1:]]
@@ -182,10 +185,12 @@ def page(status, before, now):
 class Reading:
     """The last two files of a folder, for rates."""
 
-    def __init__(self, folder) -> None:
-        self.folder, self.last, self.before, self.lock = folder, None, None, threading.Lock()
+    def __init__(self, folder: pathlib.Path) -> None:
+        self.folder, self.lock = folder, threading.Lock()
+        self.last: Status | None = None
+        self.before: Status | None = None
 
-    def look(self):
+    def look(self) -> tuple[Status, Status | None]:
         with self.lock:
             found = read(self.folder)
             if self.last is not None and found.time > self.last.time:
@@ -199,7 +204,7 @@ class Server(http.server.ThreadingHTTPServer):
 
     daemon_threads = True
 
-    def __init__(self, folder, port) -> None:
+    def __init__(self, folder: pathlib.Path, port: int) -> None:
         super().__init__(("127.0.0.1", port), Handler)
         self.reading = Reading(folder)
 
@@ -228,17 +233,17 @@ class Handler(http.server.BaseHTTPRequestHandler):
         self.end_headers()
         self.wfile.write(told)
 
-    def log_message(self, *_) -> None:
+    def log_message(self, *_: object) -> None:
         pass
 
 
-def serve(folder, port) -> None:
+def serve(folder: pathlib.Path, port: int) -> None:
     with Server(folder, port) as server:
         print(f"listening {server.server_address[1]}", flush=True)
         server.serve_forever()
 
 
-def watch(folder, every) -> None:
+def watch(folder: pathlib.Path, every: float) -> None:
     reading, is_terminal = Reading(folder), sys.stdout.isatty()
     while True:
         status, before = reading.look()

@@ -24,6 +24,7 @@ import subprocess
 import sys
 import tempfile
 import time
+from collections.abc import Iterable, Sequence
 
 from tools import progress, ready, repository
 from tools.repository import TOP
@@ -88,15 +89,15 @@ LINES_SAID = 30
 SILENCE, LOOKS = 20, 0.05
 
 
-def say(text):
+def say(text: object) -> None:
     print(f"tools/test: {text}", flush=True)
 
 
-def clock(seconds):
+def clock(seconds: float) -> str:
     return f"{int(seconds) // 60}:{int(seconds) % 60:02}"
 
 
-def counted(part, status, last):
+def counted(part: Part, status: int, last: bytes) -> tuple[int, int, str | None]:
     """How many things a part passed and failed, by its last line and its status, and what is wrong with it, if anything."""
     if not part.counts:
         return (1, 0, None) if status == 0 else (0, 1, f"ended with status {status}")
@@ -114,11 +115,13 @@ def counted(part, status, last):
 class Run:
     """A run of a part. What it says goes to a file, so that none waits for another one to be shown."""
 
-    def __init__(self, part):
-        self.part, self.name, self.process, self.result = part, " ".join(part.words), None, None
+    def __init__(self, part: Part) -> None:
+        self.part, self.name = part, " ".join(part.words)
+        self.process: subprocess.Popen[bytes] | None = None
+        self.result: Result | None = None
         self.output, self.shown, self.rest = tempfile.TemporaryFile(), 0, b""
 
-    def begin(self, words):
+    def begin(self, words: Sequence[str]) -> None:
         self.begun = time.monotonic()
         # A tool in Python would else keep what it prints to itself until it ends.
         env = {**os.environ, "PYTHONUNBUFFERED": "1"}
@@ -131,32 +134,34 @@ class Run:
         except OSError as error:
             self.result = Result(self.name, 0, 0, 0, 1, [f"did not run: {error.strerror}".encode()])
 
-    def is_under_way(self):
+    def is_under_way(self) -> bool:
         return self.process is not None and self.result is None
 
-    def look(self):
+    def look(self) -> None:
         """Looks whether it has ended."""
+        assert self.process
         number, status, used = os.wait4(self.process.pid, os.WNOHANG)
         if number:
             self.process.returncode = os.waitstatus_to_exitcode(status)
             self.result = self.judged(time.monotonic() - self.begun, used.ru_utime + used.ru_stime)
 
-    def judged(self, wall, processor):
+    def judged(self, wall: float, processor: float) -> Result:
         """What came of it, by how it ended."""
         lines = [it.strip() for it in self.text(0).splitlines() if it.strip()]
         last = lines[-1] if lines else b""
+        assert self.process
         if self.process.returncode == 0 and (lacks := LACKS.fullmatch(last)):
             return Result(self.name, wall, processor, 0, 0, [], lacks[1].decode())
         passed, failed, why = counted(self.part, self.process.returncode, last)
         said = [*lines, why.encode()] if why else lines
         return Result(self.name, wall, processor, passed, failed, said[-LINES_SAID:])
 
-    def text(self, start):
+    def text(self, start: int) -> bytes:
         """What it has said, from a place on."""
         file = self.output.fileno()
         return os.pread(file, os.fstat(file).st_size - start, start)
 
-    def show(self):
+    def show(self) -> list[str]:
         """Shows what it has said since this was called last, and returns the lines of it that are whole."""
         text = self.text(self.shown)
         self.shown += len(text)
@@ -165,11 +170,12 @@ class Run:
         *lines, self.rest = (self.rest + text).split(b"\n")
         return [it.decode(errors="replace") for it in lines]
 
-    def tell(self):
+    def tell(self) -> None:
         """Tells what came of it, behind all that it said."""
         if not self.part.is_shown:
             print(f"\n==== {self.name}", flush=True)
         self.show()
+        assert self.result
         if self.result.failed and self.result.said:
             print(f"==== {self.name}: {self.result.said[-1].decode(errors='replace')}", flush=True)
 
@@ -177,33 +183,36 @@ class Run:
 class Gate:
     """What has ended of the parts, and what runs."""
 
-    def __init__(self):
+    def __init__(self) -> None:
         self.begun, self.lanes = time.monotonic(), max(2, len(os.sched_getaffinity(0)))
         self.due = self.begun + SILENCE
-        self.results, self.runs = [], []
+        self.results: list[Result] = []
+        self.runs: list[Run] = []
         # The program that is tried, whether it is proved, and how far a proof of it is.
-        self.program, self.is_proved, self.proof = None, False, None
+        self.program: pathlib.Path | None = None
+        self.is_proved = False
+        self.proof: progress.Progress | None = None
         # How many signals came that end this tool, and how many were handed on.
         self.signals, self.handed_on = 0, 0
         for it in (signal.SIGINT, signal.SIGTERM, signal.SIGHUP):
             signal.signal(it, self.on_signal)
 
-    def on_signal(self, *_):
+    def on_signal(self, *_: object) -> None:
         self.signals += 1
 
-    def words(self, part):
+    def words(self, part: Part) -> list[str]:
         """The command of a part."""
         program = ("--program", str(self.program)) if part.takes_program else ()
         return [*part.words, *program, *(part.more if self.is_proved else ())]
 
-    def under_way(self):
+    def under_way(self) -> list[Run]:
         return [it for it in self.runs if it.is_under_way()]
 
-    def can_begin(self, run):
+    def can_begin(self, run: Run) -> bool:
         is_new = run.process is None and run.result is None and not self.signals
-        return is_new and len(self.under_way()) < self.lanes and (self.program or not run.part.takes_program)
+        return is_new and len(self.under_way()) < self.lanes and bool(self.program or not run.part.takes_program)
 
-    def run(self, *parts):
+    def run(self, *parts: Part) -> None:
         """Runs these parts, as many at once as there are processors, and tells of them in their order."""
         self.runs = [Run(it) for it in parts]
         untold = list(self.runs)
@@ -225,7 +234,7 @@ class Gate:
             if it.result:
                 self.tell(it)
 
-    def look_at(self, run):
+    def look_at(self, run: Run) -> None:
         run.look()
         for line in run.show() if run.part.is_shown else ():
             if self.proof:
@@ -233,11 +242,12 @@ class Gate:
         if run.part is BUILD and run.result and not run.result.failed:
             self.program = pathlib.Path(run.result.said[-1].decode())
 
-    def tell(self, run):
+    def tell(self, run: Run) -> None:
         run.tell()
+        assert run.result
         self.results.append(run.result)
 
-    def tell_how_far(self):
+    def tell_how_far(self) -> None:
         now = time.monotonic()
         self.due = now + SILENCE
         if self.proof and [it.part for it in self.under_way()] == [PROVE]:
@@ -247,7 +257,7 @@ class Gate:
             how = f"{ended} of {len(self.runs)} parts, now " + ", ".join(f"{it.name} ({clock(now - it.begun)})" for it in running)
         say(f"{clock(now - self.begun)}: {how}")
 
-    def hand_on(self):
+    def hand_on(self) -> None:
         """Hands on that this tool was interrupted. It waits until what runs has ended, which puts back what it has set aside."""
         if self.signals == self.handed_on:
             return
@@ -255,17 +265,18 @@ class Gate:
         say(f"interrupted, waiting for {', '.join(it.name for it in self.under_way()) or 'nothing'} to end")
         for it in self.under_way():
             # (its own way to send one waits for those that have ended)
+            assert it.process
             os.kill(it.process.pid, signal.SIGINT)
 
 
-def to_prove():
+def to_prove() -> list[list[str]] | None:
     """The crates that `rt ci` has yet to prove, and those whose tests, as `gate/seed --look` tells them."""
     ran = subprocess.run([TOP / "gate" / "seed", "--look"], stdin=subprocess.DEVNULL, capture_output=True, text=True)
     told = dict(it.split(":", 1) for it in ran.stdout.splitlines() if ":" in it)
     return [told[it].split() for it in ("to prove", "tests to prove")] if ran.returncode == 0 else None
 
 
-def plan():
+def plan() -> progress.Progress:
     """Says what `rt ci` will prove, and how long that took last, and returns what tells how far it is."""
     lines, found = repository.crates(), to_prove()
     if not found:
@@ -280,7 +291,7 @@ def plan():
     return proof
 
 
-def prove(gate):
+def prove(gate: Gate) -> None:
     """Proves all crates. Where that is done ./pathserve runs the proved program."""
     gate.proof = plan()
     of_sources = ready.digest(TOP, ready.kit())
@@ -296,13 +307,13 @@ def prove(gate):
         gate.program = ready.OUT / ready.PROVED / ready.PROGRAM
 
 
-def keep_orphans():
+def keep_orphans() -> None:
     """Has processes that outlive what started them handed to this one, so that their time is counted too."""
     adopts = 36  # PR_SET_CHILD_SUBREAPER
     ctypes.CDLL(None).prctl(adopts, 1, 0, 0, 0)
 
 
-def processor_seconds():
+def processor_seconds() -> float:
     """What all processes took that this one has started and that have ended, and those that were handed to it."""
     end = time.monotonic() + 1
     with contextlib.suppress(ChildProcessError):
@@ -313,7 +324,7 @@ def processor_seconds():
     return used.ru_utime + used.ru_stime
 
 
-def print_table(gate, lacking):
+def print_table(gate: Gate, lacking: Iterable[Part]) -> None:
     """What each part took, those that did not run included."""
     rows = [("part", "minutes", "processor minutes", "passed", "failed")]
     for it in gate.results:
@@ -328,7 +339,7 @@ def print_table(gate, lacking):
         print(name.ljust(widths[0]), *(it.rjust(width) for it, width in zip(numbers, widths[1:])), sep="  ")
 
 
-def print_failures(results):
+def print_failures(results: Iterable[Result]) -> None:
     """The last lines of the parts that failed: of a long output only the end may be kept."""
     for it in results:
         if it.failed:
@@ -337,18 +348,19 @@ def print_failures(results):
                 print(line.decode(errors="replace")[:1000])
 
 
-def run_all(gate, is_gate):
+def run_all(gate: Gate, is_gate: bool) -> None:
     """Runs all parts."""
     if is_gate:
         prove(gate)
         gate.run(TRY)
         gate.run(CHECK)
     elif not gate.program:
-        return gate.run(BUILD, *FREE, *PARTS)
-    return gate.run(*FREE, *PARTS)
+        gate.run(BUILD, *FREE, *PARTS)
+        return
+    gate.run(*FREE, *PARTS)
 
 
-def end(gate, wanted):
+def end(gate: Gate, wanted: Iterable[Part]) -> int:
     """Says what came of all parts, and returns the exit status."""
     names = [it.name for it in gate.results]
     lacking = [it for it in wanted if " ".join(it.words) not in names]

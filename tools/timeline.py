@@ -37,9 +37,11 @@ import subprocess
 import sys
 import urllib.parse
 import xml.sax.saxutils
+from collections.abc import Iterable, Iterator, Mapping, Sequence
+from typing import TypeVar
 
-from tools.held import Unread, paths_of, turns_of
-from tools.traced import Trace, epoch_of
+from tools.held import Hold, Turn, Unread, paths_of, turns_of
+from tools.traced import Call, Trace, epoch_of
 
 EVENTS = 400
 # Lengths in pixels: the plot, an event at most, a page at least; what stands right of the rows and below them, and left
@@ -81,6 +83,10 @@ text,text.key{fill:#e6e9ed} .page,.inside{fill:#14171b} .rule{stroke:#333a43} .s
 """
 )
 
+T = TypeVar("T")
+# From and to an event of a page; there is none where it comes from the page before, or goes on.
+Span = tuple[int | None, int | None]
+
 
 @dataclasses.dataclass(slots=True)
 class Bar:
@@ -90,19 +96,23 @@ class Bar:
 
     session: int
     kind: str
-    wait: tuple | None
-    run: tuple | None
-    label: list
+    wait: Span | None
+    run: Span | None
+    label: list[str]
     title: str
     operation: str = ""
 
     @property
-    def first(self):
-        return (self.wait or self.run)[0]
+    def first(self) -> int | None:
+        found = self.wait or self.run
+        assert found
+        return found[0]
 
     @property
-    def end(self):
-        return (self.run or self.wait)[1]
+    def end(self) -> int | None:
+        found = self.run or self.wait
+        assert found
+        return found[1]
 
 
 @dataclasses.dataclass(slots=True)
@@ -112,36 +122,37 @@ class Held:
     turn: int
     first: int | None
     end: int | None
-    holds: list
+    holds: list[Hold]
 
 
 class Page:
     """A page: its first and last event, the calls that run or wait on it, and what is held there for each `;`."""
 
-    def __init__(self, trace, first, last, calls, holds) -> None:
+    def __init__(self, trace: Trace, first: int, last: int, calls: Iterable[Call], holds: Iterable[tuple[int, Hold]]) -> None:
         self.trace, self.first, self.last = trace, first, last
-        self.bars, through = [], {}
+        self.bars: list[Bar] = []
+        through: dict[int, list[Call]] = {}
         for call in calls:
             if call.first < first and (call.end is None or call.end > last):
                 through.setdefault(call.session, []).append(call)
             else:
                 self.bars.append(self.bar(call))
         self.bars += [self.bar(it[0]) if len(it) == 1 else self.joined(it) for it in through.values()]
-        self.held = {}
-        of_session = {}
+        self.held: dict[int, list[Held]] = {}
+        of_session: dict[tuple[int, int], list[Hold]] = {}
         for turn, hold in holds:
             if hold.session is not None:
                 of_session.setdefault((hold.session, turn), []).append(hold)
         for (session, turn), some in of_session.items():
             self.held.setdefault(session, []).extend(self.pieces(turn, some))
 
-    def cut(self, first, end):
+    def cut(self, first: int | None, end: int | None) -> Span | None:
         """From and to an event, where that is on this page, and none where neither is and nothing is between them."""
         if first is None or first > self.last or end is not None and end < self.first:
             return None
         return first if first >= self.first else None, end if end is not None and end <= self.last else None
 
-    def bar(self, call):
+    def bar(self, call: Call) -> Bar:
         lines = self.trace.line
         until = call.end if call.start is None else call.start
         wait = None if call.waits is None else self.cut(call.waits, until)
@@ -155,13 +166,13 @@ class Page:
             title += f"\nwaited from event {call.waits} on, or longer" if call.waits else "\nwaited before the first event"
         return Bar(call.session, call.kind, wait, run, [call.words, call.operation], title, call.operation)
 
-    def joined(self, calls):
+    def joined(self, calls: Sequence[Call]) -> Bar:
         """One bar for calls of a session that run through the whole page: no server lets a session have several."""
         some = ", ".join(str(it.number) for it in calls[:20]) + (", .." if len(calls) > 20 else "")
         title = f"{len(calls)} calls of {self.trace.of(calls[0].session)} run through this page\n{some}"
         return Bar(calls[0].session, "many", None, (None, None), [f"{len(calls)} calls"], title)
 
-    def pieces(self, turn, holds):
+    def pieces(self, turn: int, holds: Sequence[Hold]) -> Iterator[Held]:
         """What a session holds for a `;`, cut where it takes or gives."""
         changes = sorted({at for it in holds for at in (it.taken, it.given) if at is not None and self.first <= at <= self.last})
         for first, end in zip([None, *changes], [*changes, None]):
@@ -170,19 +181,19 @@ class Page:
             if some:
                 yield Held(turn, first, end, some)
 
-    def rows(self):
+    def rows(self) -> dict[int, list[Bar]]:
         """The bars of each session that does or holds something here, in the order of their starts."""
-        rows = {it: [] for it in sorted({it.session for it in self.bars} | set(self.held))}
+        rows: dict[int, list[Bar]] = {it: [] for it in sorted({it.session for it in self.bars} | set(self.held))}
         for bar in sorted(self.bars, key=lambda it: it.first or 0):
             rows[bar.session].append(bar)
         return rows
 
 
-def holds_of(trace):
+def holds_of(trace: Trace) -> list[tuple[int, Hold]]:
     return [(turn, hold) for turn, it in enumerate(trace.turns) for hold in it.holds]
 
 
-def page_from(trace, first, most):
+def page_from(trace: Trace, first: int, most: int) -> Page:
     """One page that begins with this event."""
     last = min(first + most - 1, len(trace.events))
     calls = [it for it in trace.calls if it.first <= last and (it.end is None or it.end >= first)]
@@ -190,16 +201,16 @@ def page_from(trace, first, most):
     return Page(trace, first, last, calls, holds)
 
 
-def spread(count, most, spans):
+def spread(count: int, most: int, spans: Iterable[tuple[T, int, int | None]]) -> list[list[T]]:
     """What is on each of so many pages: each thing of these with its first and last event."""
-    found = [[] for _ in range(count)]
+    found: list[list[T]] = [[] for _ in range(count)]
     for thing, first, end in spans:
         for page in range((max(first, 1) - 1) // most, count if end is None else (end - 1) // most + 1):
             found[page].append(thing)
     return found
 
 
-def pages(trace, most):
+def pages(trace: Trace, most: int) -> list[Page]:
     """The pages of a trace, each with so many events at most; there is one at least."""
     count = max(-(-len(trace.events) // most), 1)
     calls = spread(count, most, ((it, it.first, it.end) for it in trace.calls))
@@ -208,13 +219,14 @@ def pages(trace, most):
     return [Page(trace, at * most + 1, lasts[at], calls[at], holds[at]) for at in range(count)]
 
 
-def escaped(text):
+def escaped(text: str) -> str:
     return xml.sax.saxutils.escape(text, {'"': "&quot;"})
 
 
-def lanes(bars):
+def lanes(bars: Iterable[Bar]) -> tuple[list[tuple[Bar, int]], int]:
     """Each bar of a row with its lane: the first one that is free, so that bars never hide each other."""
-    ends, found = [], []
+    ends: list[int | None] = []
+    found: list[tuple[Bar, int]] = []
     for bar in bars:
         lane = next((at for at, end in enumerate(ends) if end is not None and end < (bar.first or 0)), len(ends))
         ends[lane : lane + 1] = [bar.end]
@@ -222,7 +234,7 @@ def lanes(bars):
     return found, max(len(ends), 1)
 
 
-def is_well(verdict) -> bool:
+def is_well(verdict: str) -> bool:
     """Whether an audit finds nothing wrong."""
     return verdict.startswith("legal ") or verdict.endswith(" whole")
 
@@ -231,25 +243,25 @@ class Drawing:
     """What is drawn piece by piece: shapes and texts."""
 
     def __init__(self) -> None:
-        self.parts = []
+        self.parts: list[str] = []
 
-    def shape(self, name, title=None, **lengths) -> None:
+    def shape(self, name: str, title: str | None = None, **lengths: str | float) -> None:
         """An element with these attributes; `_class` stands for one whose name Python has itself."""
         values = {key: it if isinstance(it, str) else format(it, ".6g") for key, it in lengths.items()}
         said = " ".join(f'{key.strip("_")}="{it}"' for key, it in values.items())
         inner = None if title is None else f"<title>{escaped(title)}</title>"
         self.parts.append(f"<{name} {said}/>" if inner is None else f"<{name} {said}>{inner}</{name}>")
 
-    def text(self, x, y, said, kind="") -> None:
+    def text(self, x: float, y: float, said: str, kind: str = "") -> None:
         of_kind = f' class="{kind}"' if kind else ""
         self.parts.append(f'<text x="{x:.6g}" y="{y:.6g}"{of_kind}>{escaped(said)}</text>')
 
-    def link(self, x, y, said, target) -> None:
+    def link(self, x: float, y: float, said: str, target: str) -> None:
         self.parts.append(f'<a href="{escaped(urllib.parse.quote(target))}">')
         self.text(x, y, said)
         self.parts.append("</a>")
 
-    def summary(self, trace) -> None:
+    def summary(self, trace: Trace) -> None:
         """What is told of the whole trace."""
         more = [it for it in ("cancelled", "waiting") if trace.count[it]]
         ends = ", ".join(f"{trace.count[it]} {it}" for it in ("done", "refused", "failed", *more))
@@ -262,7 +274,7 @@ class Drawing:
         calls = "1 call" if len(trace.calls) == 1 else f"{len(trace.calls)} calls"
         self.text(LEFT, 47, f"{calls}: {ends}{runs}", "summary")
 
-    def framed(self, kind, title, box, colour="", of="bar") -> None:
+    def framed(self, kind: str, title: str | None, box: tuple[float, float, float, float], colour: str = "", of: str = "bar") -> None:
         """A bar of this kind, in a box: what was refused is hollow, what failed has a red edge."""
         x, y, width, height = box
         edge = {"refused": 2, "failed": 3}.get(kind, 0)
@@ -271,22 +283,22 @@ class Drawing:
             inside = f"inside{'' if kind == 'refused' else colour or ' plain'}"
             self.shape("rect", _class=inside, x=x + edge, y=y + edge, width=width - 2 * edge, height=height - 2 * edge)
 
-    def legend(self, y, kinds):
+    def legend(self, y: float, kinds: Iterable[str]) -> float:
         """What each kind of bar says."""
-        at = LEFT
+        at: float = LEFT
         for kind in kinds:
             self.framed(kind, None, (at, y, 22, 12), of="key")
             self.text(at + 28, y + 10, KINDS[kind], "key")
             at += 28 + 7 * len(KINDS[kind]) + 22
         return at
 
-    def fault(self, trace, y) -> None:
+    def fault(self, trace: Trace, y: float) -> None:
         if trace.fault:
             self.text(LEFT, y, f"{trace.fault}: what stands before it is drawn", "fault")
         elif trace.verdict:
             self.text(LEFT, y, trace.verdict, "summary" if is_well(trace.verdict) else "fault")
 
-    def whole(self, name, width, height):
+    def whole(self, name: str, width: float, height: float) -> str:
         """The text of a picture, of the parts drawn so far."""
         size = f'width="{width:.6g}" height="{height:.6g}" viewBox="0 0 {width:.6g} {height:.6g}"'
         title = f"<title>{escaped(f'timeline of {name}')}</title>"
@@ -297,17 +309,17 @@ class Drawing:
 class Index(Drawing):
     """The index of the pages of a trace: a row each, with how the calls ended that ended there."""
 
-    def __init__(self, trace, found, files) -> None:
+    def __init__(self, trace: Trace, found: Sequence[Page], files: Sequence[pathlib.Path]) -> None:
         super().__init__()
         self.trace, self.found, self.files = trace, found, files
-        self.ends = [collections.Counter() for _ in found]
+        self.ends: list[collections.Counter[str]] = [collections.Counter() for _ in found]
         most = found[0].last
         for call in trace.calls:
             if call.end is not None:
                 self.ends[(call.end - 1) // most][call.kind] += 1
         self.top = TOP + (20 if trace.fault or trace.verdict else 0)
 
-    def drawn(self):
+    def drawn(self) -> str:
         columns = -(-len(self.found) // DEEP)
         rows = min(len(self.found), DEEP)
         width, height = max(LEFT + columns * COLUMN, NARROWEST), self.top + rows * LINE + BOTTOM
@@ -323,7 +335,7 @@ class Index(Drawing):
             self.row(at, page, file, ends, (place + 1, LONG / widest))
         return self.whole(self.trace.name, width, height)
 
-    def row(self, corner, page, file, ends, place) -> None:
+    def row(self, corner: tuple[float, float], page: Page, file: pathlib.Path, ends: collections.Counter[str], place: tuple[int, float]) -> None:
         """The row of a page whose upper left corner is here; its place is its number, and the pixels of a call."""
         (left, top), (number, scale) = corner, place
         trace = self.trace
@@ -345,7 +357,7 @@ class Picture(Drawing):
     """The picture of a page: what is told of its place, where its links lead, and whether all pages are as wide as a
     full one."""
 
-    def __init__(self, page, told, links, most, is_one_of_many) -> None:
+    def __init__(self, page: Page, told: str | None, links: Mapping[str, str], most: int, is_one_of_many: bool) -> None:
         super().__init__()
         self.page, self.trace, self.told, self.links = page, page.trace, told, links
         self.placed = page.rows()
@@ -358,31 +370,32 @@ class Picture(Drawing):
         events = most if is_one_of_many else max(count, 1)
         self.width = max(self.left + self.scale * events + 2 * OVER + RIGHT, NARROWEST)
 
-    def name(self, session):
+    def name(self, session: int) -> str:
         said = self.trace.of(session)
         return said if len(said) <= NAMED else f"{said[: NAMED - 2]}.."
 
-    def colour(self, operation):
+    def colour(self, operation: str) -> str:
         return f" o{self.trace.operations.index(operation) % len(COLOURS)}" if operation else ""
 
-    def x(self, event):
+    def x(self, event: float) -> float:
         """Where an event stands: in the middle of its slot."""
         return self.left + OVER + (event - self.page.first + 0.5) * self.scale
 
-    def end(self):
+    def end(self) -> float:
         """Where the bars end that run on."""
         return self.x(self.page.last + 0.5) + OVER
 
-    def span(self, pair):
+    def span(self, pair: Span) -> tuple[float, float]:
         """From where to where it is between two events."""
         return self.left if pair[0] is None else self.x(pair[0]), self.end() if pair[1] is None else self.x(pair[1])
 
-    def run(self, bar):
+    def run(self, bar: Bar) -> tuple[float, float]:
         """From where to where a bar reaches."""
+        assert bar.run
         left, right = self.span(bar.run)
         return left - (0 if bar.run[0] is None else self.reach), right + (0 if bar.run[1] is None else self.reach)
 
-    def label(self, bar):
+    def label(self, bar: Bar) -> tuple[str | None, bool]:
         """What stands on a bar, and whether that is the letter of its operation, since there is no room for a word."""
         if bar.run is None:
             return None, False
@@ -391,7 +404,7 @@ class Picture(Drawing):
         letter = self.trace.letters.get(bar.operation)
         return (word, False) if word or letter is None or right - left < LETTER + 1 else (letter, True)
 
-    def drawn(self):
+    def drawn(self) -> str:
         """The text of the picture."""
         top = self.head() + 30
         head, self.parts = self.parts, []
@@ -403,7 +416,7 @@ class Picture(Drawing):
         self.parts += head + axis + rows
         return self.whole(self.trace.name, self.width, bottom + BOTTOM)
 
-    def head(self):
+    def head(self) -> float:
         """What stands above the axis, and where that ends."""
         self.summary(self.trace)
         y = 47
@@ -422,7 +435,7 @@ class Picture(Drawing):
             self.fault(self.trace, y)
         return self.operations(self.kinds(y + 14))
 
-    def kinds(self, y):
+    def kinds(self, y: float) -> float:
         """The legend of how calls ended, as far as the picture has such calls, and of what is no call. Where all were
         done, and nothing else is there, there is none."""
         here = {it.kind for it in self.page.bars if it.run}
@@ -439,7 +452,7 @@ class Picture(Drawing):
             self.text(at + 28, y + 10, "cancelled", "key")
         return y + 12
 
-    def operations(self, y):
+    def operations(self, y: float) -> float:
         """The legend of operations: the colour of each, and its letter where that stands on a bar."""
         letters = {it.operation for it in self.page.bars if self.label(it)[1]}
         here = {it.operation for it in self.page.bars} | {it.taker.operation for some in self.page.held.values() for one in some for it in one.holds if it.taker}
@@ -459,7 +472,7 @@ class Picture(Drawing):
             at += wide
         return y + 14
 
-    def axis(self, top, bottom) -> None:
+    def axis(self, top: float, bottom: float) -> None:
         """The numbers of events, with rules through the rows: 1, 2 or 5 and zeros apart."""
         self.text(self.left - 8, top - 10, "event", "soft end")
         steps = (digit * 10**power for power in range(7) for digit in (1, 2, 5))
@@ -474,7 +487,7 @@ class Picture(Drawing):
         if marked is not None and self.page.first <= marked <= self.page.last:
             self.shape("line", _class="mark", x1=self.x(marked), y1=top - 6, x2=self.x(marked), y2=bottom)
 
-    def strips(self, top):
+    def strips(self, top: float) -> float:
         """A strip for each `;`: how many it holds behind each event."""
         for turn in self.trace.turns:
             here = turn.counts[self.page.first - 1 : self.page.last + 1]
@@ -495,7 +508,7 @@ class Picture(Drawing):
             top += STRIP
         return top
 
-    def rows(self, top):
+    def rows(self, top: float) -> float:
         for place, (session, bars) in enumerate(self.placed.items()):
             placed, count = lanes(bars)
             turns = list(dict.fromkeys(it.turn for it in self.page.held.get(session, ())))
@@ -514,7 +527,7 @@ class Picture(Drawing):
             top += height
         return top
 
-    def hold(self, held, top, taken) -> None:
+    def hold(self, held: Held, top: float, taken: Iterable[tuple[float, float]]) -> None:
         """What a session holds, behind its calls, which have taken these spans."""
         left, right = self.span((held.first, held.end))
         if right <= left:
@@ -531,7 +544,7 @@ class Picture(Drawing):
         if count > 1 and right - left > wide + 8 and not any(at - 2 < end and start < at + wide + 2 for start, end in taken):
             self.text(at, top + LANE / 2 + 4, many, "label hollow")
 
-    def bar(self, bar, top) -> None:
+    def bar(self, bar: Bar, top: float) -> None:
         if bar.wait:
             left, right = self.span(bar.wait)
             self.shape("rect", bar.title, _class="wait", x=left, y=top + LANE / 2 - 2, width=max(right - left, 1), height=4)
@@ -546,7 +559,7 @@ class Picture(Drawing):
                 self.text(at, top + LANE / 2 + 4, label, "label hollow" if bar.kind in ("running", "refused") else "label")
 
 
-def links_of(files, place, index):
+def links_of(files: Sequence[pathlib.Path], place: int, index: pathlib.Path) -> dict[str, str]:
     """The pages that a page leads to, by what the links say."""
     found = {"index": index.name}
     if place > 0:
@@ -556,7 +569,7 @@ def links_of(files, place, index):
     return found
 
 
-def draw(trace, file, most) -> None:
+def draw(trace: Trace, file: pathlib.Path, most: int) -> None:
     """Writes the picture of a trace, or its index and its pages, and says which files it wrote."""
     drawn = pages(trace, most)
     if len(drawn) == 1:
@@ -571,7 +584,7 @@ def draw(trace, file, most) -> None:
     print(f"{file}, {files[0]} to {files[-1]}: {len(trace.calls)} calls, {len(trace.events)} events")
 
 
-def draw_from(trace, file, most, first) -> None:
+def draw_from(trace: Trace, file: pathlib.Path, most: int, first: int) -> None:
     """Writes one picture that begins with an event."""
     page = page_from(trace, first, most)
     told = f"events {page.first} to {page.last} of {len(trace.events)}"
@@ -579,7 +592,7 @@ def draw_from(trace, file, most, first) -> None:
     print(f"{file}: {told}")
 
 
-def audited(program, objects, trace, epoch):
+def audited(program: pathlib.Path, objects: pathlib.Path, trace: pathlib.Path, epoch: tuple[str, int] | None) -> str:
     """What `pathserve audit` says of a trace; of an epoch what it says of its object in the folder."""
     place = trace.parent if epoch else trace
     ran = subprocess.run([program, "audit", objects, place], stdout=subprocess.PIPE, text=True, check=False)
@@ -593,7 +606,7 @@ def audited(program, objects, trace, epoch):
     return said
 
 
-def turns_in(source, trace, is_asked):
+def turns_in(source: str, trace: Trace, is_asked: bool) -> list[Turn]:
     """What each `;` of the object holds. An audit tells what is wrong with its objects itself."""
     try:
         return turns_of(paths_of(source, trace.name), trace.events, trace.past)

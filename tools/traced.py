@@ -3,9 +3,11 @@ import bisect
 import collections
 import dataclasses
 import re
+from collections.abc import Iterable
+from typing import Any
 
 from gate.slow_audit import (
-    IDENTIFIER, NUMBERS, SESSIONS, Bad, NotRunning, bare, datum, ending_of, integer, lines_of, lowered, named_object, words_of,
+    IDENTIFIER, NUMBERS, SESSIONS, Bad, NotRunning, Word, bare, datum, ending_of, integer, lines_of, lowered, named_object, words_of,
 )
 from gate.slow_world import written
 
@@ -19,9 +21,10 @@ LETTERS = "abcdefghijklmnopqrstuvwxyzABCDEFGHIJKLMNOPQRSTUVWXYZ0123456789"
 KEPT_SESSIONS, PASTS = range(1, 65536), range(1, 65537)
 
 
-def letters_of(operations):
+def letters_of(operations: Iterable[str]) -> dict[str, str]:
     """A letter for each operation, as long as there are some: one of its name, where that is free."""
-    found, free = {}, dict.fromkeys(LETTERS)
+    free = dict.fromkeys(LETTERS)
+    found: dict[str, str] = {}
     for it in dict.fromkeys(operations):
         wanted = [*it.replace("_", ""), *it.replace("_", "").upper(), *free]
         letter = next((one for one in wanted if one in free), None)
@@ -32,7 +35,7 @@ def letters_of(operations):
     return found
 
 
-def epoch_of(text):
+def epoch_of(text: bytes) -> tuple[str, int] | None:
     """The name and the number of the epoch that a text is, or none."""
     found = EPOCH.fullmatch(text.partition(b"\n")[0])
     return (found[1].decode(), int(found[2])) if found else None
@@ -53,28 +56,40 @@ class Call:
     waits: int | None = None
 
     @property
-    def operation(self):
+    def operation(self) -> str:
         return self.words.partition(" ")[0]
 
     @property
-    def first(self):
+    def first(self) -> int:
         """The event from which on it is drawn."""
-        return self.start if self.waits is None else self.waits
+        found = self.start if self.waits is None else self.waits
+        assert found is not None
+        return found
 
 
 class Trace:
     """What the lines of a trace tell: its calls in the order of their starts, and of each event whose it is. What an
     audit said of it may end it before one of its lines, or mark an event."""
 
-    def __init__(self, text, said=None):
-        self.name, self.epoch, self.fault, self.verdict = "", None, None, None
-        self.calls, self.events, self.running, self.begun, self.most = [], [], {}, set(), 0
+    def __init__(self, text: bytes, said: str | None = None) -> None:
+        self.name = ""
+        self.epoch: int | None = None
+        self.fault: str | None = None
+        self.verdict: str | None = None
+        self.calls: list[Call] = []
+        self.events: list[Call] = []
+        self.running: dict[int, Call] = {}
+        self.begun: set[int] = set()
+        self.most = 0
         # The line of each event; of an epoch its clients by their sessions, its calls that wait, and what its paths
         # had counted.
-        self.lines, self.names, self.waiting, self.past = [], {}, {}, []
+        self.lines: list[int] = []
+        self.names: dict[int, str] = {}
+        self.waiting: dict[int, Call] = {}
+        self.past: list[tuple[str, str]] = []
         self.base, self.stage = 0, 0
-        # What each `;` of its paths holds, where these are known.
-        self.turns = []
+        # What each `;` of its paths holds, where these are known: turns of tools/held.py.
+        self.turns: list[Any] = []
         lines = lines_of(text)
         if epoch_of(text):
             lines = lines_of(text.partition(b"\0")[0].rpartition(b"\n")[0])
@@ -87,14 +102,14 @@ class Trace:
             self.verdict = said
         self.end_epoch()
         told = int(found[1]) if found and self.fault is None else None
-        self.marked = self.lines.index(told) + 1 if told in self.lines else None
+        self.marked = self.lines.index(told) + 1 if told is not None and told in self.lines else None
         self.wait()
         self.sessions = sorted({it.session for it in self.calls})
         self.count = collections.Counter(it.kind for it in self.calls)
         self.letters = letters_of([it.operation for it in self.calls])
         self.operations = list(dict.fromkeys(it.operation for it in self.calls))
 
-    def read(self, lines):
+    def read(self, lines: list[bytes]) -> None:
         for number, line in enumerate(lines, 1):
             try:
                 self.hear(line)
@@ -109,7 +124,7 @@ class Trace:
         if not lines or self.epoch and self.stage < FRONT.index("base"):
             self.fault = f"line {len(lines) + 1} bad"
 
-    def hear(self, line):
+    def hear(self, line: bytes) -> None:
         words = words_of(line)
         verb = bare(words[0]) if words else ""
         if not self.name:
@@ -125,18 +140,18 @@ class Trace:
         else:
             raise Bad
 
-    def hear_object(self, line):
+    def hear_object(self, line: bytes) -> None:
         found = EPOCH.fullmatch(line)
         if found:
             self.name, self.epoch = found[1].decode(), int(found[2])
         else:
             self.name = named_object(line)
 
-    def hear_part(self, words):
+    def hear_part(self, words: list[Word]) -> None:
         if len(words) != 3 or not PART.fullmatch(bare(words[1])) or not BYTES.fullmatch(bare(words[2])):
             raise Bad
 
-    def hear_kept(self, verb, words):
+    def hear_kept(self, verb: str, words: list[Word]) -> None:
         """A line of an epoch that a trace has not: of its front, in order, or behind it."""
         self.step(FRONT.index(verb) if verb in FRONT else len(FRONT))
         if verb == "part":
@@ -156,14 +171,14 @@ class Trace:
         elif verb == "cancel":
             self.hear_cancel(words)
 
-    def step(self, stage):
+    def step(self, stage: int) -> None:
         """The lines of a front have an order, there is one `base`, and it stands before what happened."""
         base = FRONT.index("base")
         if stage < self.stage or stage == self.stage == base or stage > base > self.stage:
             raise Bad
         self.stage = stage
 
-    def hear_past(self, words):
+    def hear_past(self, words: list[Word]) -> None:
         if len(words) != 3:
             raise Bad
         first, second = bare(words[1]), bare(words[2])
@@ -174,13 +189,13 @@ class Trace:
         else:
             raise Bad
 
-    def named(self, words, count):
+    def named(self, words: list[Word], count: int) -> None:
         """`client sK NAME B` or `name sK NAME`."""
         if len(words) != count or not PART.fullmatch(bare(words[2])):
             raise Bad
         self.names[self.session_of(words[1])] = bare(words[2])
 
-    def session_of(self, word):
+    def session_of(self, word: Word) -> int:
         if not bare(word).startswith("s"):
             raise Bad
         found = integer(word[1:])
@@ -188,7 +203,7 @@ class Trace:
             raise Bad
         return found
 
-    def asked(self, words):
+    def asked(self, words: list[Word]) -> tuple[int, str]:
         """The session that asked for a call, and the words of it."""
         if len(words) < 2:
             raise Bad
@@ -197,7 +212,7 @@ class Trace:
             raise Bad
         return session, " ".join([op, *(written(datum(it)) for it in words[2:])])
 
-    def hear_cancel(self, words):
+    def hear_cancel(self, words: list[Word]) -> None:
         number = integer_of(words, 1)
         session, said = self.asked(words[2:])
         if number not in NUMBERS or number in self.begun:
@@ -208,10 +223,10 @@ class Trace:
         call.end, call.kind, call.reply = len(self.events), "cancelled", "cancelled"
         self.calls.append(call)
 
-    def call_of(self, number, session, said):
+    def call_of(self, number: int, session: int, said: str) -> Call:
         return Call(self.base + number, session, said, None)
 
-    def hear_start(self, words):
+    def hear_start(self, words: list[Word]) -> None:
         if len(words) < 4:
             raise Bad
         number = integer(words[1])
@@ -228,7 +243,7 @@ class Trace:
         call.start, call.kind, call.reply = len(self.events), "running", "still running at the end of the trace"
         self.most = max(self.most, len(self.running))
 
-    def hear_end(self, words):
+    def hear_end(self, words: list[Word]) -> None:
         if len(words) < 3:
             raise Bad
         number, (kind, value) = integer(words[1]), ending_of(words[2:])
@@ -242,14 +257,15 @@ class Trace:
         told = "" if value is None else written(value) if kind == "done" else value
         call.end, call.kind, call.reply = len(self.events), kind, f"{kind} {told}".rstrip(" ")
 
-    def end_epoch(self):
+    def end_epoch(self) -> None:
         """A call that started in the last line of an epoch never was; those that were carried, and of which no line
         tells more, are there. One whose session called again had been cancelled."""
         last = self.events[-1] if self.events else None
         if self.epoch and last and last.start == len(self.events) and not self.fault:
-            for it in (self.events, self.lines, self.calls):
-                it.pop()
-        again = {}
+            self.events.pop()
+            self.lines.pop()
+            self.calls.pop()
+        again: dict[int, int | None] = {}
         for call in self.calls:
             again.setdefault(call.session, call.start or call.end)
         for call in self.waiting.values():
@@ -257,10 +273,11 @@ class Trace:
                 call.end, call.kind, call.reply = again[call.session], "cancelled", "cancelled"
             self.calls.append(call)
 
-    def wait(self):
+    def wait(self) -> None:
         """Says of each call since when it is known to have waited: calls have their numbers in the order in which they
         were accepted, so one waits where a later number has started. A session has one call at a time."""
-        highest, before = [], {}
+        highest: list[int] = []
+        before: dict[int, int] = {}
         for call in self.events:
             highest.append(max(call.number, highest[-1] if highest else 0))
         for call in sorted(self.calls, key=lambda it: it.start or it.end or len(self.events) + 1):
@@ -274,9 +291,9 @@ class Trace:
                 call.waits = until
             before[call.session] = max(before.get(call.session, 0), call.end or len(self.events) + 1)
 
-    def most_waiting(self):
+    def most_waiting(self) -> int:
         """So many calls are known to have waited at once, at most."""
-        change = collections.Counter()
+        change: collections.Counter[int] = collections.Counter()
         for call in self.calls:
             if call.waits is not None:
                 change[call.waits] += 1
@@ -287,17 +304,17 @@ class Trace:
             most = max(most, now)
         return most
 
-    def line(self, event):
+    def line(self, event: int) -> int:
         """The number of the line of an event."""
         return self.lines[event - 1]
 
-    def of(self, session):
+    def of(self, session: int) -> str:
         """A session, with the name of its client where that is known."""
         name = self.names.get(session)
         return f"s{session} {name}" if name else f"s{session}"
 
 
-def integer_of(words, place):
+def integer_of(words: list[Word], place: int) -> int:
     """A number of an epoch, which may have 64 bits."""
     word = bare(words[place]) if place < len(words) else ""
     if not word.isdecimal() or not word.isascii() or int(word) >= 2**64:
