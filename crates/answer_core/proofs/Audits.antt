@@ -42,7 +42,7 @@ audited_run source text written o verdict status ready is exact known s w =
     subst (λ n. IsAuditRun source text n written) (sym s) (subst (IsAuditRun source text (audit_status verdict)) (sym w) (audited o verdict ready told))
 
 -- the status is at most 1
-verdict_small : (verdict : Verdict) → audit_status verdict ≤ 1
+verdict_small : (verdict : AuditVerdict) → audit_status verdict ≤ 1
 verdict_small (verdicts.Legal entries) = omega arith
 verdict_small (verdicts.BadLine line) = omega arith
 verdict_small (verdicts.BreaksPath line path) = omega arith
