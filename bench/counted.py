@@ -76,7 +76,8 @@ def main() -> None:
                 title = f"{way}: {call.split()[0]}{', by a name under keys' if named else ''}"
                 if options.only not in title:
                     continue
-                count = lambda calls: [counted(it, way, call, named, FIRST + calls) for it in binaries]
-                found = [(last - first) / options.calls for first, last in zip(count(0), count(options.calls))]
+                firsts = [counted(it, way, call, named, FIRST) for it in binaries]
+                lasts = [counted(it, way, call, named, FIRST + options.calls) for it in binaries]
+                found = [(last - first) / options.calls for first, last in zip(firsts, lasts)]
                 ratio = f", {found[1] / found[0]:.3f} times" if options.before else ""
                 print(f"{title}: {' and '.join(f'{it:,.0f}' for it in found)}{ratio}", flush=True)

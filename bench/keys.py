@@ -109,10 +109,10 @@ def memory(options: argparse.Namespace, load: pathlib.Path) -> None:
     kinds = [("plain", options.program, "cell", ""), ("under keys", options.program, "!cell", "!")]
     kinds += [("before", options.before, "cell", "")] if options.before else []
     for call in ("get", "put #"):
-        for title, program, name, mark in kinds:
+        for title, binary, name, mark in kinds:
             found = []
             for _ in range(3):
-                with served(program, 16) as it:
+                with served(binary, 16) as it:
                     found.append(it.load(load, f"{name}:16:{MOST}:{mark}{call}")[2])
             print(f"memory of 48,000 calls of {call.split()[0]}, {title}: {statistics.median(found):.2f} MiB "
                   f"({min(found):.2f} to {max(found):.2f})", flush=True)

@@ -113,8 +113,13 @@ def queue_rows(size: int, length: int) -> Iterator[Row]:
     new, old = lambda n: text(size + n, length), lambda n: text(n, length)
     fill = [f"put '{old(it)}'" for it in range(size)]
     filling = [(asked("RPUSH", "line", old(it)), told(it + 1)) for it in range(size)]
-    kept = lambda n: text(n if n < size else size + 2 * (n - size), length)
-    turns = lambda n: (asked("RPUSH", "line", new(n)), told(size + 1)) if n % 2 == 0 else (asked("LPOP", "line"), told(kept(n // 2)))
+
+    def turns(n: int) -> tuple[bytes, bytes]:
+        if n % 2 == 0:
+            return asked("RPUSH", "line", new(n)), told(size + 1)
+        place = n // 2
+        return asked("LPOP", "line"), told(text(place if place < size else size + 2 * (place - size), length))
+
     for title, call, request in (
         ("append, take, in turn", lambda n: (f"put '{new(n)}'", "") if n % 2 == 0 else ("drop", ""), turns),
         ("append and take in one body", lambda n: (f"pass '{new(n)}'", ""), None),
@@ -127,13 +132,23 @@ def queue_rows(size: int, length: int) -> Iterator[Row]:
 
 def table_rows(name: str, size: int, length: int) -> Iterator[Row]:
     wide = length if name == "tally" else 8
-    key = lambda n: text(n % size, wide)
-    value = (lambda n: str(n + 1)) if name == "tally" else (lambda n: text(n, length))
-    word = (lambda n: value(n)) if name == "tally" else (lambda n: f"'{value(n)}'")
+
+    def key(n: int) -> str:
+        return text(n % size, wide)
+
+    def value(n: int) -> str:
+        return str(n + 1) if name == "tally" else text(n, length)
+
+    def word(n: int) -> str:
+        return value(n) if name == "tally" else f"'{value(n)}'"
+
     new = text(size // 2, wide) + "x"
     fill = [f"put '{key(it)}' {word(it)}" for it in range(size)]
     filling = [(asked("HSET", name, key(it), value(it)), told(1)) for it in range(size)]
-    turns = lambda n: (asked("HSET", name, new, value(n)), told(1)) if n % 2 == 0 else (asked("HDEL", name, new), told(1))
+
+    def turns(n: int) -> tuple[bytes, bytes]:
+        return (asked("HSET", name, new, value(n)), told(1)) if n % 2 == 0 else (asked("HDEL", name, new), told(1))
+
     for title, call, request in (
         ("lookup", lambda n: (f"look '{key(n)}'", word(n % size)), lambda n: (asked("HGET", name, key(n)), told(value(n % size)))),
         ("has", lambda n: (f"known '{key(n)}'", "1"), lambda n: (asked("HEXISTS", name, key(n)), told(1))),
@@ -205,7 +220,10 @@ def spelled(words: Iterable[str]) -> bytes:
 
 def opening(name: str, size: int, length: int) -> bytes:
     """The bytes of a part that is filled: its kind, how many entries it has, and these."""
-    old = lambda n: text(n, length)
+
+    def old(n: int) -> str:
+        return text(n, length)
+
     kind, entry = {
         "line": (4, lambda n: spelled([old(n)])),
         "tally": (5, lambda n: spelled([old(n)]) + (n + 1).to_bytes(4, "big")),
@@ -360,9 +378,13 @@ def shown(figure: float) -> str:
     return f"{figure:,.1f}" if figure < 1_000 else f"{figure:,.0f}"
 
 
+def numbers(words: str) -> tuple[int, ...]:
+    """Numbers with commas between them."""
+    return tuple(int(it) for it in words.split(","))
+
+
 def main() -> None:
     words = given_words()
-    numbers = lambda text: tuple(int(it) for it in text.split(","))
     parser = argparse.ArgumentParser(usage=__doc__.split("\n\n")[1].removeprefix("usage: "))
     parser.add_argument("--only", default="")
     parser.add_argument("--ways", default=",".join(WAYS))

@@ -135,13 +135,13 @@ def main() -> int:
     given = words.parse_args(given_words())
     if lacks("cc"):
         return 0
-    is_wanted = lambda tried: not given.names or any(it in tried.name for it in given.names)
     os.chdir(TOP)
     counts = []
     with tempfile.TemporaryDirectory() as name, concurrent.futures.ThreadPoolExecutor(given.jobs) as pool:
         folder = pathlib.Path(name)
         library = build(folder)
-        for tried in filter(is_wanted, program_runs(folder)):
+        wanted = (it for it in program_runs(folder) if not given.names or any(name in it.name for name in given.names))
+        for tried in wanted:
             counts.append(each_growth(pool, 2 * given.jobs, library, folder, tried))
     passed, failed = sum(it[0] for it in counts), sum(it[1] for it in counts)
     print(f"refuse_memory: {passed} passed, {failed} failed")

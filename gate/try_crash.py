@@ -296,7 +296,10 @@ end;
     for at, it in enumerate((ann, bob, cid), 1):
         it.say("call get", "call say 'held'")
         it.hears(f"accepted {at}")
-    epochs = lambda: int((server.folder / "mixed.journal").read_bytes()[:64].split(b"\n")[0].split(b" ")[3])
+
+    def epochs() -> int:
+        return int((server.folder / "mixed.journal").read_bytes()[:64].split(b"\n")[0].split(b" ")[3])
+
     with Talk(server, "open mixed", "opened mixed") as it:
         for turn in range(2):
             begun = epochs()

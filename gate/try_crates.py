@@ -1,14 +1,13 @@
 """Looks whether crates.txt and the folders of crates/ agree, whether each crate names what it is said to stand on,
-whether each type has a name of its own, and whether each clause is short.
+whether each type has a name of its own, whether each clause is short, and whether each edit can be made.
 
 usage: gate/try_crates
 
 Each crate has a line, and a folder with its root file; each word behind the colon of a line stands as a word in a file of
 that crate's src/, specs/ or proofs/. A name of a struct, an enum, a trait or a type in src/ stands once in the
-repository. gate/type_names.txt has those that do not, each with its crates, one that has it twice told twice. That list
-may only shrink: what is not in it fails, and so does what is in it and is so no more. What a clause of a function says
-has at most eight arguments: more of them are the parts of a state, which has a name. Then small repositories are looked
-at in which this is not so.
+repository. What a clause of a function says has at most eight arguments: more of them are the parts of a state, which
+has a name. Each line that an edit of wrong-bodies/, wrong-by-test/ or wrong-by-case/ takes away stands once in its file.
+Then small repositories are looked at in which this is not so.
 
 The last line is `try_crates: N passed, M failed`; the exit status is 0 where M is 0 and N is not.
 """
@@ -25,12 +24,12 @@ from tools import repository
 WORD = re.compile(r"\w+")
 ROOTS = ("src/lib.rt", "src/main.rt")
 TYPE = re.compile(r"^(?:pub(?:\([\w ]+\))? )?(?:struct|enum|trait|type|union) (\w+)", re.M)
-NAMES = "gate/type_names.txt"
 CLAUSE = re.compile(r"\b(?:ensures|requires)\b[*]?[^{;\n]*\{")
 # The signs of clauses that stand between two applications, and brackets.
 SIGN = re.compile(r"(?:λ[^.]*\. )|[()\[\]{};]|[^\s()\[\]{};]+")
 BETWEEN = frozenset("≡ ≢ × ⊎ ↔ → ∷ ++ + - * / ^ == && || < ≤ > ≥ = : , ; if then else in ∸ λ".split())
 MOST = 8
+EDITS = ("wrong-bodies", "wrong-by-test", "wrong-by-case")
 
 
 def words_in(folder: pathlib.Path) -> set[str]:
@@ -58,22 +57,11 @@ def types_in(top: pathlib.Path, lines: Iterable[str]) -> collections.defaultdict
     return found
 
 
-def names_told(top: pathlib.Path) -> dict[str, collections.Counter[str]]:
-    """The names that stand several times, as the list has them."""
-    rows = (top / NAMES).read_text(encoding="utf-8").splitlines() if (top / NAMES).exists() else []
-    told = [it.partition(":") for it in rows if it.strip() and not it.startswith("#")]
-    return {name: collections.Counter(crates.split()) for name, _, crates in told}
-
-
-def faults_of_type(name: str, found: collections.Counter[str], told: collections.Counter[str]) -> list[str]:
-    """What is wrong with a type's name, by the crates that declare it and those that the list has."""
-    new, gone, count = found - told, told - found, sum(found.values())
-    if count < 2:
-        return [f"{name} stands once: take its line out of {NAMES}"] if told else []
-    if new and not told:
-        return [f"{name} names several types, in {', '.join(sorted(found.elements()))}: give each a name of its own"]
-    said = [f"{name} names one more type, in {it}: give it a name of its own" for it in sorted(new.elements())]
-    return said + [f"{name} names a type of {it} no more: take {it} out of its line in {NAMES}" for it in sorted(gone.elements())]
+def faults_of_type(name: str, found: collections.Counter[str]) -> list[str]:
+    """What is wrong with a type's name, by the crates that declare it."""
+    if sum(found.values()) < 2:
+        return []
+    return [f"{name} names several types, in {', '.join(sorted(found.elements()))}: give each a name of its own"]
 
 
 def clauses_in(source: str) -> Iterator[tuple[int, str]]:
@@ -114,19 +102,42 @@ def faults_of_clauses(top: pathlib.Path, crate: str) -> Iterator[str]:
                     yield f"{place}:{line}: {name} has {width} arguments, and may have {MOST}: give a state a name"
 
 
+def faults_of_edits(top: pathlib.Path, crate: str) -> Iterator[str]:
+    """Which edits of a crate cannot be made. Each pair of lines applies to what the earlier ones of its edit made."""
+    for path in (it for folder in EDITS for it in repository.files(top / "crates" / crate / folder) if it.suffix == ".edit"):
+        texts: dict[pathlib.Path, str] = {}
+        file, old, name = pathlib.Path(), "", path.relative_to(top / "crates")
+        for line in path.read_text(encoding="utf-8").splitlines():
+            key, _, text = line.partition(": ")
+            if key == "file":
+                file = top / "crates" / crate / text.strip()
+                if not file.is_file():
+                    yield f"{name}: there is no file {text.strip()}"
+                    break
+                texts.setdefault(file, file.read_text(encoding="utf-8"))
+            elif key == "old":
+                old = text
+                if texts[file].count(old) != 1:
+                    yield f"{name}: stands {texts[file].count(old)} times: {old.strip()}"
+                    break
+            elif key == "new":
+                texts[file] = texts[file].replace(old, text)
+
+
 def faults_in(top: pathlib.Path) -> dict[str, list[str]]:
     """What is wrong with the crates of the repository at this folder and its types, by their names."""
     lines = repository.crates(top)
     said = {name: faults_of(name, line, top / "crates" / name) for name, line in lines.items()}
     for name in lines:
         said[f"the clauses of {name}"] = list(faults_of_clauses(top, name))
+        said[f"the edits of {name}"] = list(faults_of_edits(top, name))
     for it in sorted((top / "crates").iterdir()):
         # What was built of a crate may outlive it.
         if it.is_dir() and it.name not in lines and any(at.name != "out" for at in it.iterdir()):
             said[it.name] = [f"crates.txt has no line for crates/{it.name}"]
-    found, told = types_in(top, lines), names_told(top)
-    for name in sorted({*found, *told}):
-        said[f"the type {name}"] = faults_of_type(name, found[name], told.get(name, collections.Counter()))
+    found = types_in(top, lines)
+    for name in sorted(found):
+        said[f"the type {name}"] = faults_of_type(name, found[name])
     return said
 
 
@@ -147,12 +158,13 @@ CLAUSES = {
 }
 """,
 }
-SPOILT = (
+EDIT = "clause: ensures of one\nfile: src/lib.rt\nold: {old}\nnew: pub fn two() {{}}\n"
+SPOILT: tuple[tuple[str, Mapping[str, str], str, list[str]], ...] = (
     ("nothing", FILES, "low:\ntop: low std\n", []),
     ("a crate that is not named", FILES, "low:\ntop: low std regex\n", ["crates.txt has top stand on regex, which top never names"]),
     ("a part of a word", {**FILES, "top/src/main.rt": "use lower::one;"}, "low:\ntop: low\n",
      ["crates.txt has top stand on low, which top never names"]),
-    ("a file that no proof reads", {**FILES, "top/wrong-bodies/it.edit": "old: regex"}, "low:\ntop: low regex\n",
+    ("a file that no proof reads", {**FILES, "top/wrong-bodies/it.edit": "file: src/main.rt\nold: one\nnew: regex"}, "low:\ntop: low regex\n",
      ["crates.txt has top stand on regex, which top never names"]),
     ("a folder that is missing", FILES, "low:\ntop: low\ntop_vectors: low\n",
      ["crates.txt has top_vectors, and there is no crates/top_vectors with src/lib.rt or src/main.rt"]),
@@ -160,17 +172,13 @@ SPOILT = (
     ("what was built of a crate that is gone", {**FILES, "gone/out/log": ""}, "low:\ntop: low\n", []),
     ("a clause that is long", {**FILES, **CLAUSES}, "low:\ntop: low\n",
      ["low/src/lib.rt:3: Are has 9 arguments, and may have 8: give a state a name"]),
-    *(
-        (what, {**FILES, **TYPES, f"../{NAMES}": told}, "low:\ntop: low\n", wanted)
-        for what, told, wanted in (
-            ("types that are told", "# Row\n\nRow: low low top\n", []),
-            ("types that are not told", "", ["Row names several types, in low, low, top: give each a name of its own"]),
-            ("one type more", "Row: low top\n", ["Row names one more type, in low: give it a name of its own"]),
-            ("one type less", "Row: low low low top\n", [f"Row names a type of low no more: take low out of its line in {NAMES}"]),
-            ("a type that stands once", "Row: low low top\nPath: top\n", [f"Path stands once: take its line out of {NAMES}"]),
-            ("a type that is gone", "Row: low low top\nTree: low top\n", [f"Tree stands once: take its line out of {NAMES}"]),
-        )
-    ),
+    ("an edit", {**FILES, "low/wrong-bodies/it.edit": EDIT.format(old="pub fn one() {}")}, "low:\ntop: low\n", []),
+    ("an edit of a line that is gone", {**FILES, "low/wrong-bodies/it.edit": EDIT.format(old="pub fn none() {}")}, "low:\ntop: low\n",
+     ["low/wrong-bodies/it.edit: stands 0 times: pub fn none() {}"]),
+    ("an edit of a file that is gone", {**FILES, "top/wrong-by-case/it.edit": "file: src/gone.rt\nold: a\nnew: b\n"}, "low:\ntop: low\n",
+     ["top/wrong-by-case/it.edit: there is no file src/gone.rt"]),
+    ("types of one name", {**FILES, **TYPES}, "low:\ntop: low\n",
+     ["Row names several types, in low, low, top: give each a name of its own"]),
 )
 
 

@@ -300,7 +300,10 @@ def a_lease_and_a_reservation_end_by_their_time(folder: pathlib.Path, seconds: f
     shop = Talk(server, "open stock", "opened stock")
     calls = ("restock 'chair' 5", "reserve 'a' 'chair' 2", "reserve 'b' 'chair' 1", "confirm 'b' 'chair' 1", "reserve 'a' 'chair' 1")
     check(shop.calls(*calls), ["done"] * 4 + ["refused known"])
-    left = lambda: number(server, "stock", "available 'chair'")  # noqa: E731
+
+    def left() -> int:
+        return number(server, "stock", "available 'chair'")
+
     until(lambda: left() == 4, "the reservation does not end", 30)
     check(shop.calls("confirm 'a' 'chair' 2", "is_open 'a'", "reserve 'c' 'chair' 3"), ["refused over", "done 'no'", "done"])
     check(server.says("open stock", "call release 'c' 'chair' 3")[1], "no NotHeld")

@@ -76,6 +76,11 @@ def answering(*connections: Rows, port: int = 0) -> FakeServer:
     return FakeServer(*connections, port=port, in_turn=True)
 
 
+def begin_answering(servers: list[FakeServer], answers: Rows, port: int) -> None:
+    """Adds a fake that takes one connection."""
+    servers.append(answering(answers, port=port))
+
+
 OPENED = ("open cell", b"opened cell\n")
 
 
@@ -820,9 +825,8 @@ def ends_later(kind: str) -> Attempt:
     def attempt(_: object) -> None:
         for answers in ([(b"repeat done 10\n", 6)], [(b"repeat cancelled 10\n", 6), (b"accepted 11\ndone 11\n", 7)]):
             first = answering([opened(5), TAKEN, ("call #6 give", b"accepted 10\n")])
-            calls, later = [(f"call #{key} give", answer) for answer, key in answers], []
-            begin = lambda: later.append(answering([opened(7), *calls], port=first.port))  # noqa: E731
-            threading.Timer(1.5, begin).start()
+            calls, later = [(f"call #{key} give", answer) for answer, key in answers], list[FakeServer]()
+            threading.Timer(1.5, begin_answering, (later, [opened(7), *calls], first.port)).start()
             check(held_by(kind, first.port, "take", "give", wait=0.1, patience=SECONDS), None)
             check(heard_by(later[0]), ["open cell as ann\n", *(f"{line}\n" for line, _ in calls)])
 

@@ -1,15 +1,16 @@
 """Looks at the Python of gate/, tools/, bench/ and clients/python as it stands: whether it compiles without a warning, its
-types by mypy, and by ruff what its default rules find; and that no file changes where Python looks for modules.
+types by mypy, and what ruff's default rules find; and that no file changes where Python looks for modules.
 
 usage: gate/try_types [WORD ..]
 
 gate/mypy.ini says how strictly each module is looked at, and leaves out none. Each file that has no fault passes; of the
-others the faults are said that have one of the words in them. What is not there, mypy or ruff, is not run, and fails
-nothing. The last line is `try_types: N passed, M failed`; the exit status is 0 where M is 0 and N is not.
+others the faults are said that have one of the words in them. Where ruff is not there, pyflakes and pycodestyle look by
+the same rules (F; E4, E7 and E9). What is not there is not run, and fails nothing. The last line is `try_types: N passed, M failed`; the exit status is 0 where M is 0 and N is not.
 """
 import os
 import pathlib
 import re
+import shutil
 import subprocess
 import warnings
 
@@ -18,6 +19,8 @@ from gate.tried import TOP, given_words, lacks, whole
 PARTS = ("gate", "tools", "bench", "clients/python/pathclient")
 SECONDS = 600
 PLACES = ".".join(("sys", "path"))
+# What looks by the rules of ruff where that is not there.
+LINTS = (("pyflakes3",), ("pycodestyle", "--select=E4,E7,E9"))
 FAULT = re.compile(r"([\w./]+\.py):\d+")
 
 
@@ -51,12 +54,15 @@ def compiled() -> list[str]:
 
 def main() -> int:
     words, found = given_words(), compiled()
-    has_ruff, has_mypy = not lacks("ruff"), not lacks("mypy")
-    if has_mypy:
+    if not lacks("mypy"):
         cache = pathlib.Path(os.environ.get("XDG_CACHE_HOME", pathlib.Path.home() / ".cache")) / "pathserve-mypy"
         found += said("mypy", "--config-file", "gate/mypy.ini", "--cache-dir", str(cache), "--no-error-summary", "--hide-error-context")
-    if has_ruff:
+    if shutil.which("ruff"):
         found += said("ruff", "check", "--no-cache", "--output-format", "concise", *PARTS)
+    elif lints := [it for it in LINTS if shutil.which(it[0])]:
+        found += [line for words_of in lints for line in said(*words_of, *files())]
+    else:
+        lacks("ruff")
     found = [it for it in found if ": note:" not in it]
     for line in (it for it in found if all(word in it for word in words)):
         print(line)

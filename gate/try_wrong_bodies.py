@@ -284,11 +284,15 @@ def tell(rt: Any, crate: Any, edit: str, found: Any) -> bool:
     return False
 
 
+def texts_in(crate: Any) -> dict[pathlib.Path, str]:
+    """The sources of a crate."""
+    return {it: it.read_text(encoding="utf-8") for it in repository.files(pathlib.Path(crate.folder, "src"))}
+
+
 def is_by_its_clause(rt: Any, crate: Any, file: str, edit: "Edit | None", said: list[str], how: str) -> bool:
     """Says of an edit that was refused by which clause, and returns whether that is the one that it names. Of the lines
     of its check those of its functions count, where these are known."""
     texts, _ = rt.read_edit(file, crate.folder)
-    texts_in = lambda one: {it: it.read_text(encoding="utf-8") for it in repository.files(pathlib.Path(one.folder, "src"))}
     sources = {str(it.relative_to(crate.folder)): text for it, text in texts_in(crate).items()}
     if edit:
         said = [line for it in edit.functions for line in lines_of(said, it)]
@@ -323,7 +327,8 @@ def is_by_its_clause(rt: Any, crate: Any, file: str, edit: "Edit | None", said: 
     return False
 
 
-# The head of a function, and what may hold one.
+# The line of a clause; the head of a function, and what may hold one.
+CLAUSES = re.compile(r"ensures|requires")
 HEAD = re.compile(r"\s*(?:pub(?:\([a-z]+\))? )?(?:unsafe )?fn (\w+)")
 HOLDER = re.compile(r"(impl|pub trait|trait|mod)\b")
 TRAIT = re.compile(r"^(?:pub )?trait (\w+)", re.M)
@@ -348,8 +353,8 @@ def function_at(lines: Sequence[str], at: int) -> tuple[int, int] | None:
         return None
     indent = lines[first][: len(lines[first]) - len(lines[first].lstrip())]
     last = next((it for it in range(first, len(lines)) if lines[it].rstrip() == indent + "}"), None)
-    is_head = lambda it: "ensures" in it or "requires" in it
-    opens = next((it for it in range(first, len(lines)) if lines[it].rstrip() == indent + "{" or lines[it].endswith(" {") and not is_head(lines[it])), None)
+    heads = (it for it in range(first, len(lines)) if lines[it].rstrip() == indent + "{" or lines[it].endswith(" {") and not CLAUSES.search(lines[it]))
+    opens = next(heads, None)
     return (first, last) if last is not None and opens is not None and opens < at < last else None
 
 
@@ -439,8 +444,8 @@ def refused_in_rounds(rt: Any, crate: Any, edits: list[Edit], kept: str) -> dict
         rounds: list[list[Edit]] = []
         for edit in left:
             whole = {it.whole for it in edit.functions}
-            is_free = lambda it: whole.isdisjoint(one.whole for other in it for one in other.functions)
-            at = next((it for it in rounds if len(it) < most and is_free(it)), None)
+            free = (it for it in rounds if len(it) < most and whole.isdisjoint(one.whole for other in it for one in other.functions))
+            at = next(free, None)
             if at is None:
                 at = []
                 rounds.append(at)
@@ -634,8 +639,8 @@ def main() -> int:
     if given.check:
         return end(*check(lines, given.crates, kit))
     rows = recorded()
-    is_due = lambda it: given.all or told_of_edits(TOP, it) or not fits(rows.get(it), lines, it, kit)
-    names = [it for it in given.crates or lines if edits(TOP, it) and is_due(it)]
+    had = [it for it in given.crates or lines if edits(TOP, it)]
+    names = [it for it in had if given.all or told_of_edits(TOP, it) or not fits(rows.get(it), lines, it, kit)]
     if not given.crates and {*rows} - {it for it in lines if edits(TOP, it)}:
         record(lines, {})
     if not names:

@@ -138,8 +138,8 @@ def interface(folder: pathlib.Path) -> dict[pathlib.Path, str]:
     """What a proof of a crate above may read of the crate in this folder: its definitions, and of its sources the types, the constants and
     the signatures and clauses of the functions that other crates can name. A call is known by its contract alone. A source
     with a macro is read whole, since what a macro says becomes a body above."""
-    read = lambda text: without_comments(text) if has_macros(text) else without_bodies(text)
-    sources = {it.relative_to(folder): read(it.read_text(encoding="utf-8")) for it in files(folder / "src")}
+    texts = {it.relative_to(folder): it.read_text(encoding="utf-8") for it in files(folder / "src")}
+    sources = {it: without_comments(text) if has_macros(text) else without_bodies(text) for it, text in texts.items()}
     specs = {it.relative_to(folder): it.read_text(encoding="utf-8") for it in files(folder / "specs")}
     private = re.compile(r"\bconst (\w+): [^;{}]*;")
     text = "\n".join([*sources.values(), *specs.values()])
@@ -363,8 +363,7 @@ def read_parts(folder: pathlib.Path) -> list[Part]:
         shown.update(word for it in more for word in it[2])
         there = [it for it in there if it not in more]
         more = [it for it in there if not it[1].isdisjoint(shown)]
-    is_had = lambda it: not it.impl or it.path in public or not (types_of_impl(it.impl) & types).isdisjoint(shown)
-    return [it for it in found if is_had(it)]
+    return [it for it in found if not it.impl or it.path in public or not (types_of_impl(it.impl) & types).isdisjoint(shown)]
 
 
 def calls_in(source: str) -> set[tuple[str, bool]]:

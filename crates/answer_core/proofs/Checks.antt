@@ -5,8 +5,8 @@ use Rattle.std.proofs.lemmas.Bool.{cases_lt}
 use Rattle.std.proofs.lemmas.List.{take_all, length-take}
 use Rattle.check_core.specs.Report.{IsCheck, counted, faulty}
 use Rattle.check_core.specs.declared.report.CheckEnd.{CheckEnd}
-use Rattle.answer_core.specs.declared.failure.Failure.{Failure}
-use Rattle.answer_core.specs.declared.failure.Failure.TheVariants as failures
+use Rattle.answer_core.specs.declared.failure.ToolFailure.{ToolFailure}
+use Rattle.answer_core.specs.declared.failure.ToolFailure.TheVariants as failures
 use Rattle.answer_core.specs.Status.{check_status}
 
 -- all texts that are too long are told the same
@@ -36,14 +36,14 @@ known_checked (Some text) source end written P is check all =
     all text (front_checked text end written (subst (λ s. IsCheck s end written) is check))
 
 -- a status that fits what was written of the known text
-abbrev pub EndedOn : Option (List ℕ) → (List ℕ → Type 0) → Result ℕ Failure → Type 0
+abbrev pub EndedOn : Option (List ℕ) → (List ℕ → Type 0) → Result ℕ ToolFailure → Type 0
 EndedOn known Wrote result = IfOk result (λ status. IfSome known (λ text. (end : CheckEnd) × (written : List ℕ) × Wrote written × IsCheck text end written × (status ≡ check_status end)))
 
 -- a write fault leaves a front of a check of the known text
-abbrev pub CutOn : Option (List ℕ) → (List ℕ → Type 0) → Result ℕ Failure → Type 0
+abbrev pub CutOn : Option (List ℕ) → (List ℕ → Type 0) → Result ℕ ToolFailure → Type 0
 CutOn known Wrote result = IsErrOf result failures.WriteFault → IfSome known (λ text. (end : CheckEnd) × (whole : List ℕ) × (count : ℕ) × IsCheck text end whole × Wrote (take count whole))
 
-ended_of : (known : Option (List ℕ)) (source : List ℕ) (Wrote : List ℕ → Type 0) (ended : Result ℕ Failure) → IfSome known (λ text. source ≡ take 65537 text)
+ended_of : (known : Option (List ℕ)) (source : List ℕ) (Wrote : List ℕ → Type 0) (ended : Result ℕ ToolFailure) → IfSome known (λ text. source ≡ take 65537 text)
     → IfOk ended (λ status. (end : CheckEnd) × (written : List ℕ) × Wrote written × IsCheck source end written × (status ≡ check_status end)) → EndedOn known Wrote ended
 ended_of known source Wrote (Ok status) is told = known_checked known source told.0 told.1
     (λ text. (end : CheckEnd) × (written : List ℕ) × Wrote written × IsCheck text end written × (status ≡ check_status end))
@@ -51,20 +51,20 @@ ended_of known source Wrote (Ok status) is told = known_checked known source tol
 ended_of known source Wrote (Err failure) is told = tt
 
 -- what was answered of the front of a known text, and handed on
-pub ended_on : (known : Option (List ℕ)) (slice source : List ℕ) (Wrote : List ℕ → Type 0) (ended result : Result ℕ Failure) → slice ≡ source → result ≡ ended
+pub ended_on : (known : Option (List ℕ)) (slice source : List ℕ) (Wrote : List ℕ → Type 0) (ended result : Result ℕ ToolFailure) → slice ≡ source → result ≡ ended
     → IfSome known (λ text. source ≡ take 65537 text)
     → IfOk ended (λ status. (end : CheckEnd) × (written : List ℕ) × Wrote written × IsCheck slice end written × (status ≡ check_status end)) → EndedOn known Wrote result
 ended_on known slice source Wrote ended result seen same is told = subst (EndedOn known Wrote) (sym same) (ended_of known source Wrote ended is
     (subst (λ s. IfOk ended (λ status. (end : CheckEnd) × (written : List ℕ) × Wrote written × IsCheck s end written × (status ≡ check_status end))) seen told))
 
-cut_of : (known : Option (List ℕ)) (source : List ℕ) (Wrote : List ℕ → Type 0) (ended : Result ℕ Failure) → IfSome known (λ text. source ≡ take 65537 text)
+cut_of : (known : Option (List ℕ)) (source : List ℕ) (Wrote : List ℕ → Type 0) (ended : Result ℕ ToolFailure) → IfSome known (λ text. source ≡ take 65537 text)
     → (IsErrOf ended failures.WriteFault → (end : CheckEnd) × (whole : List ℕ) × (count : ℕ) × IsCheck source end whole × Wrote (take count whole)) → CutOn known Wrote ended
 cut_of known source Wrote ended is told = λ failed. let all = told failed in
     known_checked known source all.0 all.1 (λ text. (end : CheckEnd) × (whole : List ℕ) × (count : ℕ) × IsCheck text end whole × Wrote (take count whole))
     is all.3 (λ text check. (all.0, all.1, all.2, check, all.4))
 
 -- the same of a write that failed
-pub cut_on : (known : Option (List ℕ)) (slice source : List ℕ) (Wrote : List ℕ → Type 0) (ended result : Result ℕ Failure) → slice ≡ source → result ≡ ended
+pub cut_on : (known : Option (List ℕ)) (slice source : List ℕ) (Wrote : List ℕ → Type 0) (ended result : Result ℕ ToolFailure) → slice ≡ source → result ≡ ended
     → IfSome known (λ text. source ≡ take 65537 text)
     → (IsErrOf ended failures.WriteFault → (end : CheckEnd) × (whole : List ℕ) × (count : ℕ) × IsCheck slice end whole × Wrote (take count whole)) → CutOn known Wrote result
 cut_on known slice source Wrote ended result seen same is told = subst (CutOn known Wrote) (sym same) (cut_of known source Wrote ended is

@@ -14,7 +14,7 @@ use Rattle.world_core.specs.Run.{IsScript, IsFront}
 use Rattle.world_core.specs.declared.script.ScriptEnd.{ScriptEnd}
 use Rattle.text_core.specs.declared.machine.LinesFault.{LinesFault}
 use Rattle.text_core.specs.declared.machine.LinesFault.TheVariants as faults
-use Rattle.answer_core.specs.declared.failure.Failure.{Failure}
+use Rattle.answer_core.specs.declared.failure.ToolFailure.{ToolFailure}
 use Rattle.answer_core.specs.Status.{script_status, paths_failure, IsFault}
 use Rattle.answer_core.specs.ScriptRun.{IsScriptRun, IsScriptFront, told, ran, nothing, told_front, ran_front}
 
@@ -85,7 +85,7 @@ is_fault faults.WriteFault = tt
 is_fault faults.Memory = tt
 
 -- The same of results, where the bytes of the head are named thrice: as they were read, opened and run.
-pub ran_ended : (r : Result ℕ Failure) (old new w v : Option (List ℕ)) (source head at on : List ℕ) (o : Object) → at ≡ head → on ≡ head → Consumes old new head → IsHead head new
+pub ran_ended : (r : Result ℕ ToolFailure) (old new w v : Option (List ℕ)) (source head at on : List ℕ) (o : Object) → at ≡ head → on ≡ head → Consumes old new head → IsHead head new
     → IsReady source at (object_of o)
     → IfOk r (λ status. IfSome new (λ rest. (end : ScriptEnd) × (written : List ℕ) × Appends w v written × IsScript o (on ++ rest) end written × (status ≡ script_status end)))
     → IfOk r (λ status. IfSome old (λ text. (written : List ℕ) × Appends w v written × IsScriptRun source text status written))
@@ -94,7 +94,7 @@ ran_ended (Ok status) old new w v source head at on o at_is on_is taken enough r
     ran_whole old new w v source head o status taken enough (subst (λ h. IsReady source h (object_of o)) at_is ready)
     (subst (λ h. IfSome new (λ rest. (end : ScriptEnd) × (written : List ℕ) × Appends w v written × IsScript o (h ++ rest) end written × (status ≡ script_status end))) on_is run)
 
-pub ran_failed : (r : Result ℕ Failure) (old new w v : Option (List ℕ)) (source head at on : List ℕ) (o : Object) → at ≡ head → on ≡ head → Consumes old new head → IsHead head new
+pub ran_failed : (r : Result ℕ ToolFailure) (old new w v : Option (List ℕ)) (source head at on : List ℕ) (o : Object) → at ≡ head → on ≡ head → Consumes old new head → IsHead head new
     → IsReady source at (object_of o)
     → IfErr r (λ failure. IsFault failure × IfSome new (λ rest. (written : List ℕ) × Appends w v written × IsFront o (on ++ rest) written))
     → IfErr r (λ failure. IsFault failure × IfSome old (λ text. (written : List ℕ) × Appends w v written × IsScriptFront source text written))
@@ -105,14 +105,14 @@ ran_failed (Err failure) old new w v source head at on o at_is on_is taken enoug
       (subst (λ h. IfSome new (λ rest. (written : List ℕ) × Appends w v written × IsFront o (h ++ rest) written)) on_is run.1),
 )
 
-pub told_ended : (r : Result ℕ Failure) (old new w v : Option (List ℕ)) (source head at line on : List ℕ) → at ≡ head → on ≡ line → Consumes old new head → IsHead head new
+pub told_ended : (r : Result ℕ ToolFailure) (old new w v : Option (List ℕ)) (source head at line on : List ℕ) → at ≡ head → on ≡ line → Consumes old new head → IsHead head new
     → IsTold source at line → IfOk r (λ status. Appends w v on × (status ≡ 1))
     → IfOk r (λ status. IfSome old (λ text. (written : List ℕ) × Appends w v written × IsScriptRun source text status written))
 told_ended (Err failure) old new w v source head at line on at_is on_is taken enough is tells = tt
 told_ended (Ok status) old new w v source head at line on at_is on_is taken enough is tells =
     told_whole old new w v source head line status taken enough (subst (λ h. IsTold source h line) at_is is) (subst (λ l. Appends w v l) on_is tells.0) tells.1
 
-pub told_failed : (r : Result ℕ Failure) (old new w v : Option (List ℕ)) (source head at line on : List ℕ) → at ≡ head → on ≡ line → Consumes old new head → IsHead head new
+pub told_failed : (r : Result ℕ ToolFailure) (old new w v : Option (List ℕ)) (source head at line on : List ℕ) → at ≡ head → on ≡ line → Consumes old new head → IsHead head new
     → IsTold source at line → IfErr r (λ failure. IsFault failure × ((count : ℕ) × Appends w v (take count on)))
     → IfErr r (λ failure. IsFault failure × IfSome old (λ text. (written : List ℕ) × Appends w v written × IsScriptFront source text written))
 told_failed (Ok status) old new w v source head at line on at_is on_is taken enough is tells = tt

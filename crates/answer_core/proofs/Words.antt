@@ -4,8 +4,8 @@ use Rattle.clap.specs.Values.{kind_of}
 use Rattle.clap.specs.declared.error.Error.{Error}
 use Rattle.clap.specs.declared.error.kind.ErrorKind.{ErrorKind}
 use Rattle.clap.specs.declared.error.kind.ErrorKind.TheVariants as kinds
-use Rattle.answer_core.specs.declared.failure.Failure.{Failure}
-use Rattle.answer_core.specs.declared.failure.Failure.TheVariants as failures
+use Rattle.answer_core.specs.declared.failure.ToolFailure.{ToolFailure}
+use Rattle.answer_core.specs.declared.failure.ToolFailure.TheVariants as failures
 use Rattle.answer_core.specs.Status.{IsShown, IsWordsEnd}
 
 help_not_memory : kinds.DisplayHelp ≡ kinds.OutOfMemory → ⊥
@@ -19,7 +19,7 @@ not_memory e (inl is) memory = help_not_memory (sym is ∙ memory)
 not_memory e (inr is) memory = version_not_memory (sym is ∙ memory)
 
 -- help, or the version
-pub shown_end : (e : Error) (r : Result ℕ Failure) → IsShown e → (r ≡ Ok 0) ⊎ (r ≡ Err failures.WriteFault) → IsWordsEnd e r
+pub shown_end : (e : Error) (r : Result ℕ ToolFailure) → IsShown e → (r ≡ Ok 0) ⊎ (r ≡ Err failures.WriteFault) → IsWordsEnd e r
 shown_end e r is ended = record {
   shown = λ _. ended;
   memory = λ m. absurd (not_memory e is m);

@@ -6,8 +6,8 @@ use Rattle.std.specs.declared.io.ErrorKind.{ErrorKind as IoKind}
 use Rattle.clap.specs.Values.{kind_of}
 use Rattle.clap.specs.declared.error.Error.{Error as UsageError}
 use Rattle.clap.specs.declared.error.kind.ErrorKind.TheVariants as kinds
-use Rattle.answer_core.specs.declared.failure.Failure.{Failure}
-use Rattle.answer_core.specs.declared.failure.Failure.TheVariants as failures
+use Rattle.answer_core.specs.declared.failure.ToolFailure.{ToolFailure}
+use Rattle.answer_core.specs.declared.failure.ToolFailure.TheVariants as failures
 use Rattle.text_core.specs.declared.machine.LinesFault.{LinesFault}
 use Rattle.text_core.specs.declared.machine.LinesFault.TheVariants as faults
 use Rattle.text_core.specs.declared.machine.LinesEnd.{LinesEnd}
@@ -39,26 +39,26 @@ script_status script_ends.Whole = 0
 script_status (script_ends.BadLine line) = 1
 
 -- a failure: 2 usage, 3 a read or write fault, 4 memory
-abbrev pub status_of : Failure → ℕ
+abbrev pub status_of : ToolFailure → ℕ
 status_of (failures.Usage error) = 2
 status_of failures.ReadFault = 3
 status_of failures.WriteFault = 3
 status_of failures.Memory = 4
 
 -- the exit status of a run: the one that it gave, or that of its failure
-abbrev pub exit_status_of : Result ℕ Failure → ℕ
+abbrev pub exit_status_of : Result ℕ ToolFailure → ℕ
 exit_status_of (Ok status) = status
 exit_status_of (Err failure) = status_of failure
 
 -- what standard error gets; the text of a wrong command line is not known
-abbrev pub failure_text : Failure → Option (List ℕ)
+abbrev pub failure_text : ToolFailure → Option (List ℕ)
 failure_text (failures.Usage error) = None
 failure_text failures.ReadFault = Some (codes "read fault\n")
 failure_text failures.WriteFault = Some (codes "write fault\n")
 failure_text failures.Memory = Some (codes "out of memory\n")
 
 -- a failure that a command may meet, whose command line was right
-abbrev pub IsFault : Failure → Type 0
+abbrev pub IsFault : ToolFailure → Type 0
 IsFault (failures.Usage error) = ⊥
 IsFault failures.ReadFault = ⊤
 IsFault failures.WriteFault = ⊤
@@ -70,24 +70,25 @@ IsShown error = (kind_of error ≡ kinds.DisplayHelp) ⊎ (kind_of error ≡ kin
 
 -- what words end with that ask for no command: with status 0 where they ask to be shown something, unless it cannot be
 -- written; else as usage, but for a want of memory
-pub record IsWordsEnd (error : UsageError) (ended : Result ℕ Failure) : Type 0 where
+pub record IsWordsEnd (error : UsageError) (ended : Result ℕ ToolFailure) : Type 0 where
   pub shown : IsShown error → (ended ≡ Ok 0) ⊎ (ended ≡ Err failures.WriteFault)
   pub memory : kind_of error ≡ kinds.OutOfMemory → ended ≡ Err failures.Memory
   pub mistake : (IsShown error → ⊥) → (kind_of error ≡ kinds.OutOfMemory → ⊥) → ended ≡ Err (failures.Usage error)
 
 -- a reader that failed is told as such, but for a want of memory
-abbrev pub IsUnread : IoError → Failure → Type 0
+abbrev pub IsUnread : IoError → ToolFailure → Type 0
 IsUnread error failure =
     (error_kind error ≡ IoKind.OutOfMemory → failure ≡ failures.Memory)
     × ((error_kind error ≡ IoKind.OutOfMemory → ⊥) → failure ≡ failures.ReadFault)
+    × ((failure ≡ failures.ReadFault) ⊎ (failure ≡ failures.Memory))
 
 -- a fault of the paths engine, as the program tells it
-abbrev pub paths_failure : LinesFault → Failure
+abbrev pub paths_failure : LinesFault → ToolFailure
 paths_failure faults.ReadFault = failures.ReadFault
 paths_failure faults.WriteFault = failures.WriteFault
 paths_failure faults.Memory = failures.Memory
 
 -- a fault of the engine of `check`, as the program tells it
-abbrev pub check_failure : CheckFault → Failure
+abbrev pub check_failure : CheckFault → ToolFailure
 check_failure check_faults.WriteFault = failures.WriteFault
 check_failure check_faults.Memory = failures.Memory

@@ -9,10 +9,10 @@ ghost use Rattle.check_core.specs.declared.report.CheckEnd.{CheckEnd};
 ghost use Rattle.answer_core.specs.Status.{paths_status, check_status, IsFault};
 ghost use Rattle.answer_core.specs.Telling.{IsHinted};
 ghost use Rattle.answer_core.specs.declared.explanation.Telling.TheVariants.{Nothing, Hint};
-ghost use Rattle.answer_core.specs.declared.failure.Failure.TheVariants.{ReadFault, WriteFault, Memory};
+ghost use Rattle.answer_core.specs.declared.failure.ToolFailure.TheVariants.{ReadFault, WriteFault, Memory};
 
 use crate::explanation::{Telling, explained};
-use crate::failure::Failure;
+use crate::failure::ToolFailure;
 use crate::source::read_source;
 use check_core::report::{CheckEnd, check_report};
 use path_count::paths::{PathsEnd, run_paths};
@@ -54,7 +54,7 @@ pub fn answer_lines<R: Read, W: Write>(
     alloc: Global,
     reader: &mut R,
     writer: &mut W,
-) -> Result<u8, Failure>
+) -> Result<u8, ToolFailure>
     ensures ended { IfOk result (λ status.
         IfSome (R.remaining reader.old) (λ text. (end : LinesEnd) × (written : List ℕ)
         × Appends (W.contents writer.old) (W.contents writer.new) written × IsRun text end written
@@ -69,12 +69,12 @@ pub fn answer_lines<R: Read, W: Write>(
 {
     match run_paths(alloc, reader, writer) {
         Ok(end) => Ok(status_of_paths(end)),
-        Err(fault) => Err(Failure::from(fault)),
+        Err(fault) => Err(ToolFailure::from(fault)),
     }
 }
 
 // What `check` answers of a source: its report, and the exit status.
-fn check_text<W: Write>(alloc: Global, source: &[u8], writer: &mut W) -> Result<u8, Failure>
+fn check_text<W: Write>(alloc: Global, source: &[u8], writer: &mut W) -> Result<u8, ToolFailure>
     ensures ended { IfOk result (λ status. (end : CheckEnd) × (written : List ℕ)
         × Appends (W.contents writer.old) (W.contents writer.new) written × IsCheck source.now end written
         × (status ≡ check_status end)) }
@@ -86,7 +86,7 @@ fn check_text<W: Write>(alloc: Global, source: &[u8], writer: &mut W) -> Result<
 {
     match check_report(alloc, source, writer) {
         Ok(end) => Ok(status_of_check(end)),
-        Err(fault) => Err(Failure::from(fault)),
+        Err(fault) => Err(ToolFailure::from(fault)),
     }
 }
 
@@ -103,7 +103,7 @@ pub fn check_source<R: Read + Drop, W: Write, E: Write>(
     telling: Telling,
     file: &str,
     error: &mut E,
-) -> Result<u8, Failure>
+) -> Result<u8, ToolFailure>
     ensures ended { IfOk result (λ status. IfSome (R.remaining reader) (λ text. (end : CheckEnd) × (written : List ℕ)
         × Appends (W.contents writer.old) (W.contents writer.new) written × IsCheck text end written
         × (status ≡ check_status end))) }
@@ -119,7 +119,7 @@ pub fn check_source<R: Read + Drop, W: Write, E: Write>(
 {
     let source = match read_source(alloc, reader) {
         Ok(source) => source,
-        Err(error) => return Err(Failure::from(error)),
+        Err(error) => return Err(ToolFailure::from(error)),
     };
     let ended = check_text(alloc, &source, writer);
     explained(alloc, ended, telling, file, &source, None, error)

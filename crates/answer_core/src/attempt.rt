@@ -7,7 +7,7 @@ ghost use Rattle.world_core.specs.PromptRun.{IsTried, IsTriedFront};
 ghost use Rattle.answer_core.specs.Status.{IsFault};
 
 use crate::answer::ACCEPTED;
-use crate::failure::Failure;
+use crate::failure::ToolFailure;
 use decl_core::analyse::Accepted;
 use std::alloc::Global;
 use std::io::{Read, Write};
@@ -24,7 +24,7 @@ pub fn answer_try<R: Read, W: Write>(
     texts: Texts<'_>,
     reader: &mut R,
     writer: &mut W,
-) -> Result<u8, Failure>
+) -> Result<u8, ToolFailure>
     ensures ended { IfOk result (λ status. (status ≡ ACCEPTED) × IfSome (R.remaining reader.old) (λ text.
         (written : List ℕ) × Appends (W.contents writer.old) (W.contents writer.new) written
         × IsTried accepted (texts_in texts.entry) text written)) }
@@ -36,6 +36,6 @@ pub fn answer_try<R: Read, W: Write>(
 {
     match run_prompt(alloc, accepted, texts, reader, writer) {
         Ok(()) => Ok(ACCEPTED),
-        Err(fault) => Err(Failure::from(fault)),
+        Err(fault) => Err(ToolFailure::from(fault)),
     }
 }

@@ -6,10 +6,10 @@ ghost use Rattle.audit_core.specs.declared.verdict.AuditVerdict.TheVariants as v
 ghost use Rattle.check_core.specs.Named.{NamesObject};
 ghost use Rattle.answer_core.specs.AuditRun.{audit_status, line_number, verdict_line, IsAuditRun};
 ghost use Rattle.answer_core.specs.Status.{IsFault};
-ghost use Rattle.answer_core.specs.declared.failure.Failure.TheVariants.{ReadFault, WriteFault, Memory};
+ghost use Rattle.answer_core.specs.declared.failure.ToolFailure.TheVariants.{ReadFault, WriteFault, Memory};
 
 use crate::answer::{ACCEPTED, REFUSED};
-use crate::failure::Failure;
+use crate::failure::ToolFailure;
 use crate::source::read_whole;
 use audit_core::audit::audit;
 use audit_core::verdict::AuditVerdict;
@@ -144,7 +144,7 @@ pub fn audit_trace<R: Read + Drop, W: Write>(
     source: &[u8],
     reader: R,
     writer: &mut W,
-) -> Result<u8, Failure>
+) -> Result<u8, ToolFailure>
     ensures ended { IfOk result (λ status. IfSome (R.remaining reader) (λ text. (written : List ℕ)
         × Appends (W.contents writer.old) (W.contents writer.new) written
         × IsAuditRun source.now text status written)) }
@@ -159,14 +159,14 @@ pub fn audit_trace<R: Read + Drop, W: Write>(
 {
     let text = match read_whole(alloc, reader) {
         Ok(text) => text,
-        Err(error) => return Err(Failure::from(error)),
+        Err(error) => return Err(ToolFailure::from(error)),
     };
     let said = match audit_said(alloc, source, &text) {
         Ok(said) => said,
-        Err(_) => return Err(Failure::Memory),
+        Err(_) => return Err(ToolFailure::Memory),
     };
     match write_whole(writer, &said.line) {
         Ok(()) => Ok(said.status),
-        Err(_) => Err(Failure::WriteFault),
+        Err(_) => Err(ToolFailure::WriteFault),
     }
 }

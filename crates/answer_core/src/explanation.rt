@@ -6,7 +6,7 @@ ghost use Rattle.answer_core.specs.Telling.{IsHinted};
 ghost use Rattle.answer_core.specs.declared.explanation.Telling.TheVariants.{Nothing, Hint};
 
 use crate::answer::REFUSED;
-use crate::failure::Failure;
+use crate::failure::ToolFailure;
 use check_core::head::named_object;
 use explain_core::explain::explain;
 use explain_core::stuck_explain::explain_stuck;
@@ -84,13 +84,13 @@ fn push_explanation<E: Write>(
 #[tactic(auto, using(crate::proofs::Hints::no_hint))]
 pub fn explained<E: Write>(
     alloc: Global,
-    ended: Result<u8, Failure>,
+    ended: Result<u8, ToolFailure>,
     telling: Telling,
     file: &str,
     source: &[u8],
     only: Option<&[u8]>,
     error: &mut E,
-) -> Result<u8, Failure>
+) -> Result<u8, ToolFailure>
     ensures same { result ≡ ended }
     ensures unasked { telling ≡ Nothing → Keeps (E.contents error.old) (E.contents error.new) }
     ensures hint { telling ≡ Hint → IsHinted (E.contents error.old) (E.contents error.new) }
@@ -128,12 +128,12 @@ fn push_stuck<E: Write>(alloc: Global, telling: Telling, file: &str, source: &[u
 #[tactic(auto, using(crate::proofs::Hints::no_hint))]
 pub fn explained_stuck<E: Write>(
     alloc: Global,
-    ended: Result<u8, Failure>,
+    ended: Result<u8, ToolFailure>,
     telling: Telling,
     file: &str,
     source: &[u8],
     error: &mut E,
-) -> Result<u8, Failure>
+) -> Result<u8, ToolFailure>
     ensures same { result ≡ ended }
     ensures unasked { telling ≡ Nothing → Keeps (E.contents error.old) (E.contents error.new) }
     ensures hint { telling ≡ Hint → IsHinted (E.contents error.old) (E.contents error.new) }
@@ -150,13 +150,13 @@ pub fn explained_stuck<E: Write>(
 #[tactic(auto, using(crate::proofs::Hints::no_hint))]
 pub fn explained_script<E: Write>(
     alloc: Global,
-    ended: Result<u8, Failure>,
+    ended: Result<u8, ToolFailure>,
     telling: Telling,
     file: &str,
     source: &[u8],
     head: &[u8],
     error: &mut E,
-) -> Result<u8, Failure>
+) -> Result<u8, ToolFailure>
     ensures same { result ≡ ended }
     ensures unasked { telling ≡ Nothing → Keeps (E.contents error.old) (E.contents error.new) }
     ensures hint { telling ≡ Hint → IsHinted (E.contents error.old) (E.contents error.new) }
@@ -178,7 +178,7 @@ pub fn explained_script<E: Write>(
 // Writes what is wrong with lines of a script that came to its end, or to a bad line.
 fn push_script<E: Write>(
     alloc: Global,
-    ended: &Result<u8, Failure>,
+    ended: &Result<u8, ToolFailure>,
     files: Files<'_>,
     source: &[u8],
     text: Option<&[u8]>,
@@ -197,13 +197,13 @@ fn push_script<E: Write>(
 /// object does not take. Want of memory, and a write that fails, end the explanation alone.
 pub fn explained_run<E: Write>(
     alloc: Global,
-    ended: Result<u8, Failure>,
+    ended: Result<u8, ToolFailure>,
     telling: Telling,
     files: Files<'_>,
     source: &[u8],
     text: Option<&[u8]>,
     error: &mut E,
-) -> Result<u8, Failure>
+) -> Result<u8, ToolFailure>
     ensures same { result ≡ ended }
     ensures unasked { telling ≡ Nothing → Keeps (E.contents error.old) (E.contents error.new) }
     ensures hint { telling ≡ Hint → Keeps (E.contents error.old) (E.contents error.new) }
@@ -250,13 +250,13 @@ fn push_trace<E: Write>(
 #[tactic(auto, using(crate::proofs::Hints::no_hint))]
 pub fn explained_audit<E: Write>(
     alloc: Global,
-    ended: Result<u8, Failure>,
+    ended: Result<u8, ToolFailure>,
     telling: Telling,
     files: Files<'_>,
     source: &[u8],
     text: Option<&[u8]>,
     error: &mut E,
-) -> Result<u8, Failure>
+) -> Result<u8, ToolFailure>
     ensures same { result ≡ ended }
     ensures unasked { telling ≡ Nothing → Keeps (E.contents error.old) (E.contents error.new) }
     ensures hint { telling ≡ Hint → IsHinted (E.contents error.old) (E.contents error.new) }

@@ -16,7 +16,7 @@ use std::{fmt, io};
 
 /// Why the program has nothing to answer. As text it is what standard error gets.
 #[derive(Debug, Drop)]
-pub enum Failure {
+pub enum ToolFailure {
     /// The command line asks for no command, and for no help either.
     Usage(Error),
     /// Standard input or a file cannot be read, or standard input has no end.
@@ -27,7 +27,7 @@ pub enum Failure {
     Memory,
 }
 
-impl Failure {
+impl ToolFailure {
     ghost use Rattle.answer_core.specs.Status.{status_of};
 
     /// The exit status: 2 usage, 3 a read or write fault, 4 memory.
@@ -35,15 +35,15 @@ impl Failure {
         ensures { result ≡ status_of self.now }
     {
         match self {
-            Failure::Usage(_) => 2,
-            Failure::ReadFault | Failure::WriteFault => 3,
-            Failure::Memory => 4,
+            ToolFailure::Usage(_) => 2,
+            ToolFailure::ReadFault | ToolFailure::WriteFault => 3,
+            ToolFailure::Memory => 4,
         }
     }
 }
 
 /// The exit status of a run: the one that it gave, or that of its failure.
-pub fn exit_status(ended: &Result<u8, Failure>) -> u8
+pub fn exit_status(ended: &Result<u8, ToolFailure>) -> u8
     ensures { result ≡ exit_status_of ended.now }
 {
     match ended {
@@ -58,7 +58,7 @@ pub fn exit_status(ended: &Result<u8, Failure>) -> u8
 /// A failure is `Usage` at a mistake, `WriteFault`, which leaves a front of the text, or `Memory`. At a mistake, and
 /// where memory was refused, `writer` gets nothing.
 #[tactic(auto, using(crate::proofs::Words::shown_end, crate::proofs::Words::no_memory, crate::proofs::Words::is_usage))]
-pub fn words_end<W: Write>(error: Error, writer: &mut W) -> Result<u8, Failure>
+pub fn words_end<W: Write>(error: Error, writer: &mut W) -> Result<u8, ToolFailure>
     ensures ended { IsWordsEnd error result }
     ensures kept { (IsShown error → ⊥) → Keeps (W.contents writer.old) (W.contents writer.new) }
 {
@@ -66,79 +66,79 @@ pub fn words_end<W: Write>(error: Error, writer: &mut W) -> Result<u8, Failure>
         ErrorKind::DisplayHelp | ErrorKind::DisplayVersion => {
             match write!(writer, "{error}") {
                 Ok(()) => Ok(ACCEPTED),
-                Err(_) => Err(Failure::WriteFault),
+                Err(_) => Err(ToolFailure::WriteFault),
             }
         }
-        ErrorKind::OutOfMemory => Err(Failure::Memory),
-        _ => Err(Failure::Usage(error)),
+        ErrorKind::OutOfMemory => Err(ToolFailure::Memory),
+        _ => Err(ToolFailure::Usage(error)),
     }
 }
 
-impl fmt::Display for Failure {
+impl fmt::Display for ToolFailure {
     ghost use Rattle.answer_core.specs.Status.{failure_text};
 
     ghost output = { failure_text };
 
     fn fmt<W: fmt::Write>(&self, f: &mut fmt::Formatter<W>) -> fmt::Result {
         match self {
-            Failure::Usage(error) => write!(f, "{error}"),
-            Failure::ReadFault => f.write_str("read fault\n"),
-            Failure::WriteFault => f.write_str("write fault\n"),
-            Failure::Memory => f.write_str("out of memory\n"),
+            ToolFailure::Usage(error) => write!(f, "{error}"),
+            ToolFailure::ReadFault => f.write_str("read fault\n"),
+            ToolFailure::WriteFault => f.write_str("write fault\n"),
+            ToolFailure::Memory => f.write_str("out of memory\n"),
         }
     }
 }
 
-impl From<AllocError> for Failure {
+impl From<AllocError> for ToolFailure {
     ghost use Rattle.std.specs.Prelude.{◌≡◌};
-    ghost use Rattle.answer_core.specs.declared.failure.Failure.TheVariants.{Memory};
+    ghost use Rattle.answer_core.specs.declared.failure.ToolFailure.TheVariants.{Memory};
 
     ghost from_gives = { λ _ failure. failure ≡ Memory };
 
-    fn from(_: AllocError) -> Failure {
-        Failure::Memory
+    fn from(_: AllocError) -> ToolFailure {
+        ToolFailure::Memory
     }
 }
 
-impl From<io::Error> for Failure {
+impl From<io::Error> for ToolFailure {
     ghost use Rattle.answer_core.specs.Status.{IsUnread};
 
     ghost from_gives = { IsUnread };
 
-    fn from(error: io::Error) -> Failure {
+    fn from(error: io::Error) -> ToolFailure {
         if error.kind() == io::ErrorKind::OutOfMemory {
-            Failure::Memory
+            ToolFailure::Memory
         } else {
-            Failure::ReadFault
+            ToolFailure::ReadFault
         }
     }
 }
 
-impl From<PathsFault> for Failure {
+impl From<PathsFault> for ToolFailure {
     ghost use Rattle.std.specs.Prelude.{◌≡◌};
     ghost use Rattle.answer_core.specs.Status.{paths_failure};
 
     ghost from_gives = { λ fault failure. failure ≡ paths_failure fault };
 
-    fn from(fault: PathsFault) -> Failure {
+    fn from(fault: PathsFault) -> ToolFailure {
         match fault {
-            PathsFault::ReadFault => Failure::ReadFault,
-            PathsFault::WriteFault => Failure::WriteFault,
-            PathsFault::Memory => Failure::Memory,
+            PathsFault::ReadFault => ToolFailure::ReadFault,
+            PathsFault::WriteFault => ToolFailure::WriteFault,
+            PathsFault::Memory => ToolFailure::Memory,
         }
     }
 }
 
-impl From<CheckFault> for Failure {
+impl From<CheckFault> for ToolFailure {
     ghost use Rattle.std.specs.Prelude.{◌≡◌};
     ghost use Rattle.answer_core.specs.Status.{check_failure};
 
     ghost from_gives = { λ fault failure. failure ≡ check_failure fault };
 
-    fn from(fault: CheckFault) -> Failure {
+    fn from(fault: CheckFault) -> ToolFailure {
         match fault {
-            CheckFault::WriteFault => Failure::WriteFault,
-            CheckFault::Memory => Failure::Memory,
+            CheckFault::WriteFault => ToolFailure::WriteFault,
+            CheckFault::Memory => ToolFailure::Memory,
         }
     }
 }

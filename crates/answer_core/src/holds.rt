@@ -8,7 +8,7 @@ ghost use Rattle.answer_core.specs.Telling.{held_text};
 
 use crate::answer::REFUSED;
 use crate::explanation::Telling;
-use crate::failure::Failure;
+use crate::failure::ToolFailure;
 use crate::said::written;
 use check_core::report::push_source_fault;
 use decl_read::fault::DeclFault;
@@ -30,7 +30,7 @@ pub fn refuse_faulty<W: Write, E: Write>(
     file: &str,
     writer: &mut W,
     error: &mut E,
-) -> Result<u8, Failure>
+) -> Result<u8, ToolFailure>
     ensures told { OnOk result (Appends (W.contents writer.old) (W.contents writer.new) (fault_line fault)) }
     ensures status { IfOk result (λ given. given ≡ 1) }
     ensures fault { IfErr result IsFault }
@@ -84,7 +84,7 @@ fn refuse_named<W: Write>(
     name: &[u8],
     instead: &[u8],
     writer: &mut W,
-) -> Result<u8, Failure>
+) -> Result<u8, ToolFailure>
     ensures told { OnOk result (Appends (W.contents writer.old) (W.contents writer.new)
         (held_text name.now instead.now)) }
     ensures status { IfOk result (λ given. given ≡ 1) }
@@ -103,7 +103,7 @@ pub fn refuse_held<W: Write>(
     held: &Held,
     instead: &[u8],
     writer: &mut W,
-) -> Result<u8, Failure>
+) -> Result<u8, ToolFailure>
     ensures told { (name : List ℕ) × OnOk result (Appends (W.contents writer.old) (W.contents writer.new)
         (held_text name instead.now)) }
     ensures status { IfOk result (λ given. given ≡ 1) }

@@ -1,10 +1,12 @@
 //! Files and folders that a command reads.
 
-ghost use Rattle.std.specs.Prelude.{IfErr};
+ghost use Rattle.std.specs.Prelude.{◌⊎◌, IfErr};
+ghost use Rattle.answer_core.specs.Lacks.{Lacks};
 ghost use Rattle.answer_core.specs.Status.{IsFault};
+ghost use Rattle.answer_core.specs.declared.lack.Wanted.TheVariants.{Folder, Lock};
 
 use crate::explanation::Telling;
-use crate::failure::Failure;
+use crate::failure::ToolFailure;
 use crate::lack::{Lacking, Wanted};
 use crate::said::told;
 use crate::source::read_source;
@@ -17,7 +19,9 @@ use std::io::ErrorKind;
 const HEAD_BYTES: usize = 4_096;
 
 /// Opens a folder. It lacks the folder where that cannot be opened, or is none.
-pub fn open_folder(rt: &HostRuntime, folder: &str) -> Result<File, Lacking> {
+pub fn open_folder(rt: &HostRuntime, folder: &str) -> Result<File, Lacking>
+    ensures { IfErr result (λ lacking. Lacks Folder lacking) }
+{
     let opened = match File::open(rt, folder) {
         Ok(opened) => opened,
         Err(error) => return Err(Lacking::of(Wanted::Folder, error)),
@@ -36,7 +40,9 @@ pub fn is_folder(rt: &HostRuntime, path: &str) -> bool {
 
 /// Takes the folder for this program alone, as long as what is given stays open. It lacks the folder, as `open_folder` does,
 /// or the lock, which another program has.
-pub fn lock_folder(rt: &HostRuntime, folder: &str) -> Result<File, Lacking> {
+pub fn lock_folder(rt: &HostRuntime, folder: &str) -> Result<File, Lacking>
+    ensures { IfErr result (λ lacking. Lacks Folder lacking ⊎ Lacks Lock lacking) }
+{
     let lock = open_folder(rt, folder)?;
     match lock.try_lock() {
         Ok(()) => Ok(lock),
@@ -86,7 +92,11 @@ pub struct Inputs {
 /// Reads the source, and opens the second file. Where one lacks that is told, the source first.
 ///
 /// A failure is `ReadFault` or `Memory`.
-pub fn inputs_of(rt: &HostRuntime, files: Files<'_>, telling: Telling) -> Result<Inputs, Failure>
+pub fn inputs_of(
+    rt: &HostRuntime,
+    files: Files<'_>,
+    telling: Telling,
+) -> Result<Inputs, ToolFailure>
     ensures { IfErr result IsFault }
 {
     let source = match source_at(rt, files.source) {

@@ -1,10 +1,14 @@
 //! What a command needs to read, and what standard error is told where it lacks that.
 
-ghost use Rattle.std.specs.Prelude.{◌≡◌};
+ghost use Rattle.std.specs.Prelude.{◌≡◌, ◌++◌, IfOk, OnOk};
+ghost use Rattle.std.specs.IoError.{error_kind};
+ghost use Rattle.std.specs.declared.io.ErrorKind.TheVariants.{OutOfMemory};
+ghost use Rattle.answer_core.specs.Lacks.{AppendsFront, Lacks, LacksBy, TellsLack, lack_text, need_text};
+ghost use Rattle.answer_core.specs.Lacks.{cause_text as the_cause_text};
 ghost use Rattle.answer_core.specs.Status.{IsFault};
-ghost use Rattle.answer_core.specs.declared.failure.Failure.TheVariants.{ReadFault};
+ghost use Rattle.answer_core.specs.declared.failure.ToolFailure.TheVariants.{ReadFault};
 
-use crate::failure::Failure;
+use crate::failure::ToolFailure;
 use std::alloc::{AllocError, Global};
 use std::io::{self, ErrorKind, Write};
 use text_core::reply::push_number;
@@ -40,7 +44,7 @@ pub struct Unmet {
 #[derive(Debug, Drop)]
 pub struct Lacking {
     /// What the program ends with.
-    pub failure: Failure,
+    pub failure: ToolFailure,
     /// What it was about, where it was not memory.
     pub lack: Option<Unmet>,
 }
@@ -48,57 +52,74 @@ pub struct Lacking {
 impl Lacking {
     /// The one of an error of the system: `ReadFault`, or `Memory`.
     pub fn of(need: Wanted, error: io::Error) -> Lacking
-        ensures { IsFault result.failure }
+        ensures fault { IsFault result.failure }
+        ensures need { Lacks need result }
+        ensures cause { (error_kind error ≡ OutOfMemory → ⊥) → LacksBy need (error_kind error) result }
     {
         let cause = error.kind();
-        match Failure::from(error) {
-            Failure::ReadFault => Lacking::at(need, cause),
-            failure => Lacking {
-                failure,
-                lack: None,
-            },
+        match ToolFailure::from(error) {
+            ToolFailure::ReadFault => Lacking::at(need, cause),
+            _ => Lacking::from(AllocError),
         }
     }
 
     /// The one of what is not there, or is no such thing.
     pub fn at(need: Wanted, cause: ErrorKind) -> Lacking
-        ensures { result.failure ≡ ReadFault }
+        ensures fault { result.failure ≡ ReadFault }
+        ensures need { LacksBy need cause result }
     {
         Lacking {
-            failure: Failure::ReadFault,
+            failure: ToolFailure::ReadFault,
             lack: Some(Unmet { need, cause }),
         }
     }
 }
 
 impl From<AllocError> for Lacking {
+    ghost use Rattle.answer_core.specs.Lacks.{LacksMemory};
+
+    ghost from_gives = { λ _ lacking. LacksMemory lacking };
+
     fn from(_: AllocError) -> Lacking {
         Lacking {
-            failure: Failure::Memory,
+            failure: ToolFailure::Memory,
             lack: None,
         }
     }
 }
 
-// What is said of a need.
-fn push_need(out: &mut Vec<u8>, need: Wanted, name: &str) -> Result<(), AllocError> {
-    let said: &[u8] = match need {
-        Wanted::Input => return out.extend_from_slice(b"standard input cannot be read"),
-        Wanted::Port(port) => {
-            return push_number(out, b"nobody can listen at port ", u64::from(port));
-        }
-        Wanted::Socket => b": nobody can listen at this path",
-        Wanted::File => b": this file cannot be read",
-        Wanted::Folder => b": this folder cannot be read",
-        Wanted::Lock => b": another server has this folder",
-        Wanted::Parts => b": in this folder a part cannot be read, or no file can be made",
-    };
+// A name, and what is said of it.
+fn push_named(out: &mut Vec<u8>, name: &str, said: &[u8]) -> Result<(), AllocError>
+    ensures { OnOk result (out.new.items ≡ out.old.items ++ (name.now ++ said.now)) }
+{
     out.extend_from_slice(name.as_bytes())?;
-    out.extend_from_slice(said)
+    out.extend_from_slice(said)?;
+    Ok(())
+}
+
+// What is said of a need.
+fn push_need(out: &mut Vec<u8>, need: Wanted, name: &str) -> Result<(), AllocError>
+    ensures { OnOk result (out.new.items ≡ out.old.items ++ need_text need name.now) }
+{
+    match need {
+        Wanted::Input => out.extend_from_slice(b"standard input cannot be read"),
+        Wanted::File => push_named(out, name, b": this file cannot be read"),
+        Wanted::Folder => push_named(out, name, b": this folder cannot be read"),
+        Wanted::Lock => push_named(out, name, b": another server has this folder"),
+        Wanted::Port(port) => push_number(out, b"nobody can listen at port ", u64::from(port)),
+        Wanted::Socket => push_named(out, name, b": nobody can listen at this path"),
+        Wanted::Parts => push_named(
+            out,
+            name,
+            b": in this folder a part cannot be read, or no file can be made",
+        ),
+    }
 }
 
 // What is said of a cause: nothing, where the name says as much.
-fn cause_text(cause: ErrorKind) -> &'static [u8] {
+fn cause_text(cause: ErrorKind) -> &'static [u8]
+    ensures { result.now ≡ the_cause_text cause }
+{
     match cause {
         ErrorKind::NotFound => b": it is not there",
         ErrorKind::PermissionDenied => b": there is no permission",
@@ -111,7 +132,9 @@ fn cause_text(cause: ErrorKind) -> &'static [u8] {
 }
 
 // The line that says what is lacking.
-fn lack_line(alloc: Global, lack: Unmet, name: &str) -> Result<Vec<u8>, AllocError> {
+fn lack_line(alloc: Global, lack: Unmet, name: &str) -> Result<Vec<u8>, AllocError>
+    ensures { IfOk result (λ line. line.items ≡ lack_text lack name.now) }
+{
     let mut out = Vec::new(alloc);
     push_need(&mut out, lack.need, name)?;
     out.extend_from_slice(cause_text(lack.cause))?;
@@ -119,13 +142,33 @@ fn lack_line(alloc: Global, lack: Unmet, name: &str) -> Result<Vec<u8>, AllocErr
     Ok(out)
 }
 
-/// Tells `error` what is lacking, where something is, by its name on the command line. Where memory for that is refused
-/// nothing is told.
-pub fn tell_lack<E: Write>(alloc: Global, lack: Option<Unmet>, name: &str, error: &mut E) {
-    let Some(lack) = lack else {
-        return;
-    };
+// Writes a line; where the writer fails, a front of it.
+#[tactic(auto, using(crate::proofs::Hints::whole_line))]
+fn write_line<E: Write>(line: &[u8], error: &mut E)
+    ensures { AppendsFront (E.contents error.old) (E.contents error.new) line.now }
+{
+    match write_whole(error, line) {
+        Ok(()) | Err(_) => {}
+    }
+}
+
+// Tells what is lacking.
+#[tactic(auto, using(crate::proofs::Hints::no_line))]
+fn tell_unmet<E: Write>(alloc: Global, lack: Unmet, name: &str, error: &mut E)
+    ensures { AppendsFront (E.contents error.old) (E.contents error.new) (lack_text lack name.now) }
+{
     if let Ok(line) = lack_line(alloc, lack, name) {
-        let _ = write_whole(error, &line);
+        write_line(&line, error);
+    }
+}
+
+/// Tells `error` what is lacking, where something is, by its name on the command line. Where memory for that is refused
+/// nothing is told, and where a write fails a front of the line.
+pub fn tell_lack<E: Write>(alloc: Global, lack: Option<Unmet>, name: &str, error: &mut E)
+    ensures { TellsLack lack name.now (E.contents error.old) (E.contents error.new) }
+{
+    match lack {
+        Some(lack) => tell_unmet(alloc, lack, name, error),
+        None => {}
     }
 }

@@ -4,10 +4,10 @@ ghost use Rattle.std.specs.Prelude.{◌≡◌, ℕ, IfErr, IfOk, OnErr, OnOk, ta
 ghost use Rattle.std.specs.Io.KnownBytes.{Appends};
 ghost use Rattle.answer_core.specs.declared.explanation.Telling.TheVariants.{Nothing, Whole};
 ghost use Rattle.command_line.specs.declared.request.Explain.TheVariants.{Always, Never};
-ghost use Rattle.answer_core.specs.declared.failure.Failure.TheVariants.{WriteFault};
+ghost use Rattle.answer_core.specs.declared.failure.ToolFailure.TheVariants.{WriteFault};
 
 use crate::explanation::Telling;
-use crate::failure::Failure;
+use crate::failure::ToolFailure;
 use crate::lack::{Lacking, Unmet, Wanted, tell_lack};
 use command_line::request::Explain;
 use note_core::kept::CopyingReader;
@@ -33,7 +33,7 @@ pub fn telling_of(rt: &HostRuntime, when: Explain) -> Telling
 }
 
 /// Tells what is lacking, by its name, and gives what the program ends with.
-pub fn told(rt: &HostRuntime, lacking: Lacking, name: &str) -> Failure
+pub fn told(rt: &HostRuntime, lacking: Lacking, name: &str) -> ToolFailure
     ensures { result ≡ lacking.failure }
 {
     let Lacking { failure, lack } = lacking;
@@ -44,14 +44,14 @@ pub fn told(rt: &HostRuntime, lacking: Lacking, name: &str) -> Failure
 /// Hands on what a command ended with; where it could not read this to its end that is told.
 pub fn told_unread<R: Read + Drop>(
     rt: &HostRuntime,
-    ended: Result<u8, Failure>,
+    ended: Result<u8, ToolFailure>,
     need: Wanted,
     name: &str,
     kept: &CopyingReader<R>,
-) -> Result<u8, Failure>
+) -> Result<u8, ToolFailure>
     ensures { result ≡ ended }
 {
-    if let Err(Failure::ReadFault) = &ended {
+    if let Err(ToolFailure::ReadFault) = &ended {
         let lack = Unmet {
             need,
             cause: kept.fault().unwrap_or(ErrorKind::Other),
@@ -62,7 +62,7 @@ pub fn told_unread<R: Read + Drop>(
 }
 
 /// Writes what is answered, and gives the exit status. A failure is `WriteFault`, which leaves a front of the text.
-pub fn written<W: Write>(text: &[u8], status: u8, writer: &mut W) -> Result<u8, Failure>
+pub fn written<W: Write>(text: &[u8], status: u8, writer: &mut W) -> Result<u8, ToolFailure>
     ensures told { OnOk result (Appends (W.contents writer.old) (W.contents writer.new) text.now) }
     ensures cut { OnErr result ((count : ℕ)
         × Appends (W.contents writer.old) (W.contents writer.new) (take count text.now)) }
@@ -71,6 +71,6 @@ pub fn written<W: Write>(text: &[u8], status: u8, writer: &mut W) -> Result<u8, 
 {
     match write_whole(writer, text) {
         Ok(()) => Ok(status),
-        Err(_) => Err(Failure::WriteFault),
+        Err(_) => Err(ToolFailure::WriteFault),
     }
 }

@@ -9,7 +9,7 @@ ghost use Rattle.answer_core.specs.ScriptRun.{IsScriptRun, IsScriptFront};
 
 use crate::answer::{ACCEPTED, REFUSED};
 use crate::explanation::{Telling, explained_script};
-use crate::failure::Failure;
+use crate::failure::ToolFailure;
 use check_core::head::read_head;
 use check_core::open::{OpenedScript, open_script};
 use decl_core::analyse::Accepted;
@@ -36,7 +36,7 @@ fn run_on<R: Read, W: Write>(
     head: &[u8],
     reader: &mut R,
     writer: &mut W,
-) -> Result<u8, Failure>
+) -> Result<u8, ToolFailure>
     ensures ended { IfOk result (λ status. IfSome (R.remaining reader.old) (λ rest. (end : End) × (written : List ℕ)
         × Appends (W.contents writer.old) (W.contents writer.new) written
         × IsScript accepted (head.now ++ rest) end written × (status ≡ script_status end))) }
@@ -49,14 +49,14 @@ fn run_on<R: Read, W: Write>(
     let mut text = head.chain(reader);
     match run_script(alloc, accepted, &mut text, writer) {
         Ok(end) => Ok(status_of_script(end)),
-        Err(fault) => Err(Failure::from(fault)),
+        Err(fault) => Err(ToolFailure::from(fault)),
     }
 }
 
 /// Writes the line that says why there is nothing to run on, and gives the exit status, 1.
 ///
 /// A failure is `WriteFault`, and leaves a front of the line.
-pub fn tell<W: Write>(line: &[u8], writer: &mut W) -> Result<u8, Failure>
+pub fn tell<W: Write>(line: &[u8], writer: &mut W) -> Result<u8, ToolFailure>
     ensures ended { IfOk result (λ status. Appends (W.contents writer.old) (W.contents writer.new) line.now
         × (status ≡ REFUSED)) }
     ensures status { IfOk result (λ status. status ≡ 1) }
@@ -66,7 +66,7 @@ pub fn tell<W: Write>(line: &[u8], writer: &mut W) -> Result<u8, Failure>
 {
     match write_whole(writer, line) {
         Ok(()) => Ok(REFUSED),
-        Err(fault) => Err(Failure::from(fault)),
+        Err(fault) => Err(ToolFailure::from(fault)),
     }
 }
 
@@ -86,7 +86,7 @@ pub fn answer_script<R: Read, W: Write, E: Write>(
     telling: Telling,
     file: &str,
     error: &mut E,
-) -> Result<u8, Failure>
+) -> Result<u8, ToolFailure>
     ensures ended { IfOk result (λ status. IfSome (R.remaining reader.old) (λ text. (written : List ℕ)
         × Appends (W.contents writer.old) (W.contents writer.new) written
         × IsScriptRun source.now text status written)) }
@@ -97,7 +97,7 @@ pub fn answer_script<R: Read, W: Write, E: Write>(
 {
     let head = match read_head(alloc, reader) {
         Ok(head) => head,
-        Err(fault) => return Err(Failure::from(fault)),
+        Err(fault) => return Err(ToolFailure::from(fault)),
     };
     match open_script(alloc, source, &head) {
         Ok(OpenedScript::Ready(accepted)) => run_on(alloc, accepted, &head, reader, writer),
@@ -105,6 +105,6 @@ pub fn answer_script<R: Read, W: Write, E: Write>(
             let ended = tell(&line, writer);
             explained_script(alloc, ended, telling, file, source, &head, error)
         }
-        Err(_) => Err(Failure::Memory),
+        Err(_) => Err(ToolFailure::Memory),
     }
 }

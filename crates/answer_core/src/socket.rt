@@ -1,5 +1,8 @@
 //! A socket at a path.
 
+ghost use Rattle.std.specs.Prelude.{◌≡◌, IfOk, string_bytes};
+ghost use Rattle.answer_core.specs.Places.{path_in};
+
 use command_line::request::Address;
 use std::fs::{self, File, OpenOptions, Permissions, TryLockError};
 use std::io::{self, ErrorKind};
@@ -69,7 +72,10 @@ fn is_free(rt: &HostRuntime, path: &str) -> io::Result<bool> {
 ///
 /// An error is `AddrInUse` where another server listens there, `AlreadyExists` where something else than a socket is
 /// there, or what the system says; nothing that was there is touched then, but for `PATH.new` and `PATH.lock`.
-pub fn socket_at(rt: &HostRuntime, path: &str) -> io::Result<(UnixListener, Socket)> {
+pub fn socket_at(rt: &HostRuntime, path: &str) -> io::Result<(UnixListener, Socket)>
+    // That path, and no other one, is removed later.
+    ensures { IfOk result (λ made. string_bytes made.1.path ≡ path.now) }
+{
     let lock = lock_path(rt, path)?;
     if !is_free(rt, path)? {
         return Err(io::Error::from(ErrorKind::AlreadyExists));
@@ -85,7 +91,9 @@ pub fn socket_at(rt: &HostRuntime, path: &str) -> io::Result<(UnixListener, Sock
 }
 
 /// The path of a socket, where a server is to listen at one; else no text.
-pub fn path_of(address: Address<'_>) -> &str {
+pub fn path_of(address: Address<'_>) -> &str
+    ensures { result.now ≡ path_in address.entry }
+{
     match address {
         Address::Path(path) => path,
         Address::Port(_) => "",

@@ -1,14 +1,14 @@
 //! Sources whose objects may have holds: a command follows them, leaves them out, or refuses.
 
-ghost use Rattle.std.specs.Prelude.{IfErr, IfOk};
+ghost use Rattle.std.specs.Prelude.{◌≡◌, IfErr, IfOk};
 ghost use Rattle.answer_core.specs.Status.{IsFault};
-ghost use Rattle.answer_core.specs.Telling.{IsRuledOrRefused, TellsRefused};
+ghost use Rattle.answer_core.specs.Telling.{IsPlainOrRefused, IsRuledOrRefused, TellsRefused};
 
-use crate::answer::REFUSED;
 use crate::explanation::Telling;
-use crate::failure::Failure;
+use crate::failure::ToolFailure;
 use crate::holds::{refuse_faulty, refuse_held};
 use decl_core::hold::Rules;
+use decl_read::fault::DeclFault;
 use hold_read::read::{Look, look_at};
 use std::io;
 
@@ -20,6 +20,28 @@ pub enum WithoutHolds {
     Told(u8),
 }
 
+// What a command answers of a source that has this fault in its holds, which is told: the exit status.
+fn told_faulty(
+    rt: &HostRuntime,
+    source: &[u8],
+    fault: DeclFault,
+    telling: Telling,
+    file: &str,
+) -> Result<u8, ToolFailure>
+    ensures status { IfOk result (λ status. status ≡ 1) }
+    ensures fault { IfErr result IsFault }
+{
+    refuse_faulty(
+        rt.alloc(),
+        source,
+        fault,
+        telling,
+        file,
+        &mut io::writer(rt),
+        &mut rt.stderr(),
+    )
+}
+
 /// A source without the holds of its objects. Where these have a fault that is told, with status 1.
 ///
 /// A failure is `WriteFault` or `Memory`.
@@ -28,41 +50,44 @@ pub fn without_holds(
     source: Vec<u8>,
     telling: Telling,
     file: &str,
-) -> Result<WithoutHolds, Failure>
+) -> Result<WithoutHolds, ToolFailure>
     ensures told { IfOk result TellsRefused }
     ensures fault { IfErr result IsFault }
 {
     match look_at(rt.alloc(), &source)? {
         Look::Plain => Ok(WithoutHolds::Plain(source)),
         Look::Held(held) => Ok(WithoutHolds::Plain(held.cut)),
-        Look::Faulty(fault) => Ok(WithoutHolds::Told(refuse_faulty(
-            rt.alloc(),
-            &source,
-            fault,
-            telling,
-            file,
-            &mut io::writer(rt),
-            &mut rt.stderr(),
-        )?)),
+        Look::Faulty(fault) => {
+            let status = told_faulty(rt, &source, fault, telling, file)?;
+            Ok(WithoutHolds::Told(status))
+        }
     }
 }
 
-/// A source whose objects have no holds. Where they have some, or a fault of them, that is told; this is to be used
-/// instead.
+/// A source whose objects have no holds. Where they have some, or a fault of them, that is told, with status 1; this is
+/// to be used instead.
+///
+/// A failure is `WriteFault` or `Memory`.
 pub fn plain_source(
     rt: &HostRuntime,
     source: Vec<u8>,
     telling: Telling,
     file: &str,
     instead: &[u8],
-) -> Result<WithoutHolds, Failure> {
+) -> Result<WithoutHolds, ToolFailure>
+    ensures plain { IfOk result (λ plain. IsPlainOrRefused source.items plain) }
+    ensures fault { IfErr result IsFault }
+{
     match look_at(rt.alloc(), &source)? {
         Look::Plain => Ok(WithoutHolds::Plain(source)),
         Look::Held(held) => {
             let status = refuse_held(rt.alloc(), &held, instead, &mut io::writer(rt))?;
             Ok(WithoutHolds::Told(status))
         }
-        Look::Faulty(_) => without_holds(rt, source, telling, file),
+        Look::Faulty(fault) => {
+            let status = told_faulty(rt, &source, fault, telling, file)?;
+            Ok(WithoutHolds::Told(status))
+        }
     }
 }
 
@@ -83,16 +108,16 @@ pub fn ruled_source(
     source: Vec<u8>,
     telling: Telling,
     file: &str,
-) -> Result<Ruled, Failure>
+) -> Result<Ruled, ToolFailure>
     ensures told { IfOk result IsRuledOrRefused }
     ensures fault { IfErr result IsFault }
 {
     match look_at(rt.alloc(), &source)? {
         Look::Plain => Ok(Ruled::By(source, Vec::new(rt.alloc()))),
         Look::Held(held) => Ok(Ruled::By(held.cut, held.rules)),
-        Look::Faulty(_) => match without_holds(rt, source, telling, file)? {
-            WithoutHolds::Plain(_) => Ok(Ruled::Told(REFUSED)),
-            WithoutHolds::Told(status) => Ok(Ruled::Told(status)),
-        },
+        Look::Faulty(fault) => {
+            let status = told_faulty(rt, &source, fault, telling, file)?;
+            Ok(Ruled::Told(status))
+        }
     }
 }

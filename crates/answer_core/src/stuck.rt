@@ -7,11 +7,11 @@ ghost use Rattle.check_core.specs.StuckReport.{IsStuckCheck};
 ghost use Rattle.answer_core.specs.Status.{stuck_status, IsFault};
 ghost use Rattle.answer_core.specs.Telling.{IsHinted};
 ghost use Rattle.answer_core.specs.declared.explanation.Telling.TheVariants.{Nothing, Hint};
-ghost use Rattle.answer_core.specs.declared.failure.Failure.TheVariants.{ReadFault, WriteFault, Memory};
+ghost use Rattle.answer_core.specs.declared.failure.ToolFailure.TheVariants.{ReadFault, WriteFault, Memory};
 
 use crate::answer::{REFUSED, status_of_check};
 use crate::explanation::{Telling, explained_stuck};
-use crate::failure::Failure;
+use crate::failure::ToolFailure;
 use crate::source::read_source;
 use check_core::stuck_report::{StuckEnd, stuck_report};
 use std::alloc::Global;
@@ -29,7 +29,7 @@ fn status_of_stuck(ended: StuckEnd) -> u8
 }
 
 // What `check --stuck` answers of a source: its report, and the exit status.
-fn check_text<W: Write>(alloc: Global, source: &[u8], writer: &mut W) -> Result<u8, Failure>
+fn check_text<W: Write>(alloc: Global, source: &[u8], writer: &mut W) -> Result<u8, ToolFailure>
     ensures ended { IfOk result (λ status. (end : CheckEnd) × (lost : Bool) × (written : List ℕ)
         × Appends (W.contents writer.old) (W.contents writer.new) written × IsStuckCheck source.now end lost written
         × (status ≡ stuck_status end lost)) }
@@ -42,7 +42,7 @@ fn check_text<W: Write>(alloc: Global, source: &[u8], writer: &mut W) -> Result<
 {
     match stuck_report(alloc, source, writer) {
         Ok(ended) => Ok(status_of_stuck(ended)),
-        Err(fault) => Err(Failure::from(fault)),
+        Err(fault) => Err(ToolFailure::from(fault)),
     }
 }
 
@@ -60,7 +60,7 @@ pub fn check_stuck<R: Read + Drop, W: Write, E: Write>(
     telling: Telling,
     file: &str,
     error: &mut E,
-) -> Result<u8, Failure>
+) -> Result<u8, ToolFailure>
     ensures ended { IfOk result (λ status. IfSome (R.remaining reader) (λ text. (end : CheckEnd) × (lost : Bool)
         × (written : List ℕ) × Appends (W.contents writer.old) (W.contents writer.new) written
         × IsStuckCheck text end lost written × (status ≡ stuck_status end lost))) }
@@ -77,7 +77,7 @@ pub fn check_stuck<R: Read + Drop, W: Write, E: Write>(
 {
     let source = match read_source(alloc, reader) {
         Ok(source) => source,
-        Err(error) => return Err(Failure::from(error)),
+        Err(error) => return Err(ToolFailure::from(error)),
     };
     let ended = check_text(alloc, &source, writer);
     explained_stuck(alloc, ended, telling, file, &source, error)

@@ -11,7 +11,7 @@ use Rattle.value_core.specs.declared.refusal.Refusal.TheVariants.{Index}
 use Rattle.value_core.specs.Datum.{IsElement}
 use Rattle.value_core.specs.Contents.{Contents, array}
 use Rattle.value_core.specs.Meaning.{element_at, with_element}
-use Rattle.value_core.specs.Spelling.{spelled_datum, header, Spells}
+use Rattle.value_bytes.specs.Spelling.{spelled_datum, header, Spells}
 use Rattle.value_core.proofs.TableRows.{head, tail}
 use Rattle.apply_core.specs.Remade.{SpellNew}
 use Rattle.apply_core.proofs.Shapes.{ArrayIn, array_in, array_spells, is_less, not_less, ok_of}

@@ -17,9 +17,9 @@ use Rattle.value_core.specs.declared.datum.Datum.{Datum}
 use Rattle.value_core.specs.declared.kind.Elem.{Elem}
 use Rattle.value_core.specs.Datum.{IsElement}
 use Rattle.value_core.specs.Contents.{IsRow}
-use Rattle.value_core.specs.Spelling.{spelled_text, spelled_datum, spelled_row, SpellRows}
+use Rattle.value_bytes.specs.Spelling.{spelled_text, spelled_datum, spelled_row, SpellRows}
 use Rattle.value_core.proofs.TableRows.{head, tail}
-use Rattle.value_core.proofs.Decoding.{All-push, length-push, read_more}
+use Rattle.value_bytes.proofs.Decoding.{All-push, length-push, read_more}
 use Rattle.value_core.proofs.Tables.{exact_texts}
 use Rattle.apply_core.specs.Cuts.{IsLower, IsHigher, StandsIn, GapIn}
 

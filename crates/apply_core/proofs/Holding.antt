@@ -11,7 +11,7 @@ use Rattle.std.proofs.lemmas.List.{append-nil}
 use Rattle.std.proofs.lemmas.List.Elements.{All-nil}
 use Rattle.value_core.specs.Datum.{IsElement}
 use Rattle.value_core.specs.Contents.{Contents, queue, kind_of}
-use Rattle.value_core.specs.Spelling.{header, Spells}
+use Rattle.value_bytes.specs.Spelling.{header, Spells}
 use Rattle.apply_core.proofs.Shapes.{queue_spells}
 use Rattle.apply_core.specs.There.{contents_there}
 use Rattle.apply_core.specs.Remade.{SpellNew, Remade, Turned}

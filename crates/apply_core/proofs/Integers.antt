@@ -10,9 +10,9 @@ use Rattle.value_core.specs.declared.datum.Datum.{Datum}
 use Rattle.value_core.specs.declared.datum.Datum.TheVariants as datum
 use Rattle.value_core.specs.declared.kind.Elem.TheVariants as elem
 use Rattle.value_core.specs.Datum.{IsElement}
-use Rattle.value_core.specs.Spelling.{spelled_datum, SpellElements}
+use Rattle.value_bytes.specs.Spelling.{spelled_datum, SpellElements}
 use Rattle.value_core.proofs.TableRows.{head, tail}
-use Rattle.value_core.proofs.Apart.{fronts, other_sort}
+use Rattle.value_bytes.proofs.Apart.{fronts, other_sort}
 
 -- an integer takes four bytes
 four : (d : Datum) → IsElement elem.Integer d → length (spelled_datum d) ≡ 4

@@ -18,11 +18,11 @@ use Rattle.value_core.specs.declared.kind.Kind.TheVariants as kind
 use Rattle.value_core.specs.Limits.{most_elements}
 use Rattle.value_core.specs.Datum.{IsElement}
 use Rattle.value_core.specs.Contents.{array, queue, table, IsContents}
-use Rattle.value_core.specs.Spelling.{spelled_datum, header, spelling, Spells}
-use Rattle.value_core.specs.Laws.{AreBytes}
+use Rattle.value_bytes.specs.Spelling.{spelled_datum, header, spelling, Spells}
+use Rattle.value_bytes.specs.Laws.{AreBytes}
 use Rattle.value_core.proofs.TableRows.{head, tail}
-use Rattle.value_core.proofs.Apart.{other_sort}
-use Rattle.value_core.proofs.Unique.{stand_in_place}
+use Rattle.value_bytes.proofs.Apart.{other_sort}
+use Rattle.value_bytes.proofs.Unique.{stand_in_place}
 use Rattle.apply_core.specs.Pages.{HasFrame, page_at, page_of}
 use Rattle.apply_core.specs.Laws.{AllBytesSpell, FrameIsDue, PagesTell}
 

@@ -12,9 +12,9 @@ use Rattle.value_core.specs.Limits.{most_elements}
 use Rattle.value_core.specs.Datum.{IsElement}
 use Rattle.value_core.specs.Contents.{Contents, queue}
 use Rattle.value_core.specs.Meaning.{count_of, oldest_of, without_oldest, with_newest}
-use Rattle.value_core.specs.Spelling.{spelled_datum, header, Spells}
+use Rattle.value_bytes.specs.Spelling.{spelled_datum, header, Spells}
 use Rattle.value_core.proofs.TableRows.{head, tail}
-use Rattle.value_core.proofs.Decoding.{All-push, length-push}
+use Rattle.value_bytes.proofs.Decoding.{All-push, length-push}
 use Rattle.apply_core.specs.Entries.{behind_header}
 use Rattle.apply_core.specs.Remade.{SpellNew}
 use Rattle.apply_core.proofs.Shapes.{queue_in, queue_spells, is_less, not_less, ok_of}

@@ -17,9 +17,9 @@ use Rattle.value_core.specs.Limits.{most_elements}
 use Rattle.value_core.specs.Datum.{IsElement}
 use Rattle.value_core.specs.Contents.{Contents, array, queue, table, kind_of, IsContents, IsRow, AreRows}
 use Rattle.value_core.specs.Meaning.{count_of}
-use Rattle.value_core.specs.Spelling.{spelled_datum, spelled_row, code_of, header, spelling, Spells, SpellElements, SpellRows}
-use Rattle.value_core.proofs.Apart.{count_apart}
-use Rattle.value_core.proofs.Unique.{header_apart}
+use Rattle.value_bytes.specs.Spelling.{spelled_datum, spelled_row, code_of, header, spelling, Spells, SpellElements, SpellRows}
+use Rattle.value_bytes.proofs.Apart.{count_apart}
+use Rattle.value_bytes.proofs.Unique.{header_apart}
 use Rattle.apply_core.specs.Entries.{behind_header}
 
 pub shape : (v : Contents) → spelling v ≡ header (kind_of v) (count_of v) ++ behind_header v

@@ -9,10 +9,10 @@ use Rattle.value_core.specs.declared.datum.Datum.{Datum}
 use Rattle.value_core.specs.declared.datum.Datum.TheVariants as datum
 use Rattle.value_core.specs.declared.kind.Elem.TheVariants as elem
 use Rattle.value_core.specs.Datum.{IsElement}
-use Rattle.value_core.specs.Spelling.{spelled_text, spelled_datum}
+use Rattle.value_bytes.specs.Spelling.{spelled_text, spelled_datum}
 use Rattle.value_core.specs.declared.kind.Elem.{Elem}
 use Rattle.value_core.proofs.TableRows.{head, tail}
-use Rattle.value_core.proofs.Apart.{fronts, text_behind, integer_apart, other_sort}
+use Rattle.value_bytes.proofs.Apart.{fronts, text_behind, integer_apart, other_sort}
 
 -- behind its length a text is cut off, where it stands there
 pub cut_text : (bytes behind front later t rest : List ℕ) (n : ℕ) → bytes ≡ to_be_bytes w16 n ++ behind → n < 2 ^ 16 → behind ≡ front ++ later → length front ≡ n → IsText t → bytes ≡ spelled_text t ++ rest → (front ≡ t) × (later ≡ rest)

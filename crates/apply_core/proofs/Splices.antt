@@ -19,7 +19,7 @@ use Rattle.value_core.specs.declared.refusal.Refusal.TheVariants.{Index, Full, E
 use Rattle.value_core.specs.Limits.{most_elements}
 use Rattle.value_core.specs.Contents.{Contents, array, queue, table}
 use Rattle.value_core.specs.Meaning.{with_element, without_oldest, with_newest, with_row, without_key}
-use Rattle.value_core.specs.Spelling.{spelled_datum, spelled_row, header}
+use Rattle.value_bytes.specs.Spelling.{spelled_datum, spelled_row, header}
 use Rattle.apply_core.specs.Entries.{entries_of, joined, SpelledByEntries, IsSplice, ChangesAreSplices}
 use Rattle.apply_core.proofs.Cuts.{Stands, Gap, cut_rows}
 use Rattle.apply_core.proofs.Shapes.{ok_of}

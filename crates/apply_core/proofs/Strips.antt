@@ -11,10 +11,10 @@ use Rattle.value_core.specs.declared.datum.Datum.{Datum}
 use Rattle.value_core.specs.declared.kind.Elem.{Elem}
 use Rattle.value_core.specs.Datum.{IsElement}
 use Rattle.value_core.specs.Contents.{IsRow}
-use Rattle.value_core.specs.Spelling.{spelled_datum, spelled_row, SpellElements, SpellRows, IsAfter}
+use Rattle.value_bytes.specs.Spelling.{spelled_datum, spelled_row, SpellElements, SpellRows, IsAfter}
 use Rattle.value_core.proofs.Tables.{none_of}
-use Rattle.value_core.proofs.Decoding.{read_more, All-push, length-push, no_next, no_more}
-use Rattle.value_core.proofs.Rising.{EndsWith, put_behind, no_next_row, no_rise, no_more_rows}
+use Rattle.value_bytes.proofs.Decoding.{read_more, All-push, length-push, no_next, no_more}
+use Rattle.value_bytes.proofs.Rising.{EndsWith, put_behind, no_next_row, no_rise, no_more_rows}
 
 -- so many elements stand before the rest
 pub record SoFar (bytes rest : List ℕ) (e : Elem) (count : ℕ) : Type 0 where

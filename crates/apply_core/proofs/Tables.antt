@@ -27,7 +27,7 @@ use Rattle.value_core.specs.Rows.{as_data}
 use Rattle.value_core.specs.Sorted.{Rise}
 use Rattle.value_core.specs.Contents.{Contents, table, IsRow, AreRows}
 use Rattle.value_core.specs.Meaning.{has_key, under_key, with_row, without_key}
-use Rattle.value_core.specs.Spelling.{spelled_datum, spelled_row, header, Spells, SpellRows}
+use Rattle.value_bytes.specs.Spelling.{spelled_datum, spelled_row, header, Spells, SpellRows}
 use Rattle.value_core.proofs.TableRows.{head, tail, rows_stored, made_room}
 use Rattle.value_core.proofs.Tables.{in_order}
 use Rattle.value_core.proofs.Placing.{erased_row, rise_removed}

@@ -16,10 +16,10 @@ use Rattle.value_core.specs.declared.kind.Elem.TheVariants as elem
 use Rattle.value_core.specs.Limits.{most_elements}
 use Rattle.value_core.specs.Datum.{IsElement}
 use Rattle.value_core.specs.Contents.{Contents, array, queue, table, kind_of, IsContents, IsRow}
-use Rattle.value_core.specs.Spelling.{spelled_text, spelled_datum, spelled_row, spelling}
+use Rattle.value_bytes.specs.Spelling.{spelled_text, spelled_datum, spelled_row, spelling}
 use Rattle.apply_core.specs.There.{number_there, text_there, behind_text, datum_there, behind_datum, data_there, rows_there, contents_there, BytesTell}
 use Rattle.value_core.proofs.TableRows.{head, tail}
-use Rattle.value_core.proofs.Apart.{few_fits, other_sort}
+use Rattle.value_bytes.proofs.Apart.{few_fits, other_sort}
 
 number_is : (n : ℕ) (rest : List ℕ) → n < 2 ^ 16 → number_there (to_be_bytes w16 n ++ rest) ≡ n
 number_is n rest small = from_be_bytes-to_be_bytes_2 n small

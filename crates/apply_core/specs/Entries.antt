@@ -5,7 +5,7 @@ use Rattle.std.specs.FinMap as maps
 use Rattle.value_core.specs.declared.datum.Datum.{Datum}
 use Rattle.value_core.specs.Contents.{Contents, array, queue, table, kind_of, IsContents}
 use Rattle.value_core.specs.Meaning.{with_element, without_oldest, with_newest, with_row, without_key}
-use Rattle.value_core.specs.Spelling.{spelled_datum, spelled_row, header, spelling}
+use Rattle.value_bytes.specs.Spelling.{spelled_datum, spelled_row, header, spelling}
 
 -- the spelling of each entry, in order: of an element, or of a row of a table
 abbrev pub entries_of : Contents → List (List ℕ)

@@ -5,8 +5,8 @@ use Rattle.value_core.specs.declared.kind.Elem.TheVariants as elem
 use Rattle.value_core.specs.declared.kind.Kind.TheVariants as kind
 use Rattle.value_core.specs.Limits.{most_elements}
 use Rattle.value_core.specs.Contents.{Contents, array, IsContents}
-use Rattle.value_core.specs.Spelling.{Spells, spelling}
-use Rattle.value_core.specs.Laws.{AreBytes}
+use Rattle.value_bytes.specs.Spelling.{Spells, spelling}
+use Rattle.value_bytes.specs.Laws.{AreBytes}
 use Rattle.apply_core.specs.Pages.{HasFrame, page_at, page_of}
 
 -- Behind the header of an array of integers all bytes are integers: whatever they are, they spell an array.

@@ -6,7 +6,7 @@ use Rattle.value_core.specs.declared.refusal.Refusal.{Refusal}
 use Rattle.value_core.specs.declared.refusal.GrowFault.{GrowFault}
 use Rattle.value_core.specs.declared.refusal.GrowFault.TheVariants.{Refused, Memory}
 use Rattle.value_core.specs.Contents.{Contents}
-use Rattle.value_core.specs.Spelling.{Spells}
+use Rattle.value_bytes.specs.Spelling.{Spells}
 
 -- these bytes spell what an operation leaves
 abbrev pub SpellNew : Kind → List ℕ → Result Contents Refusal → Type 0

@@ -5,7 +5,7 @@ ghost use Rattle.value_core.specs.declared.kind.Kind.TheVariants as kinds;
 ghost use Rattle.value_core.specs.Datum.{elem_of, IsElement};
 ghost use Rattle.value_core.specs.Contents.{Contents};
 ghost use Rattle.value_core.specs.Meaning.{element_at, with_element};
-ghost use Rattle.value_core.specs.Spelling.{Spells};
+ghost use Rattle.value_bytes.specs.Spelling.{Spells};
 ghost use Rattle.apply_core.specs.Remade.{Remade};
 
 use crate::header::opened;

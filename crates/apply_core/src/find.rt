@@ -5,7 +5,7 @@ ghost use Rattle.std.specs.FinMap.{FinMap, entries};
 ghost use Rattle.text_core.specs.TextOrder.{text_cmp};
 ghost use Rattle.value_core.specs.declared.datum.Datum.{Datum};
 ghost use Rattle.value_core.specs.declared.format.Format.TheVariants.{Second};
-ghost use Rattle.value_core.specs.Spelling.{SpellRows};
+ghost use Rattle.value_bytes.specs.Spelling.{SpellRows};
 ghost use Rattle.apply_core.specs.Cuts.{StandsIn, GapIn};
 
 use crate::order::order;

@@ -6,7 +6,7 @@ ghost use Rattle.value_core.specs.declared.kind.Kind.{Kind};
 ghost use Rattle.value_core.specs.Limits.{most_elements};
 ghost use Rattle.value_core.specs.Contents.{Contents};
 ghost use Rattle.value_core.specs.Meaning.{count_of};
-ghost use Rattle.value_core.specs.Spelling.{header, Spells};
+ghost use Rattle.value_bytes.specs.Spelling.{header, Spells};
 ghost use Rattle.apply_core.specs.Entries.{behind_header};
 
 use crate::splice::{NUMBER, code};

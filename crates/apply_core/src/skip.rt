@@ -7,7 +7,7 @@ ghost use Rattle.std.specs.List.{flat_map};
 ghost use Rattle.text_core.specs.Plain.{IsText};
 ghost use Rattle.value_core.specs.declared.datum.Datum.{Datum};
 ghost use Rattle.value_core.specs.Datum.{IsElement};
-ghost use Rattle.value_core.specs.Spelling.{spelled_text, spelled_datum};
+ghost use Rattle.value_bytes.specs.Spelling.{spelled_text, spelled_datum};
 
 use crate::strip::{past_length, read_integer};
 use text_core::text::Text;

@@ -7,7 +7,7 @@ ghost use Rattle.value_core.specs.Kinds.{sort_of, IsArray, IsQueue, IsTable};
 ghost use Rattle.value_core.specs.Contents.{Contents, kind_of, IsContents};
 ghost use Rattle.value_core.specs.Meaning.{opening_of, element_at, with_element, oldest_of, without_oldest};
 ghost use Rattle.value_core.specs.Meaning.{with_newest, has_key, under_key, with_row, without_key, count_of};
-ghost use Rattle.value_core.specs.Spelling.{Spells};
+ghost use Rattle.value_bytes.specs.Spelling.{Spells};
 ghost use Rattle.apply_core.specs.Remade.{Turned};
 
 use crate::header::{count, spell};
@@ -16,8 +16,8 @@ use crate::{array, queue, table};
 use std::alloc::{AllocError, Global};
 use std::marker::Model;
 use text_core::text::Text;
+use value_bytes::decode::DecodeFault;
 use value_core::datum::Datum;
-use value_core::decode::DecodeFault;
 use value_core::kind::{Elem, Kind};
 use value_core::refusal::{GrowFault, Refusal};
 
@@ -36,7 +36,7 @@ impl Model for Spelled {
 
     ghost coded = { contents_code };
 
-    ghost use Rattle.value_core.specs.Spelling.{Spells};
+    ghost use Rattle.value_bytes.specs.Spelling.{Spells};
     ghost use Rattle.apply_core.specs.There.{contents_there};
 
     ghost view = { λ s. contents_there s.kind s.bytes.items };

@@ -2,7 +2,7 @@
 
 ghost use Rattle.std.specs.Int.{w16, w32, to_be_bytes};
 ghost use Rattle.std.specs.Prelude.{◌≡◌, ◌++◌, ◌∷◌, OnOk, IfOk};
-ghost use Rattle.value_core.specs.Spelling.{code_of, spelled_text, spelled_datum, spelled_row, header};
+ghost use Rattle.value_bytes.specs.Spelling.{code_of, spelled_text, spelled_datum, spelled_row, header};
 
 use std::alloc::{AllocError, Global};
 use text_core::limits::TextLength;

@@ -10,7 +10,7 @@ ghost use Rattle.value_core.specs.declared.datum.Datum.{Datum};
 ghost use Rattle.value_core.specs.declared.format.Format.TheVariants.{Second};
 ghost use Rattle.value_core.specs.Datum.{IsElement};
 ghost use Rattle.value_core.specs.Contents.{IsRow};
-ghost use Rattle.value_core.specs.Spelling.{spelled_text, spelled_datum, spelled_row, SpellElements, SpellRows, IsAfter};
+ghost use Rattle.value_bytes.specs.Spelling.{spelled_text, spelled_datum, spelled_row, SpellElements, SpellRows, IsAfter};
 ghost use Rattle.apply_core.specs.There.{last_key, BytesTell};
 
 use crate::order::order;

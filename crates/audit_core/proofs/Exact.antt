@@ -8,8 +8,8 @@ use Rattle.path_tree.specs.Satisfies.{Satisfies, SatisfiesAll}
 use Rattle.value_core.specs.Contents.{Contents}
 use Rattle.std.specs.Str.{str_to_ascii_lowercase}
 use Rattle.path_tree.specs.Known.{place_of}
-use Rattle.value_core.specs.Spelling.{SpellsInSome}
-use Rattle.value_core.proofs.Unique.{unique_in}
+use Rattle.value_bytes.specs.Spelling.{SpellsInSome}
+use Rattle.value_bytes.proofs.Unique.{unique_in}
 use Rattle.audit_core.specs.Operations.{operation_names}
 use Rattle.std.proofs.lemmas.Option.{slice_get_within}
 use Rattle.audit_core.specs.declared.verdict.AuditVerdict.{AuditVerdict}

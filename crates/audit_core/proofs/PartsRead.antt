@@ -4,7 +4,7 @@ use Rattle.std.specs.Prelude.{Option, Some, None, MatchOption, Result, Ok, Err, 
 use Rattle.std.proofs.lemmas.Option.{slice_get_read, slice_get-map}
 use Rattle.value_core.specs.declared.kind.Kind.{Kind}
 use Rattle.value_core.specs.Contents.{Contents}
-use Rattle.value_core.specs.Spelling.{SpellsInSome}
+use Rattle.value_bytes.specs.Spelling.{SpellsInSome}
 use Rattle.decl_core.specs.declared.object.Part.{Part}
 use Rattle.decl_core.specs.ObjectMap.{parts_of}
 use Rattle.audit_core.specs.Tells.{IsHex}

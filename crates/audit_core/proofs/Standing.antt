@@ -12,7 +12,7 @@ use Rattle.path_count.specs.State.{State}
 use Rattle.value_core.specs.declared.datum.Datum.{Datum}
 use Rattle.value_core.specs.declared.kind.Kind.{Kind}
 use Rattle.value_core.specs.Contents.{Contents, kind_of}
-use Rattle.value_core.specs.Spelling.{SpellsInSome}
+use Rattle.value_bytes.specs.Spelling.{SpellsInSome}
 use Rattle.decl_core.specs.ObjectForm.{ObjectForm}
 use Rattle.apply_core.specs.declared.reply.Reply.{Reply}
 use Rattle.apply_core.specs.History.{End as Ended, IsReplyOn, left_by, leads_to, IsLegal}

@@ -15,7 +15,7 @@ use Rattle.value_core.specs.declared.format.Format.TheVariants.{Second}
 use Rattle.value_core.specs.declared.datum.Datum.{Datum}
 use Rattle.value_core.specs.declared.kind.Kind.{Kind}
 use Rattle.value_core.specs.Contents.{Contents, kind_of, IsContents}
-use Rattle.value_core.specs.Spelling.{spelling}
+use Rattle.value_bytes.specs.Spelling.{spelling}
 use Rattle.decl_core.specs.ObjectForm.{ObjectForm, OperationForm}
 use Rattle.decl_core.specs.RefusalWord.{IsRefusalWord, IsLower}
 use Rattle.apply_core.specs.declared.reply.Failure.TheVariants.{Device, Memory, Damaged}

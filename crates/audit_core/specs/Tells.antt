@@ -8,7 +8,7 @@ use Rattle.value_core.specs.declared.datum.Datum.{Datum}
 use Rattle.value_core.specs.declared.kind.Kind.{Kind}
 use Rattle.value_core.specs.Datum.{elem_of}
 use Rattle.value_core.specs.Contents.{Contents}
-use Rattle.value_core.specs.Spelling.{SpellsInSome}
+use Rattle.value_bytes.specs.Spelling.{SpellsInSome}
 use Rattle.decl_core.specs.ObjectForm.{ObjectForm}
 use Rattle.audit_core.specs.Operations.{operation_names}
 use Rattle.apply_core.specs.declared.reply.Reply.{Reply}

@@ -2,7 +2,7 @@
 
 ghost use Rattle.std.specs.Prelude.{◌≡◌, ◌↔◌, IsTrue, ℕ, List, IfOk, MatchOption, Some, slice_get};
 ghost use Rattle.value_core.specs.Contents.{Contents};
-ghost use Rattle.value_core.specs.Spelling.{SpellsInSome};
+ghost use Rattle.value_bytes.specs.Spelling.{SpellsInSome};
 ghost use Rattle.decl_core.specs.ObjectMap.{parts_of};
 ghost use Rattle.audit_core.specs.Tells.{IsHex};
 ghost use Rattle.audit_core.specs.Parts.{IsPartAt};
@@ -10,7 +10,7 @@ ghost use Rattle.audit_core.specs.Parts.{IsPartAt};
 use decl_core::object::Part;
 use hex::FromHexError;
 use std::alloc::{AllocError, Global};
-use value_core::decode::{DecodeFault, decode_kept};
+use value_bytes::decode::{DecodeFault, decode_kept};
 use value_core::kind::Kind;
 use value_core::value::Value;
 

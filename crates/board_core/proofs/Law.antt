@@ -8,10 +8,10 @@ use Rattle.value_core.specs.declared.kind.Kind.{Kind}
 use Rattle.value_core.specs.declared.datum.Datum.{Datum}
 use Rattle.value_core.specs.declared.format.Format.TheVariants.{Second}
 use Rattle.value_core.specs.Contents.{Contents, kind_of}
-use Rattle.value_core.specs.Spelling.{Spells}
-use Rattle.value_core.specs.Laws.{AreBytes}
-use Rattle.value_core.proofs.Bytes.{spelling_is_bytes}
-use Rattle.value_core.proofs.Unique.{unique}
+use Rattle.value_bytes.specs.Spelling.{Spells}
+use Rattle.value_bytes.specs.Laws.{AreBytes}
+use Rattle.value_bytes.proofs.Bytes.{spelling_is_bytes}
+use Rattle.value_bytes.proofs.Unique.{unique}
 use Rattle.decl_core.specs.declared.object.Operation.{Operation}
 use Rattle.decl_core.specs.Bodies.{body_of}
 use Rattle.decl_core.specs.Form.{Body, Statements}

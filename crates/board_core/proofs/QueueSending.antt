@@ -4,7 +4,7 @@ use Rattle.std.proofs.Crossing.{crosses}
 use Rattle.board_core.proofs.Sending.{operation_send, operation_sync, call_send, call_sync}
 use Rattle.board_core.specs.contracts.open_call.Waiting as waiting
 use Rattle.board_core.specs.contracts.open_call.Running as running
-use Rattle.board_core.specs.contracts.queue.Queue as queue
+use Rattle.board_core.specs.contracts.queue.WaitingQueue as queue
 
 ruleset calls = (sendable, crosses, operation_send, operation_sync, call_send, call_sync)
 

@@ -9,7 +9,7 @@ use Rattle.guest_core.specs.declared.answer.KeyedFault.{KeyedFault}
 use Rattle.guest_core.specs.declared.answer.KeyedFault.TheVariants.{Gone, BadKey, KeyReused, Submit}
 use Rattle.board_core.specs.declared.answer.CallState.{CallState}
 use Rattle.board_core.specs.declared.answer.CallState.TheVariants.{Waiting, Running, Cancelled, Ended}
-use Rattle.board_core.specs.declared.answer.Kept.{Kept}
+use Rattle.board_core.specs.declared.answer.EarlierCall.{EarlierCall}
 use Rattle.board_core.specs.declared.answer.Keyed.{Keyed}
 use Rattle.board_core.specs.declared.answer.Keyed.TheVariants as keyed
 use Rattle.board_core.specs.Answers.{Asked, HasName, IsGone, IsTaken, IsRefused, waits_in, runs_in, ended_in}
@@ -30,14 +30,14 @@ IsStateOf b n (Ended reply) =
     × ((e : Noted) × Among e b.history × (e.number ≡ n) × (e.reply ≡ reply))
 
 -- the session's call of this key, which is the one that is asked for, and what became of it
-pub record IsKeptCall (b : Board) (a : Asked) (key : ℕ) (kept : Kept) : Type 0 where
+pub record IsKeptCall (b : Board) (a : Asked) (key : ℕ) (kept : EarlierCall) : Type 0 where
   pub has : HasKey b.calls a.session key kept.number
   pub same : IsSameCall a has.call
   pub state : IsStateOf b kept.number kept.state
 
 -- What is known of a key: it is that of the session's next call, or of one before; or the first of the faults, in their
 -- order, that applies.
-abbrev pub Finds : Board → Asked → ℕ → Result (Option Kept) KeyedFault → Type 0
+abbrev pub Finds : Board → Asked → ℕ → Result (Option EarlierCall) KeyedFault → Type 0
 Finds b a key (Ok None) = (IsGone b a.session → ⊥) × (key ≡ next_key b.calls a.session)
 Finds b a key (Ok (Some kept)) = (IsGone b a.session → ⊥) × IsKeptCall b a key kept
 Finds b a key (Err Gone) = IsGone b a.session

@@ -2,7 +2,7 @@
 use Rattle.std.specs.Prelude.{◌≤◌, ℕ, List, length, ◌==◌, slice_index, vec_capacity}
 use Rattle.std.specs.List.{filter}
 use Rattle.board_core.specs.Calls.{WaitingCall}
-use Rattle.board_core.specs.declared.queue.Queue.TheInside.{Inside}
+use Rattle.board_core.specs.declared.queue.WaitingQueue.TheInside.{Inside}
 
 -- at most so many calls wait
 abbrev pub most_waiting : ℕ

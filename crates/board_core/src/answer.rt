@@ -24,7 +24,7 @@ pub enum CallState {
 
 /// A call that a session made before, under the key that is asked for.
 #[derive(Clone, Copy, Debug, PartialEq, Eq)]
-pub struct Kept {
+pub struct EarlierCall {
     /// Its number.
     pub number: u32,
     /// What became of it.
@@ -37,7 +37,7 @@ pub enum Keyed {
     /// The key is that of the session's next call, and the call was taken, under this number.
     New(u32),
     /// The session made this call before, under this key. Nothing is changed.
-    Kept(Kept),
+    Kept(EarlierCall),
 }
 
 /// What a finish gives beside the outcome that it was given.

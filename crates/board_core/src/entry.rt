@@ -1,18 +1,15 @@
 //! Entries of a history.
 
-ghost use Rattle.std.specs.Prelude.{◌≡◌, ◌↔◌, [], IsTrue, IfSome, IfNone};
+ghost use Rattle.std.specs.Prelude.{◌≡◌, [], IfSome, IfNone};
 ghost use Rattle.std.specs.Arc.{arc_value};
-ghost use Rattle.call_core.specs.Outcomes.{if_done, outcome_pins};
+ghost use Rattle.call_core.specs.Outcomes.{if_done};
 ghost use Rattle.board_core.specs.Calls.{noted_of};
-ghost use Rattle.board_core.specs.Outcomes.{IsEntryOf};
 
 use crate::call::Call;
-use crate::receipt::NotedOutcome;
 use apply_core::reply::Reply;
 use apply_core::short::Short;
 use apply_core::slim::Slims;
 use decl_core::object::Operation;
-use decl_core::same::same_declaration;
 use page_core::part_pins::PartPins;
 use std::marker::Model;
 use std::sync::Arc;
@@ -54,44 +51,6 @@ impl Entry {
             reply,
             pins,
             news,
-        }
-    }
-
-    /// Whether this is the entry that a receipt tells of: it tells of the call all that the outcome tells. It takes no
-    /// memory.
-    pub fn is_entry_of(&self, noted: &NotedOutcome) -> bool
-        ensures { IsTrue result ↔ IsEntryOf noted.now.session noted.now.outcome self.now }
-    {
-        if self.number != noted.number() {
-            return false;
-        }
-        if self.session() != noted.session {
-            return false;
-        }
-        if !same_declaration(self.operation(), noted.operation()) {
-            return false;
-        }
-        if !self.args().are(noted.args()) {
-            return false;
-        }
-        if !self.reply.is(noted.reply()) {
-            return false;
-        }
-        if !self.has_news(noted) {
-            return false;
-        }
-        self.pins.is_same(noted.pins())
-    }
-
-    // Whether these are the new pins of an outcome.
-    fn has_news(&self, noted: &NotedOutcome) -> bool
-        ensures { IsTrue result ↔ (self.now.news ≡ outcome_pins noted.now.outcome) }
-    {
-        match (self.new_pins(), noted.new_pins()) {
-            (Some(news), Some(others)) => news.is_same(others),
-            (Some(news), None) => news.is_empty(),
-            (None, Some(others)) => others.is_empty(),
-            (None, None) => true,
         }
     }
 

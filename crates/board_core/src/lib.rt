@@ -11,7 +11,7 @@
 //! calls (`specs/Keys.antt`): no trace tells it. By `index::Index` a call is found by its session and key without a
 //! search.
 //!
-//! `queue::Queue` has the calls that wait, and finds the first that can start. Each open call has all that its start,
+//! `queue::WaitingQueue` has the calls that wait, and finds the first that can start. Each open call has all that its start,
 //! its ticket and its entry will need: that is taken when it is submitted, so nothing else takes memory.
 //!
 //! `answer` has the answers and refusals of a desk, `find` what is looked up of a board to give them.
@@ -32,3 +32,4 @@ pub mod open_call;
 pub mod pick;
 pub mod queue;
 pub mod receipt;
+pub mod uncalled;

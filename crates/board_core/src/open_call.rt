@@ -60,7 +60,7 @@ pub(crate) struct Kit {
 
 /// What is asked of an object.
 #[derive(Clone, Copy)]
-pub struct Asked<'a> {
+pub struct NewCall<'a> {
     /// The number that the call gets.
     pub number: u32,
     /// The session that asks.
@@ -217,7 +217,7 @@ impl Waiting {
     /// is that memory was refused.
     pub fn new(
         alloc: Global,
-        asked: Asked<'_>,
+        asked: NewCall<'_>,
         operation: &Arc<Operation>,
         pins: &Pins,
     ) -> Result<Waiting, AllocError>
@@ -232,7 +232,7 @@ impl Waiting {
           };
         }) }
     {
-        let Asked {
+        let NewCall {
             number,
             session,
             op,

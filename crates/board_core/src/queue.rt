@@ -27,12 +27,12 @@ const MOST_WAITING: usize = 256;
 
 /// The calls that wait, in the order of their numbers, and for each operation how many at most are of it.
 #[derive(Drop)]
-pub struct Queue {
+pub struct WaitingQueue {
     rows: Vec<Waiting>,
     counts: [u16; MOST_OPERATIONS],
 }
 
-impl Model for Queue {
+impl Model for WaitingQueue {
     ghost use Rattle.std.specs.Prelude.{List};
     ghost use Rattle.board_core.specs.Calls.{WaitingCall};
     ghost use Rattle.decl_core.specs.contracts.object.Operation as e;
@@ -169,13 +169,13 @@ fn next_of(counters: &Counters, rows: &[Waiting], counts: &[u16; MOST_OPERATIONS
     Some(rows.len() - 1)
 }
 
-impl Queue {
+impl WaitingQueue {
     /// No calls, and room for as many as may wait.
-    pub fn new(alloc: Global) -> Result<Queue, AllocError>
+    pub fn new(alloc: Global) -> Result<WaitingQueue, AllocError>
         ensures { IfOk result (λ q. q ≡ []) }
     {
         let rows = Vec::with_capacity(alloc, MOST_WAITING)?;
-        Ok(Queue {
+        Ok(WaitingQueue {
             rows,
             counts: [0; MOST_OPERATIONS],
         })

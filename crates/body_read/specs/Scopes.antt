@@ -10,7 +10,7 @@ use Rattle.value_core.specs.declared.kind.Kind.{Kind}
 use Rattle.decl_core.specs.ObjectForm.{OperationForm}
 use Rattle.decl_core.specs.declared.expr.Expr.{Expr}
 use Rattle.decl_core.specs.declared.expr.IntegerExpr.{IntegerExpr}
-use Rattle.body_read.specs.declared.scope.Scope.{Scope}
+use Rattle.body_read.specs.declared.scope.BodyScope.{BodyScope}
 use Rattle.decl_core.specs.declared.stmt.Cond.{Cond}
 use Rattle.decl_core.specs.declared.stmt.Relation.{Relation}
 use Rattle.decl_core.specs.declared.stmt.Stmt.{Stmt}
@@ -36,7 +36,7 @@ function_of None result = None
 function_of (Some own) None = None
 function_of (Some own) (Some e) = Some (own.now, e)
 
-abbrev pub names_of : Scope → Names
+abbrev pub names_of : BodyScope → Names
 names_of s =
     record {
       constants = constants_of s.constants.now;
@@ -47,10 +47,10 @@ names_of s =
     }
 
 -- an expression one level deeper, and a term, where so many levels are left
-abbrev pub nested_in : Scope → ℕ → Reader Form
+abbrev pub nested_in : BodyScope → ℕ → Reader Form
 nested_in s depth = nested_at (names_of s) s.most depth
 
-abbrev pub terms_in : Scope → ℕ → Reader Form
+abbrev pub terms_in : BodyScope → ℕ → Reader Form
 terms_in s depth = term_in (names_of s) (nested_in s depth) depth
 
 -- what was read, and what stands behind
@@ -64,17 +64,17 @@ abbrev pub part_read : ℕ × Kind × Bor (List Token) → ℕ × Kind × List L
 part_read x = (x.0, x.1, lexemes x.2.now)
 
 -- a condition behind `not`, and one where so many levels are left
-abbrev pub deeper_in : Scope → ℕ → Reader Condition
+abbrev pub deeper_in : BodyScope → ℕ → Reader Condition
 deeper_in s depth = deeper_condition (names_of s) s.most depth
 
-abbrev pub conditions_in : Scope → ℕ → Reader Condition
+abbrev pub conditions_in : BodyScope → ℕ → Reader Condition
 conditions_in s depth = condition_at (names_of s) s.most depth
 
 -- a statement inside `begin` or `if`, and one where so many levels are left
-abbrev pub inner_in : Scope → ℕ → Reader Statement
+abbrev pub inner_in : BodyScope → ℕ → Reader Statement
 inner_in s depth = inner_at (names_of s) s.most depth
 
-abbrev pub statement_by : Scope → ℕ → Reader Statement
+abbrev pub statement_by : BodyScope → ℕ → Reader Statement
 statement_by s depth = statement_in (names_of s) s.most (inner_in s depth) depth
 
 abbrev pub relation_read : Relation × Bor (List Token) → Relation × List Lexeme

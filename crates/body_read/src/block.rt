@@ -21,8 +21,8 @@ use crate::condition::condition;
 use crate::front::{after, behind, start_of, start_of_second};
 use crate::kinds::{array, integer, level, queue, table, text};
 use crate::lookup::{is_known, part_of};
-use crate::scope::Scope;
-use crate::terms::{Read, expr, nested, part};
+use crate::scope::BodyScope;
+use crate::terms::{TextRead, expr, nested, part};
 use crate::text_fault::TextFault;
 use decl_core::expr::Expr;
 use decl_core::id::PartId;
@@ -92,12 +92,12 @@ fn empty(alloc: Global) -> Stmt
 #[tactic(auto, unfolding(crate::specs::StatementReading::element_in))]
 fn element<'t>(
     alloc: Global,
-    scope: &Scope,
+    scope: &BodyScope,
     bytes: &[u8],
     at: usize,
     bracket: usize,
     tokens: &'t [Token],
-) -> Read<'t, Stmt>
+) -> TextRead<'t, Stmt>
     ensures { Gives statement_read result (element_in (names_of scope.now) scope.now.most bytes.now
         (lexemes tokens.now)) }
 {
@@ -124,11 +124,11 @@ fn element<'t>(
 #[tactic(auto, unfolding(crate::specs::StatementReading::result_in))]
 fn replied<'t>(
     alloc: Global,
-    scope: &Scope,
+    scope: &BodyScope,
     bytes: &[u8],
     at: usize,
     tokens: &'t [Token],
-) -> Read<'t, Stmt>
+) -> TextRead<'t, Stmt>
     ensures { Gives statement_read result (result_in (names_of scope.now) scope.now.most bytes.now
         (lexemes tokens.now)) }
 {
@@ -157,11 +157,11 @@ fn replied<'t>(
 #[tactic(auto, unfolding(crate::specs::StatementReading::assigned_in))]
 fn assigned<'t>(
     alloc: Global,
-    scope: &Scope,
+    scope: &BodyScope,
     bytes: &[u8],
     at: usize,
     tokens: &'t [Token],
-) -> Read<'t, Stmt>
+) -> TextRead<'t, Stmt>
     ensures { Gives statement_read result (assigned_in (names_of scope.now) scope.now.most bytes.now
         (lexemes tokens.now) (symbol_at OpenBracket (lexemes tokens.now))) }
 {
@@ -179,7 +179,7 @@ fn assigned<'t>(
 
 /// What stands behind `append`.
 #[tactic(auto, unfolding(crate::specs::StatementReading::append_in))]
-fn append<'t>(alloc: Global, scope: &Scope, tokens: &'t [Token]) -> Read<'t, Stmt>
+fn append<'t>(alloc: Global, scope: &BodyScope, tokens: &'t [Token]) -> TextRead<'t, Stmt>
     ensures { Gives statement_read result (append_in (names_of scope.now) scope.now.most (lexemes tokens.now)) }
 {
     let (part, kind, rest) = part(scope, tokens, EXPRESSIONS)?;
@@ -193,7 +193,7 @@ fn append<'t>(alloc: Global, scope: &Scope, tokens: &'t [Token]) -> Read<'t, Stm
 
 /// What stands behind `take`.
 #[tactic(auto, unfolding(crate::specs::StatementReading::take_in))]
-fn take<'t>(scope: &Scope, tokens: &'t [Token]) -> Read<'t, Stmt>
+fn take<'t>(scope: &BodyScope, tokens: &'t [Token]) -> TextRead<'t, Stmt>
     ensures { Gives statement_read result (take_in (names_of scope.now) (lexemes tokens.now)) }
 {
     let (part, kind, rest) = part(scope, tokens, EXPRESSIONS)?;
@@ -204,7 +204,7 @@ fn take<'t>(scope: &Scope, tokens: &'t [Token]) -> Read<'t, Stmt>
 
 /// What stands behind `store`.
 #[tactic(auto, unfolding(crate::specs::StatementReading::store_in))]
-fn store<'t>(alloc: Global, scope: &Scope, tokens: &'t [Token]) -> Read<'t, Stmt>
+fn store<'t>(alloc: Global, scope: &BodyScope, tokens: &'t [Token]) -> TextRead<'t, Stmt>
     ensures { Gives statement_read result (store_in (names_of scope.now) scope.now.most (lexemes tokens.now)) }
 {
     let (part, kind, rest) = part(scope, tokens, EXPRESSIONS)?;
@@ -221,7 +221,7 @@ fn store<'t>(alloc: Global, scope: &Scope, tokens: &'t [Token]) -> Read<'t, Stmt
 
 /// What stands behind `erase`.
 #[tactic(auto, unfolding(crate::specs::StatementReading::erase_in))]
-fn erase<'t>(alloc: Global, scope: &Scope, tokens: &'t [Token]) -> Read<'t, Stmt>
+fn erase<'t>(alloc: Global, scope: &BodyScope, tokens: &'t [Token]) -> TextRead<'t, Stmt>
     ensures { Gives statement_read result (erase_in (names_of scope.now) scope.now.most (lexemes tokens.now)) }
 {
     let (part, kind, rest) = part(scope, tokens, EXPRESSIONS)?;
@@ -262,7 +262,7 @@ fn word(alloc: Global, bytes: &[u8], at: usize) -> Result<RefusalWord, TextFault
 
 /// What stands behind `refuse`.
 #[tactic(auto, unfolding(crate::specs::StatementReading::refuse_in))]
-fn refuse<'t>(alloc: Global, tokens: &'t [Token]) -> Read<'t, Stmt>
+fn refuse<'t>(alloc: Global, tokens: &'t [Token]) -> TextRead<'t, Stmt>
     ensures { Gives statement_read result (refuse_in (lexemes tokens.now)) }
 {
     let opened = behind(tokens, Symbol::OpenParen)?;
@@ -277,11 +277,11 @@ fn refuse<'t>(alloc: Global, tokens: &'t [Token]) -> Read<'t, Stmt>
 #[tactic(auto, using(crate::proofs::StatementSteps::inner_step))]
 fn inner<'t>(
     alloc: Global,
-    scope: &Scope,
+    scope: &BodyScope,
     at: usize,
     tokens: &'t [Token],
     depth: u8,
-) -> Read<'t, Stmt>
+) -> TextRead<'t, Stmt>
     ensures { Gives statement_read result (inner_in scope.now depth (lexemes tokens.now)) }
 {
     if depth == 0 {
@@ -295,11 +295,11 @@ fn inner<'t>(
 #[tactic(auto, unfolding(crate::specs::StatementReading::other_in))]
 fn other<'t>(
     alloc: Global,
-    scope: &Scope,
+    scope: &BodyScope,
     at: usize,
     tokens: &'t [Token],
     depth: u8,
-) -> Read<'t, Stmt>
+) -> TextRead<'t, Stmt>
     ensures { Gives statement_read result (other_in (inner_in scope.now depth) (lexemes tokens.now)
         (symbol_at Else (lexemes tokens.now))) }
 {
@@ -326,11 +326,11 @@ fn choice_of(alloc: Global, c: Cond, s: Stmt, t: Stmt) -> Result<Stmt, TextFault
 #[tactic(auto, unfolding(crate::specs::StatementReading::if_in))]
 fn choice<'t>(
     alloc: Global,
-    scope: &Scope,
+    scope: &BodyScope,
     at: usize,
     tokens: &'t [Token],
     depth: u8,
-) -> Read<'t, Stmt>
+) -> TextRead<'t, Stmt>
     ensures { Gives statement_read result (if_in (names_of scope.now) scope.now.most (inner_in scope.now depth) depth
         (lexemes tokens.now)) }
 {
@@ -347,11 +347,11 @@ fn choice<'t>(
 #[cycle(statements)]
 fn statements<'t>(
     alloc: Global,
-    scope: &Scope,
+    scope: &BodyScope,
     at: usize,
     tokens: &'t [Token],
     depth: u8,
-) -> Read<'t, Vec<Stmt>>
+) -> TextRead<'t, Vec<Stmt>>
     ensures { Gives statements_read result (statements_at (inner_in scope.now depth) scope.now.most nothing
         (lexemes tokens.now)) }
 {
@@ -378,11 +378,11 @@ fn statements<'t>(
 #[tactic(auto, unfolding(crate::specs::StatementReading::block_in))]
 fn block<'t>(
     alloc: Global,
-    scope: &Scope,
+    scope: &BodyScope,
     at: usize,
     tokens: &'t [Token],
     depth: u8,
-) -> Read<'t, Stmt>
+) -> TextRead<'t, Stmt>
     ensures { Gives statement_read result (block_in (inner_in scope.now depth) scope.now.most depth
         (lexemes tokens.now)) }
 {
@@ -396,12 +396,12 @@ fn block<'t>(
 #[tactic(auto, unfolding(crate::specs::StatementReading::statement_by_symbol))]
 fn by_symbol<'t>(
     alloc: Global,
-    scope: &Scope,
+    scope: &BodyScope,
     all: &'t [Token],
     symbol: Symbol,
     tokens: &'t [Token],
     depth: u8,
-) -> Read<'t, Stmt>
+) -> TextRead<'t, Stmt>
     ensures { Gives statement_read result (statement_by_symbol (names_of scope.now) scope.now.most
         (inner_in scope.now depth) depth (lexemes all.now) symbol (lexemes tokens.now)) }
 {
@@ -427,7 +427,12 @@ fn by_symbol<'t>(
 /// A statement.
 #[cycle(statements)]
 #[tactic(auto, unfolding(crate::specs::StatementReading::statement_in))]
-fn statement<'t>(alloc: Global, scope: &Scope, tokens: &'t [Token], depth: u8) -> Read<'t, Stmt>
+fn statement<'t>(
+    alloc: Global,
+    scope: &BodyScope,
+    tokens: &'t [Token],
+    depth: u8,
+) -> TextRead<'t, Stmt>
     ensures { Gives statement_read result (statement_by scope.now depth (lexemes tokens.now)) }
 {
     match tokens {
@@ -448,7 +453,7 @@ fn statement<'t>(alloc: Global, scope: &Scope, tokens: &'t [Token], depth: u8) -
 /// there; `UnknownName` at a name; `WrongType` at a name or at the first token of an expression of the
 /// wrong kind; `TooMany` at the token that opens a level too many; `Memory` where room was refused.
 #[tactic(auto, unfolding(crate::specs::StatementReading::body_in))]
-pub fn body<'t>(alloc: Global, scope: &Scope, tokens: &'t [Token]) -> Read<'t, Vec<Stmt>>
+pub fn body<'t>(alloc: Global, scope: &BodyScope, tokens: &'t [Token]) -> TextRead<'t, Vec<Stmt>>
     ensures { Gives statements_read result (body_in (names_of scope.now) scope.now.most (lexemes tokens.now)) }
 {
     let (all, rest) = statements(alloc, scope, start_of(tokens), tokens, STATEMENTS)?;

@@ -15,8 +15,8 @@ ghost use Rattle.body_read.specs.Scopes.{names_of, nested_in, deeper_in, conditi
 
 use crate::front::{after, behind, start_of, start_of_second};
 use crate::kinds::{integer, table, text};
-use crate::scope::Scope;
-use crate::terms::{Read, expr, nested, part};
+use crate::scope::BodyScope;
+use crate::terms::{TextRead, expr, nested, part};
 use crate::text_fault::TextFault;
 use decl_core::expr::Expr;
 use decl_core::id::PartId;
@@ -46,7 +46,7 @@ fn relation_by(s: Symbol) -> Option<Relation>
 }
 
 /// A symbol that compares, which has to stand here.
-fn relation<'t>(tokens: &'t [Token]) -> Read<'t, Relation>
+fn relation<'t>(tokens: &'t [Token]) -> TextRead<'t, Relation>
     ensures { Gives relation_read result (relation_at (lexemes tokens.now)) }
 {
     match tokens {
@@ -106,7 +106,12 @@ fn compared(relation: Relation, left: Expr, right: Expr, at: usize) -> Result<Co
 
 /// Two expressions with a relation between them.
 #[tactic(auto, unfolding(crate::specs::StatementReading::comparison_in))]
-fn comparison<'t>(alloc: Global, scope: &Scope, tokens: &'t [Token], depth: u8) -> Read<'t, Cond>
+fn comparison<'t>(
+    alloc: Global,
+    scope: &BodyScope,
+    tokens: &'t [Token],
+    depth: u8,
+) -> TextRead<'t, Cond>
     ensures { Gives condition_read result (comparison_in (expr_at (names_of scope.now) scope.now.most depth)
         (lexemes tokens.now)) }
 {
@@ -120,7 +125,7 @@ fn comparison<'t>(alloc: Global, scope: &Scope, tokens: &'t [Token], depth: u8) 
 
 /// What stands behind `has`.
 #[tactic(auto, unfolding(crate::specs::StatementReading::has_in))]
-fn has<'t>(alloc: Global, scope: &Scope, tokens: &'t [Token], depth: u8) -> Read<'t, Cond>
+fn has<'t>(alloc: Global, scope: &BodyScope, tokens: &'t [Token], depth: u8) -> TextRead<'t, Cond>
     ensures { Gives condition_read result (has_in (names_of scope.now) (nested_in scope.now depth) depth
         (lexemes tokens.now)) }
 {
@@ -135,7 +140,7 @@ fn has<'t>(alloc: Global, scope: &Scope, tokens: &'t [Token], depth: u8) -> Read
 
 /// A condition where no `not` stands.
 #[tactic(auto, unfolding(crate::specs::StatementReading::plain_condition_in))]
-fn plain<'t>(alloc: Global, scope: &Scope, tokens: &'t [Token], depth: u8) -> Read<'t, Cond>
+fn plain<'t>(alloc: Global, scope: &BodyScope, tokens: &'t [Token], depth: u8) -> TextRead<'t, Cond>
     ensures { Gives condition_read result (plain_condition_in (names_of scope.now) scope.now.most depth
         (lexemes tokens.now) (symbol_at Has (lexemes tokens.now))) }
 {
@@ -156,11 +161,11 @@ fn plain<'t>(alloc: Global, scope: &Scope, tokens: &'t [Token], depth: u8) -> Re
 #[tactic(auto, using(crate::proofs::StatementSteps::deeper_step))]
 fn deeper<'t>(
     alloc: Global,
-    scope: &Scope,
+    scope: &BodyScope,
     at: usize,
     tokens: &'t [Token],
     depth: u8,
-) -> Read<'t, Cond>
+) -> TextRead<'t, Cond>
     ensures { Gives condition_read result (deeper_in scope.now depth (lexemes tokens.now)) }
 {
     if depth == 0 {
@@ -174,10 +179,10 @@ fn deeper<'t>(
 #[tactic(auto, unfolding(crate::specs::StatementReading::condition_in, crate::specs::StatementReading::not_in))]
 pub(crate) fn condition<'t>(
     alloc: Global,
-    scope: &Scope,
+    scope: &BodyScope,
     tokens: &'t [Token],
     depth: u8,
-) -> Read<'t, Cond>
+) -> TextRead<'t, Cond>
     ensures { Gives condition_read result (conditions_in scope.now depth (lexemes tokens.now)) }
 {
     match after(tokens, Symbol::Not) {

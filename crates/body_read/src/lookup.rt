@@ -8,7 +8,7 @@ ghost use Rattle.body_read.specs.Scopes.{operation_names};
 ghost use Rattle.body_read.specs.Scopes.{names_of, with_own};
 ghost use Rattle.decl_core.specs.ObjectMap.{operations_of, params_of, parts_of};
 
-use crate::scope::Scope;
+use crate::scope::BodyScope;
 use decl_core::id::{ParamId, PartId};
 use decl_core::object::{Operation, Param, Part};
 use path_tree::lookup::Constant;
@@ -103,7 +103,7 @@ fn is_own(own: Option<&Name>, operations: &[Arc<Operation>], text: &[u8]) -> boo
 
 /// Whether a constant, a parameter, a part or an operation has this name: it is then of the wrong kind
 /// where it is none of those that are sought.
-pub fn is_known(scope: &Scope, text: &[u8]) -> bool
+pub fn is_known(scope: &BodyScope, text: &[u8]) -> bool
     ensures { result ≡ is_known_in (names_of scope.now) text.now }
 {
     constant_of(scope.constants, text).is_some()

@@ -10,7 +10,7 @@ use value_core::kind::Elem;
 
 /// What the text of an operation is read with.
 #[derive(Clone, Copy)]
-pub struct Scope<'a> {
+pub struct BodyScope<'a> {
     /// Constants and their values.
     pub constants: &'a [Constant],
     /// Parameters, by their numbers.

@@ -16,7 +16,7 @@ ghost use Rattle.body_read.specs.Scopes.{names_of, nested_in, terms_in, form_rea
 use crate::front::{after, behind, name, operator, start_of, start_of_second};
 use crate::kinds::{array, integer, level, literal, queue, signed, table, taken, text};
 use crate::lookup::{constant_of, is_known, param_of, part_of, place_of};
-use crate::scope::Scope;
+use crate::scope::BodyScope;
 use crate::text_fault::TextFault;
 use decl_core::expr::{Expr, IntegerExpr, Source};
 use decl_core::id::PartId;
@@ -25,11 +25,11 @@ use std::alloc::Global;
 use value_core::kind::Kind;
 
 /// What was read, and the tokens behind.
-pub type Read<'t, T> = Result<(T, &'t [Token]), TextFault>;
+pub type TextRead<'t, T> = Result<(T, &'t [Token]), TextFault>;
 
 /// A constant's value or a parameter.
 #[tactic(auto, unfolding(crate::specs::Reading::value_named, crate::specs::Reading::param_named))]
-fn value(alloc: Global, scope: &Scope, bytes: &[u8], at: usize) -> Result<Expr, TextFault>
+fn value(alloc: Global, scope: &BodyScope, bytes: &[u8], at: usize) -> Result<Expr, TextFault>
     ensures { Gives form_of result (value_named (names_of scope.now) bytes.now
         (value_of (names_of scope.now).constants bytes.now)) }
 {
@@ -52,7 +52,7 @@ fn value(alloc: Global, scope: &Scope, bytes: &[u8], at: usize) -> Result<Expr, 
 /// A part's name behind the parenthesis that opens.
 #[tactic(auto, unfolding(crate::specs::Reading::part_in))]
 pub(crate) fn part<'t>(
-    scope: &Scope,
+    scope: &BodyScope,
     tokens: &'t [Token],
     depth: u8,
 ) -> Result<(u8, Kind, &'t [Token]), TextFault>
@@ -74,7 +74,7 @@ pub(crate) fn part<'t>(
 
 /// What stands behind `first`.
 #[tactic(auto, unfolding(crate::specs::Reading::first_in))]
-fn first<'t>(alloc: Global, scope: &Scope, tokens: &'t [Token], depth: u8) -> Read<'t, Expr>
+fn first<'t>(alloc: Global, scope: &BodyScope, tokens: &'t [Token], depth: u8) -> TextRead<'t, Expr>
     ensures { Gives form_read result (first_in (names_of scope.now) depth (lexemes tokens.now)) }
 {
     let (part, kind, rest) = part(scope, tokens, depth)?;
@@ -86,7 +86,7 @@ fn first<'t>(alloc: Global, scope: &Scope, tokens: &'t [Token], depth: u8) -> Re
 
 /// What stands behind `count`.
 #[tactic(auto, unfolding(crate::specs::Reading::count_in))]
-fn count<'t>(scope: &Scope, tokens: &'t [Token], depth: u8) -> Read<'t, Expr>
+fn count<'t>(scope: &BodyScope, tokens: &'t [Token], depth: u8) -> TextRead<'t, Expr>
     ensures { Gives form_read result (count_in (names_of scope.now) depth (lexemes tokens.now)) }
 {
     let (part, _kind, rest) = part(scope, tokens, depth)?;
@@ -99,11 +99,11 @@ fn count<'t>(scope: &Scope, tokens: &'t [Token], depth: u8) -> Read<'t, Expr>
 #[tactic(auto, using(crate::proofs::Sums::nested_step))]
 pub(crate) fn nested<'t>(
     alloc: Global,
-    scope: &Scope,
+    scope: &BodyScope,
     at: usize,
     tokens: &'t [Token],
     depth: u8,
-) -> Read<'t, Expr>
+) -> TextRead<'t, Expr>
     ensures { Gives form_read result (nested_in scope.now depth (lexemes tokens.now)) }
 {
     if depth == 0 {
@@ -117,11 +117,11 @@ pub(crate) fn nested<'t>(
 #[tactic(auto, unfolding(crate::specs::Reading::group_in))]
 fn group<'t>(
     alloc: Global,
-    scope: &Scope,
+    scope: &BodyScope,
     at: usize,
     tokens: &'t [Token],
     depth: u8,
-) -> Read<'t, Expr>
+) -> TextRead<'t, Expr>
     ensures { Gives form_read result (group_in (nested_in scope.now depth) (lexemes tokens.now)) }
 {
     let (e, rest) = nested(alloc, scope, at, tokens, depth)?;
@@ -132,7 +132,12 @@ fn group<'t>(
 /// What stands behind `lookup`.
 #[cycle(expressions)]
 #[tactic(auto, unfolding(crate::specs::Reading::lookup_in))]
-fn lookup<'t>(alloc: Global, scope: &Scope, tokens: &'t [Token], depth: u8) -> Read<'t, Expr>
+fn lookup<'t>(
+    alloc: Global,
+    scope: &BodyScope,
+    tokens: &'t [Token],
+    depth: u8,
+) -> TextRead<'t, Expr>
     ensures { Gives form_read result (lookup_in (names_of scope.now) (nested_in scope.now depth) depth
         (lexemes tokens.now)) }
 {
@@ -151,12 +156,12 @@ fn lookup<'t>(alloc: Global, scope: &Scope, tokens: &'t [Token], depth: u8) -> R
 #[tactic(auto, unfolding(crate::specs::Reading::named_in))]
 fn named<'t>(
     alloc: Global,
-    scope: &Scope,
+    scope: &BodyScope,
     bytes: &[u8],
     at: usize,
     tokens: &'t [Token],
     depth: u8,
-) -> Read<'t, Expr>
+) -> TextRead<'t, Expr>
     ensures { Gives form_read result (named_in (names_of scope.now) (nested_in scope.now depth) bytes.now
         (lexemes tokens.now) (symbol_at OpenBracket (lexemes tokens.now))) }
 {
@@ -188,12 +193,12 @@ fn named<'t>(
 #[tactic(auto, unfolding(crate::specs::Reading::by_symbol_in))]
 fn by_symbol<'t>(
     alloc: Global,
-    scope: &Scope,
+    scope: &BodyScope,
     symbol: Symbol,
     at: usize,
     tokens: &'t [Token],
     depth: u8,
-) -> Read<'t, Expr>
+) -> TextRead<'t, Expr>
     ensures { Gives form_read result (by_symbol_in (names_of scope.now) (nested_in scope.now depth) depth symbol
         (lexemes tokens.now)) }
 {
@@ -213,7 +218,7 @@ fn by_symbol<'t>(
 /// A term.
 #[cycle(expressions)]
 #[tactic(auto, unfolding(crate::specs::Reading::term_in))]
-fn term<'t>(alloc: Global, scope: &Scope, tokens: &'t [Token], depth: u8) -> Read<'t, Expr>
+fn term<'t>(alloc: Global, scope: &BodyScope, tokens: &'t [Token], depth: u8) -> TextRead<'t, Expr>
     ensures { Gives form_read result (terms_in scope.now depth (lexemes tokens.now)) }
 {
     match tokens {
@@ -239,10 +244,10 @@ fn term<'t>(alloc: Global, scope: &Scope, tokens: &'t [Token], depth: u8) -> Rea
 #[tactic(auto, unfolding(crate::specs::Reading::expr_in, crate::specs::Reading::summed))]
 pub(crate) fn expr<'t>(
     alloc: Global,
-    scope: &Scope,
+    scope: &BodyScope,
     tokens: &'t [Token],
     depth: u8,
-) -> Read<'t, Expr>
+) -> TextRead<'t, Expr>
     ensures { Gives form_read result (expr_in (terms_in scope.now depth) scope.now.most (lexemes tokens.now)) }
 {
     let (first, rest) = term(alloc, scope, tokens, depth)?;
@@ -260,11 +265,11 @@ pub(crate) fn expr<'t>(
 #[cycle(expressions)]
 fn more<'t>(
     alloc: Global,
-    scope: &Scope,
+    scope: &BodyScope,
     first: IntegerExpr,
     tokens: &'t [Token],
     depth: u8,
-) -> Read<'t, IntegerExpr>
+) -> TextRead<'t, IntegerExpr>
     ensures { Gives integers_read result (more_at (terms_in scope.now depth) scope.now.most (integers_of first)
         (lexemes tokens.now)) }
 {

@@ -2,8 +2,8 @@
 use Rattle.std.specs.Prelude.{◌≡◌, ◌≢◌, ℕ, List, [], Option, Some, None, slice_get}
 use Rattle.value_core.specs.declared.kind.Kind.{Kind}
 use Rattle.value_core.specs.Contents.{Contents, kind_of}
-use Rattle.value_core.specs.Spelling.{Spells}
-use Rattle.value_core.specs.Laws.{AreBytes}
+use Rattle.value_bytes.specs.Spelling.{Spells}
+use Rattle.value_bytes.specs.Laws.{AreBytes}
 use Rattle.device_core.specs.declared.hand.Stamp.{Stamp}
 use Rattle.device_core.specs.Device.{Assignment}
 use Rattle.apply_core.specs.declared.reply.Failure.TheVariants as failures

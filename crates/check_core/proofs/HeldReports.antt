@@ -6,7 +6,7 @@ use Rattle.std.proofs.lemmas.List.{append-nil, map-append, length-map}
 use Rattle.decl_core.specs.declared.object.Object.{Object}
 use Rattle.decl_core.specs.ObjectForm.{ObjectForm}
 use Rattle.decl_core.specs.ObjectMap.{object_of, objects_of}
-use Rattle.decl_core.specs.declared.certificate.Entry.{Entry}
+use Rattle.decl_core.specs.declared.certificate.SeparatedPair.{SeparatedPair}
 use Rattle.decl_core.specs.Exclusive.{IsExclusive}
 use Rattle.decl_core.specs.Certificate.{IsFirstCertificate}
 use Rattle.check_core.specs.declared.report.CheckEnd.{CheckEnd}
@@ -92,7 +92,7 @@ told_all all [] count rules left n text same zero done =
 
 -- what is told of an accepted object
 pub kept_told : (a b : Object) (r : RulesForm) (before mid now : List ℕ) → a ≡ b →
-    (entries : List Entry) × IsFirstCertificate (object_of b) entries × IsExclusive (object_of b) × (mid ≡ before ++ accepted_lines (object_of b) entries) →
+    (entries : List SeparatedPair) × IsFirstCertificate (object_of b) entries × IsExclusive (object_of b) × (mid ≡ before ++ accepted_lines (object_of b) entries) →
     now ≡ mid ++ rule_lines (object_of a) r →
     (text : List ℕ) × (now ≡ before ++ text) × IsHeldReported (object_of b) r 0 text
 kept_told a b r before mid now same first told =

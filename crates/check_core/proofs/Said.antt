@@ -15,7 +15,7 @@ use Rattle.check_core.specs.declared.report.CheckEnd.{CheckEnd}
 use Rattle.check_core.specs.declared.report.CheckEnd.TheVariants.{Counted, Faulty}
 use Rattle.check_core.specs.Report.{IsToldFault, accepted_lines, count_line, fault_line}
 use Rattle.path_tree.specs.Path.{Path}
-use Rattle.decl_core.specs.declared.certificate.Entry.{Entry}
+use Rattle.decl_core.specs.declared.certificate.SeparatedPair.{SeparatedPair}
 use Rattle.decl_core.specs.Exclusive.{IsExclusive}
 use Rattle.decl_core.specs.Certificate.{IsFirstCertificate}
 use Rattle.stuck_core.specs.declared.found.Finding.{Finding}
@@ -96,7 +96,7 @@ ToldOf a now mid lost = (found : Findings) × IsTold (object_of a).paths (length
 
 -- and of one that is accepted, behind what `check` says of it
 pub kept_said : (a b : Object) (before mid now : List ℕ) (lost : Bool) → a ≡ b →
-    (entries : List Entry) × IsFirstCertificate (object_of b) entries × IsExclusive (object_of b) × (mid ≡ before ++ accepted_lines (object_of b) entries) →
+    (entries : List SeparatedPair) × IsFirstCertificate (object_of b) entries × IsExclusive (object_of b) × (mid ≡ before ++ accepted_lines (object_of b) entries) →
     (found : Findings) × IsTold (object_of a).paths (length (object_of a).operations) found × (now ≡ mid ++ told_lines (object_of a) found) × (lost ≡ some_lost found.each.items) →
     (text : List ℕ) × (now ≡ before ++ text) × IsSaid (object_of b) 0 lost text
 kept_said a b before mid now lost same first told =

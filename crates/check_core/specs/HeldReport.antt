@@ -1,7 +1,7 @@
 -- What a check of a source with holds writes.
 use Rattle.std.specs.Prelude.{ℕ, ◌+◌, List, [], ◌∷◌, ◌++◌, length}
 use Rattle.decl_core.specs.ObjectForm.{ObjectForm}
-use Rattle.decl_core.specs.declared.certificate.Entry.{Entry}
+use Rattle.decl_core.specs.declared.certificate.SeparatedPair.{SeparatedPair}
 use Rattle.decl_core.specs.Exclusive.{IsExclusive, IsFirstUnseparated}
 use Rattle.decl_core.specs.Certificate.{IsFirstCertificate}
 use Rattle.check_core.specs.declared.report.CheckEnd.{CheckEnd}
@@ -13,7 +13,7 @@ use Rattle.check_core.specs.HoldLines.{rule_lines}
 -- What an object is told, and how many of it are refused: an accepted one gets what `check` says, and the lines of its
 -- holds behind that.
 pub data IsHeldReported (o : ObjectForm) (r : RulesForm) : ℕ → List ℕ → Type 0 where
-  accepted : {entries : List Entry} → IsExclusive o → IsFirstCertificate o entries →
+  accepted : {entries : List SeparatedPair} → IsExclusive o → IsFirstCertificate o entries →
       IsHeldReported o r 0 (accepted_lines o entries ++ rule_lines o r)
   refused : {i j p : ℕ} → IsFirstUnseparated o i j p → IsHeldReported o r 1 (refused_line o i j p)
 

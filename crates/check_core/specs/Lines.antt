@@ -7,8 +7,8 @@ use Rattle.stuck_core.specs.declared.found.Why.{Why}
 use Rattle.stuck_core.specs.declared.found.Why.TheVariants as whys
 use Rattle.stuck_core.specs.declared.found.Finding.{Finding}
 use Rattle.stuck_core.specs.declared.found.Finding.TheVariants as finding
-use Rattle.stuck_core.specs.declared.found.Ending.{Ending}
-use Rattle.stuck_core.specs.declared.found.Ending.TheVariants as ending
+use Rattle.stuck_core.specs.declared.found.StuckVerdict.{StuckVerdict}
+use Rattle.stuck_core.specs.declared.found.StuckVerdict.TheVariants as ending
 use Rattle.stuck_core.specs.declared.found.Findings.{Findings}
 use Rattle.stuck_core.specs.Waits.{Place, waits}
 
@@ -92,7 +92,7 @@ stuck_words o [] = codes "stuck at once\n"
 stuck_words o (op ∷ ops) = codes "stuck after" ++ calls_text o (op ∷ ops) ++ codes "\n"
 
 -- stuck ..
-abbrev pub ending_line : ObjectForm → Ending → List ℕ
+abbrev pub ending_line : ObjectForm → StuckVerdict → List ℕ
 ending_line o ending.Never = codes "stuck never\n"
 ending_line o (ending.After calls) = stuck_words o calls.items
 ending_line o ending.Unknown = codes "stuck unknown\n"

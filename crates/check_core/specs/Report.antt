@@ -12,7 +12,7 @@ use Rattle.decl_read.specs.declared.fault.DeclFault.TheVariants as faults
 use Rattle.decl_read.specs.DeclFaults.{fault_number, fault_name, fault_place}
 use Rattle.decl_core.specs.ObjectForm.{OperationForm, ObjectForm}
 use Rattle.decl_read.specs.Sources.{AreObjectsOf, lex_fault_told}
-use Rattle.decl_core.specs.declared.certificate.Entry.{Entry}
+use Rattle.decl_core.specs.declared.certificate.SeparatedPair.{SeparatedPair}
 use Rattle.check_core.specs.declared.report.CheckEnd.{CheckEnd}
 use Rattle.check_core.specs.declared.report.CheckEnd.TheVariants as ends
 use Rattle.decl_core.specs.Exclusive.{IsExclusive, IsFirstUnseparated}
@@ -33,17 +33,17 @@ abbrev pub pair_text : ObjectForm → ℕ → ℕ → List ℕ
 pair_text o i j = operation_name (slice_get o.operations i) ++ codes " " ++ operation_name (slice_get o.operations j)
 
 -- pair A B path P node K
-abbrev pub pair_line : ObjectForm → Entry → List ℕ
+abbrev pub pair_line : ObjectForm → SeparatedPair → List ℕ
 pair_line o e =
     codes "pair " ++ pair_text o e.first e.second ++ codes " path " ++ decimal e.path ++ codes " node "
     ++ decimal e.node ++ codes "\n"
 
-abbrev pub pair_lines : ObjectForm → List Entry → List ℕ
+abbrev pub pair_lines : ObjectForm → List SeparatedPair → List ℕ
 pair_lines o [] = []
 pair_lines o (e ∷ es) = pair_line o e ++ pair_lines o es
 
 -- object NAME accepted, and a line for each entry of the certificate
-abbrev pub accepted_lines : ObjectForm → List Entry → List ℕ
+abbrev pub accepted_lines : ObjectForm → List SeparatedPair → List ℕ
 accepted_lines o entries = codes "object " ++ o.name ++ codes " accepted\n" ++ pair_lines o entries
 
 -- object NAME refused 1 Unseparated A B PART
@@ -72,7 +72,7 @@ fault_line fault = fault_word fault ++ fault_text (fault_number fault) (fault_na
 
 -- what an object is told, and how many of it are refused: none or it
 pub data IsReported (o : ObjectForm) : ℕ → List ℕ → Type 0 where
-  accepted : {entries : List Entry} → IsExclusive o → IsFirstCertificate o entries →
+  accepted : {entries : List SeparatedPair} → IsExclusive o → IsFirstCertificate o entries →
       IsReported o 0 (accepted_lines o entries)
   refused : {i j p : ℕ} → IsFirstUnseparated o i j p → IsReported o 1 (refused_line o i j p)
 

@@ -3,7 +3,7 @@ use Rattle.std.specs.Prelude.{ℕ, ◌+◌, ◌||◌, Bool, false, List, [], ◌
 use Rattle.decl_core.specs.ObjectForm.{ObjectForm}
 use Rattle.decl_read.specs.Sources.{AreObjectsOf}
 use Rattle.decl_read.specs.declared.fault.DeclFault.{DeclFault}
-use Rattle.decl_core.specs.declared.certificate.Entry.{Entry}
+use Rattle.decl_core.specs.declared.certificate.SeparatedPair.{SeparatedPair}
 use Rattle.decl_core.specs.Exclusive.{IsExclusive, IsFirstUnseparated}
 use Rattle.decl_core.specs.Certificate.{IsFirstCertificate}
 use Rattle.check_core.specs.declared.report.CheckEnd.{CheckEnd}
@@ -16,7 +16,7 @@ use Rattle.check_core.specs.Lines.{told_lines, some_lost}
 -- What an object is told, how many of it are refused, and whether an operation of it is lost: an accepted object gets
 -- what `check` says, and what is true of what can be lost, waited for and stuck.
 pub data IsSaid (o : ObjectForm) : ℕ → Bool → List ℕ → Type 0 where
-  accepted : {entries : List Entry} {found : Findings} → IsExclusive o → IsFirstCertificate o entries →
+  accepted : {entries : List SeparatedPair} {found : Findings} → IsExclusive o → IsFirstCertificate o entries →
       IsTold o.paths (length o.operations) found →
       IsSaid o 0 (some_lost found.each.items) (accepted_lines o entries ++ told_lines o found)
   refused : {i j p : ℕ} → IsFirstUnseparated o i j p → IsSaid o 1 false (refused_line o i j p)

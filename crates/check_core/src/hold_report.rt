@@ -10,7 +10,7 @@ ghost use Rattle.check_core.specs.HeldReport.{AreHeldReported, IsHeldCheck, IsHe
 
 use crate::hold_lines::push_rules;
 use crate::report::{CheckEnd, push_accepted, push_unseparated};
-use decl_core::analyse::{Accepted, Refusal, Refused, analyse};
+use decl_core::analyse::{Accepted, ObjectRefusal, Refused, analyse};
 use decl_core::hold::Rules;
 use decl_core::object::Object;
 use std::alloc::{AllocError, Global};
@@ -40,8 +40,8 @@ fn push_refused(out: &mut Vec<u8>, refused: &Refused, rules: &Rules) -> Result<u
         × IsHeldReported (object_of refused.now.object) (rules_of rules.now) count text) }
 {
     match refused.why {
-        Refusal::Memory => Err(AllocError),
-        Refusal::Unseparated(first, second, part) => {
+        ObjectRefusal::Memory => Err(AllocError),
+        ObjectRefusal::Unseparated(first, second, part) => {
             push_unseparated(out, &refused.object, first, second, part)?;
             Ok(1)
         }

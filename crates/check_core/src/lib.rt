@@ -22,3 +22,4 @@ pub mod open;
 pub mod report;
 pub mod stuck_report;
 mod text;
+pub mod uncalled;

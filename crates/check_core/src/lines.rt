@@ -12,8 +12,8 @@ use decl_core::object::Object;
 use path_tree::node::OpId;
 use path_tree::tree::PathTree;
 use std::alloc::{AllocError, Global};
-use stuck_core::found::{Ending, Finding, Findings, Why};
-use stuck_core::wait::{Place, waits_of};
+use stuck_core::found::{Finding, Findings, StuckVerdict, Why};
+use stuck_core::wait::{HoldingNode, waits_of};
 use text_core::reply::push_number;
 
 // The name of an operation of an object.
@@ -147,7 +147,7 @@ fn push_wait(
     object: &Object,
     op: usize,
     path: usize,
-    place: &Place,
+    place: &HoldingNode,
 ) -> Result<(), AllocError>
     ensures { OnOk result (out.new.items ≡ out.old.items
         ++ wait_line (object_of object.now) op path (place_of place.now)) }
@@ -167,7 +167,7 @@ fn push_places(
     object: &Object,
     op: usize,
     path: usize,
-    places: &[Place],
+    places: &[HoldingNode],
 ) -> Result<(), AllocError>
     ensures { OnOk result (out.new.items ≡ out.old.items
         ++ wait_lines_of (object_of object.now) op path (places_of places.now)) }
@@ -255,13 +255,13 @@ fn push_stuck(out: &mut Vec<u8>, object: &Object, calls: &[OpId]) -> Result<(), 
 }
 
 // Adds the line of the object: whether it can get stuck.
-fn push_ending(out: &mut Vec<u8>, object: &Object, ending: &Ending) -> Result<(), AllocError>
+fn push_ending(out: &mut Vec<u8>, object: &Object, ending: &StuckVerdict) -> Result<(), AllocError>
     ensures { OnOk result (out.new.items ≡ out.old.items ++ ending_line (object_of object.now) ending.now) }
 {
     match ending {
-        Ending::Never => out.extend_from_slice(b"stuck never\n"),
-        Ending::After(calls) => push_stuck(out, object, calls),
-        Ending::Unknown => out.extend_from_slice(b"stuck unknown\n"),
+        StuckVerdict::Never => out.extend_from_slice(b"stuck never\n"),
+        StuckVerdict::After(calls) => push_stuck(out, object, calls),
+        StuckVerdict::Unknown => out.extend_from_slice(b"stuck unknown\n"),
     }
 }
 

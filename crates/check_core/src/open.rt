@@ -13,7 +13,7 @@ ghost use Rattle.word_core.specs.Answers.{bad_line};
 
 use crate::head::named_object;
 use crate::report::{push_source_fault, push_unseparated};
-use decl_core::analyse::{Accepted, Refusal, Refused, analyse};
+use decl_core::analyse::{Accepted, ObjectRefusal, Refused, analyse};
 use decl_core::object::Object;
 use decl_read::fault::DeclFault;
 use decl_read::read::read_objects;
@@ -83,8 +83,8 @@ fn refused_text(alloc: Global, refused: &Refused) -> Result<Vec<u8>, AllocError>
     ensures { IfOk result (λ text. IsRefusedLine (object_of refused.now.object) text.items) }
 {
     match refused.why {
-        Refusal::Memory => Err(AllocError),
-        Refusal::Unseparated(first, second, part) => {
+        ObjectRefusal::Memory => Err(AllocError),
+        ObjectRefusal::Unseparated(first, second, part) => {
             let mut text = Vec::new(alloc);
             push_unseparated(&mut text, &refused.object, first, second, part)?;
             Ok(text)

@@ -7,17 +7,16 @@ ghost use Rattle.decl_core.specs.ObjectForm.{ObjectForm};
 ghost use Rattle.decl_read.specs.Sources.{AreObjectsOf};
 ghost use Rattle.decl_core.specs.ObjectMap.{object_of, objects_of};
 ghost use Rattle.decl_core.specs.Certificate.{IsFirstCertificate};
-ghost use Rattle.check_core.specs.CheckFaults.{fault_number, fault_name};
 ghost use Rattle.decl_core.specs.Exclusive.{IsExclusive};
 ghost use Rattle.decl_core.specs.Refusals.{IsWhy};
 ghost use Rattle.check_core.specs.Report.{AreReported, IsCheck, IsReported, IsWantOfMemory, accepted_lines, count_line};
 ghost use Rattle.check_core.specs.Report.{fault_line, refused_line};
-ghost use Rattle.decl_core.specs.declared.certificate.Entry.{Entry};
+ghost use Rattle.decl_core.specs.declared.certificate.SeparatedPair.{SeparatedPair};
 ghost use Rattle.check_core.specs.declared.report.CheckEnd.TheVariants.{Counted, Faulty};
 ghost use Rattle.check_core.specs.declared.report.CheckFault.TheVariants.{WriteFault, Memory};
 
 use crate::text::{fault_word, part_name, push_entries, push_pair, push_said};
-use decl_core::analyse::{Accepted, Refusal, Refused, analyse};
+use decl_core::analyse::{Accepted, ObjectRefusal, Refused, analyse};
 use decl_core::object::Object;
 use decl_read::fault::DeclFault;
 use decl_read::read::read_objects;
@@ -51,32 +50,10 @@ pub enum CheckFault {
     Memory,
 }
 
-impl CheckFault {
-    /// The number of the fault: 1 or 2.
-    pub fn number(&self) -> u8
-        ensures { result ≡ fault_number self.now }
-    {
-        match self {
-            CheckFault::WriteFault => 1,
-            CheckFault::Memory => 2,
-        }
-    }
-
-    /// The name of the fault, as in `WriteFault`.
-    pub fn name(&self) -> &'static str
-        ensures { result.now ≡ fault_name self.now }
-    {
-        match self {
-            CheckFault::WriteFault => "WriteFault",
-            CheckFault::Memory => "Memory",
-        }
-    }
-}
-
 /// Adds the lines of an accepted object: `object NAME accepted`, and `pair A B path P node K` for each
 /// entry of its certificate.
 pub fn push_accepted(out: &mut Vec<u8>, accepted: &Accepted) -> Result<(), AllocError>
-    ensures { OnOk result ((entries : List Entry) × IsFirstCertificate (object_of accepted.now) entries
+    ensures { OnOk result ((entries : List SeparatedPair) × IsFirstCertificate (object_of accepted.now) entries
         × IsExclusive (object_of accepted.now)
         × (out.new.items ≡ out.old.items ++ accepted_lines (object_of accepted.now) entries)) }
 {
@@ -121,8 +98,8 @@ fn push_refused(out: &mut Vec<u8>, refused: &Refused) -> Result<usize, AllocErro
         × IsReported (object_of refused.now.object) count text) }
 {
     match refused.why {
-        Refusal::Memory => Err(AllocError),
-        Refusal::Unseparated(first, second, part) => {
+        ObjectRefusal::Memory => Err(AllocError),
+        ObjectRefusal::Unseparated(first, second, part) => {
             push_unseparated(out, &refused.object, first, second, part)?;
             Ok(1)
         }

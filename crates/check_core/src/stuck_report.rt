@@ -16,7 +16,7 @@ ghost use Rattle.check_core.specs.StuckReport.{AreSaid, IsSaid, IsStuckCheck};
 
 use crate::lines::{is_losing, push_found};
 use crate::report::{CheckEnd, CheckFault, push_accepted, push_source_fault, push_unseparated};
-use decl_core::analyse::{Accepted, Refusal, Refused, analyse};
+use decl_core::analyse::{Accepted, ObjectRefusal, Refused, analyse};
 use decl_core::object::Object;
 use decl_read::fault::DeclFault;
 use decl_read::read::read_objects;
@@ -88,8 +88,8 @@ fn push_refused(out: &mut Vec<u8>, refused: &Refused) -> Result<StuckTally, Allo
         × IsSaid (object_of refused.now.object) said.refused said.lost text) }
 {
     match refused.why {
-        Refusal::Memory => Err(AllocError),
-        Refusal::Unseparated(first, second, part) => {
+        ObjectRefusal::Memory => Err(AllocError),
+        ObjectRefusal::Unseparated(first, second, part) => {
             push_unseparated(out, &refused.object, first, second, part)?;
             Ok(StuckTally {
                 refused: 1,

@@ -4,7 +4,7 @@ ghost use Rattle.std.specs.Prelude.{◌≡◌, ◌++◌, OnOk, codes, slice_get}
 ghost use Rattle.decl_core.specs.ObjectMap.{object_of};
 ghost use Rattle.check_core.specs.Report.{fault_word, operation_name, pair_line, pair_lines, pair_text, part_name};
 
-use decl_core::certificate::Entry;
+use decl_core::certificate::SeparatedPair;
 use decl_core::object::Object;
 use decl_read::fault::DeclFault;
 use std::alloc::AllocError;
@@ -46,7 +46,7 @@ pub(crate) fn push_pair(
 }
 
 // Adds the line of an entry.
-fn push_entry(out: &mut Vec<u8>, object: &Object, entry: Entry) -> Result<(), AllocError>
+fn push_entry(out: &mut Vec<u8>, object: &Object, entry: SeparatedPair) -> Result<(), AllocError>
     ensures { OnOk result (out.new.items ≡ out.old.items ++ pair_line (object_of object.now) entry) }
 {
     out.extend_from_slice(b"pair ")?;
@@ -61,7 +61,7 @@ fn push_entry(out: &mut Vec<u8>, object: &Object, entry: Entry) -> Result<(), Al
 pub(crate) fn push_entries(
     out: &mut Vec<u8>,
     object: &Object,
-    entries: &[Entry],
+    entries: &[SeparatedPair],
 ) -> Result<(), AllocError>
     ensures { OnOk result (out.new.items ≡ out.old.items ++ pair_lines (object_of object.now) entries.now) }
 {

@@ -4,10 +4,10 @@ use Rattle.std.specs.Prelude.{Option, Some, None, option_map, IfSome, codes, if�
 use Rattle.std.specs.Borrow.{Bor}
 use Rattle.std.specs.Str.{bytes_eq}
 use Rattle.word_core.specs.Words.{Word, bare, IsFirst, AreWords}
-use Rattle.word_core.specs.Data.{◌>>=◌, bare_of, only_bare}
+use Rattle.word_core.specs.Data.{◌>>=◌, bare_of, only_bare, long_of}
 use Rattle.word_core.specs.Reads.{HasWords, Reads}
 use Rattle.word_core.proofs.Reading.{behind}
-use Rattle.client_core.specs.Numbers.{long_of, only_long, cancel_in}
+use Rattle.client_core.specs.Numbers.{only_long, cancel_in}
 
 same : (found : Option ℕ) → option_map (λ (n : ℕ). n) found ≡ found
 same None = refl

@@ -1,6 +1,5 @@
 pub mod Cancels
 pub mod Insides
-pub mod Numerals
 pub mod Cancelling
 pub mod Doing
 pub mod Holding

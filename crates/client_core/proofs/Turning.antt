@@ -7,7 +7,7 @@ use Rattle.decl_core.specs.ObjectMap.{object_of}
 use Rattle.live_core.specs.Lines.{all_lines}
 use Rattle.hosted_core.specs.Scene.{Scene, with_guests}
 use Rattle.hosted_core.specs.Steps.{does as does_step, calls as calls_step, gets_number as number_step, leaves as leaves_step}
-use Rattle.guest_core.specs.declared.seats.Seat.TheVariants.{Nameless}
+use Rattle.guest_core.specs.declared.seats.SeatHolder.TheVariants.{Nameless}
 use Rattle.guest_core.specs.Guests.{with_seat}
 use Rattle.post_core.specs.Turns.Asked.{Heard, Noted, Changes}
 use Rattle.post_core.specs.declared.served.LineEnd.{LineEnd}

@@ -16,7 +16,7 @@ use Rattle.live_core.specs.declared.call.Ran.{Ran}
 use Rattle.live_core.specs.declared.live.Taken.{Taken}
 use Rattle.live_core.specs.Lines.{all_lines}
 use Rattle.guest_core.specs.declared.guests.Entered.{Entered}
-use Rattle.guest_core.specs.declared.seats.Seat.TheVariants.{Nameless}
+use Rattle.guest_core.specs.declared.seats.SeatHolder.TheVariants.{Nameless}
 use Rattle.guest_core.specs.Entering.{Enters, Leaves}
 use Rattle.guest_core.specs.Guests.{Guests, with_seat}
 use Rattle.guest_core.specs.Seats.{IsLeastFree}

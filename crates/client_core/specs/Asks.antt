@@ -3,7 +3,7 @@ use Rattle.std.specs.Prelude.{◌≡◌, ◌⊎◌, ℕ, List, ◌∷◌, Bool, 
 use Rattle.std.specs.Str.{bytes_eq, str_to_ascii_lowercase}
 use Rattle.value_core.specs.declared.datum.Datum.{Datum}
 use Rattle.word_core.specs.Words.{Word, bare, IsFirst, AreWords}
-use Rattle.word_core.specs.Data.{data_of}
+use Rattle.word_core.specs.Data.{data_of, long_of}
 use Rattle.session_text.specs.Table.{Takes, TakesLast}
 use Rattle.session_text.specs.declared.line.LineRefusal.TheVariants as refusals
 use Rattle.session_text.specs.declared.session.Action.{Action}
@@ -13,7 +13,7 @@ use Rattle.client_core.specs.declared.ask.Ask.TheVariants as asks
 use Rattle.client_core.specs.declared.ask.Sight.{Sight}
 use Rattle.client_core.specs.declared.ask.Sight.TheVariants as insides
 use Rattle.client_core.specs.Inside.{IsInside}
-use Rattle.client_core.specs.Numbers.{long_of, cancel_in}
+use Rattle.client_core.specs.Numbers.{cancel_in}
 
 -- what the table does for a line, behind which an LF stood or not
 abbrev pub TableDoes : Bool → Bool → List ℕ → Action → Type 0

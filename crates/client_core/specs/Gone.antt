@@ -7,7 +7,7 @@ use Rattle.live_core.specs.declared.live.Taken.{Taken}
 use Rattle.live_core.specs.Hall.{Every}
 use Rattle.live_core.specs.Lines.{all_lines}
 use Rattle.guest_core.specs.Entering.{Leaves}
-use Rattle.guest_core.specs.declared.seats.Seat.TheVariants.{Nameless}
+use Rattle.guest_core.specs.declared.seats.SeatHolder.TheVariants.{Nameless}
 use Rattle.guest_core.specs.Guests.{Guests, SomebodyHas, with_seat}
 use Rattle.guest_core.specs.Seats.{IsLeastFree}
 use Rattle.hosted_core.specs.Calls.{Does}

@@ -10,7 +10,6 @@ ghost use Rattle.client_core.specs.Asks.{may_see, SeesInside};
 ghost use Rattle.client_core.specs.Inside.{inside_in, inside_by, why_behind, who_behind, list_behind, IsInside};
 ghost use Rattle.client_core.specs.Numbers.{only_long, cancel_in};
 
-use crate::number::number_of;
 use path_tree::name::Name;
 use session_text::line::LineRefusal;
 use session_text::session::{Action, Session};
@@ -19,6 +18,7 @@ use text_core::words::is_same_word;
 use value_core::datum::Datum;
 use word_core::arguments::data_of;
 use word_core::front::{is_blank, next_bare, only_bare};
+use word_core::number::long_of;
 
 /// What a line asks to see, which changes nothing.
 #[derive(Clone, Copy)]
@@ -55,7 +55,7 @@ fn only_number(line: &[u8]) -> Option<u64>
     let Some(word) = only_bare(line) else {
         return None;
     };
-    number_of(word)
+    long_of(word)
 }
 
 // What stands behind `why`: a number alone.
@@ -149,7 +149,7 @@ fn key_in(word: &[u8]) -> Option<u64>
     ensures { IfSome result (λ key. IsKey word.now key) }
 {
     match word {
-        [b'#', digits @ ..] => number_of(digits),
+        [b'#', digits @ ..] => long_of(digits),
         _ => None,
     }
 }

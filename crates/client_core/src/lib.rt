@@ -14,4 +14,3 @@ pub mod ask;
 pub mod client;
 pub mod clients;
 pub mod laws;
-mod number;

@@ -11,7 +11,7 @@ use Rattle.check_core.proofs.Heads.{told_alike, ready_alike}
 use Rattle.decl_core.specs.HoldForm.{HoldForm}
 use Rattle.world_core.specs.HoldRun.{IsHeldScript, IsHeldFront}
 use Rattle.world_core.specs.declared.script.ScriptEnd.{ScriptEnd}
-use Rattle.answer_core.specs.declared.failure.Failure.{Failure}
+use Rattle.answer_core.specs.declared.failure.ToolFailure.{ToolFailure}
 use Rattle.answer_core.specs.Status.{script_status, IsFault}
 use Rattle.answer_core.proofs.Scripts.{of_rest, with_rest}
 use Rattle.command_tool.specs.HeldRun.{IsHeldRun, IsHeldRunFront, told, ran, nothing, told_front, ran_front}
@@ -57,7 +57,7 @@ none_written None w source = tt
 none_written (Some text) w source = ([], Appends-none w, nothing)
 
 -- The same of results, where the bytes of the head are named thrice: as they were read, opened and run.
-pub ran_ended : (r : Result ℕ Failure) (old new w v : Option (List ℕ)) (source head at on : List ℕ) (o : Object) (holds : List HoldForm) → at ≡ head → on ≡ head → Consumes old new head → IsHead head new
+pub ran_ended : (r : Result ℕ ToolFailure) (old new w v : Option (List ℕ)) (source head at on : List ℕ) (o : Object) (holds : List HoldForm) → at ≡ head → on ≡ head → Consumes old new head → IsHead head new
     → IsReady source at (object_of o)
     → IfOk r (λ status. IfSome new (λ rest. (end : ScriptEnd) × (written : List ℕ) × Appends w v written × IsHeldScript o holds (on ++ rest) end written × (status ≡ script_status end)))
     → IfOk r (λ status. IfSome old (λ text. (written : List ℕ) × Appends w v written × IsHeldRun source text status written))
@@ -66,7 +66,7 @@ ran_ended (Ok status) old new w v source head at on o holds at_is on_is taken en
     ran_whole old new w v source head o holds status taken enough (subst (λ h. IsReady source h (object_of o)) at_is ready)
     (subst (λ h. IfSome new (λ rest. (end : ScriptEnd) × (written : List ℕ) × Appends w v written × IsHeldScript o holds (h ++ rest) end written × (status ≡ script_status end))) on_is run)
 
-pub ran_failed : (r : Result ℕ Failure) (old new w v : Option (List ℕ)) (source head at on : List ℕ) (o : Object) (holds : List HoldForm) → at ≡ head → on ≡ head → Consumes old new head → IsHead head new
+pub ran_failed : (r : Result ℕ ToolFailure) (old new w v : Option (List ℕ)) (source head at on : List ℕ) (o : Object) (holds : List HoldForm) → at ≡ head → on ≡ head → Consumes old new head → IsHead head new
     → IsReady source at (object_of o)
     → IfErr r (λ failure. IsFault failure × IfSome new (λ rest. (written : List ℕ) × Appends w v written × IsHeldFront o holds (on ++ rest) written))
     → IfErr r (λ failure. IsFault failure × IfSome old (λ text. (written : List ℕ) × Appends w v written × IsHeldRunFront source text written))
@@ -77,14 +77,14 @@ ran_failed (Err failure) old new w v source head at on o holds at_is on_is taken
       (subst (λ h. IfSome new (λ rest. (written : List ℕ) × Appends w v written × IsHeldFront o holds (h ++ rest) written)) on_is run.1),
 )
 
-pub told_ended : (r : Result ℕ Failure) (old new w v : Option (List ℕ)) (source head at line on : List ℕ) → at ≡ head → on ≡ line → Consumes old new head → IsHead head new
+pub told_ended : (r : Result ℕ ToolFailure) (old new w v : Option (List ℕ)) (source head at line on : List ℕ) → at ≡ head → on ≡ line → Consumes old new head → IsHead head new
     → IsTold source at line → IfOk r (λ status. Appends w v on × (status ≡ 1))
     → IfOk r (λ status. IfSome old (λ text. (written : List ℕ) × Appends w v written × IsHeldRun source text status written))
 told_ended (Err failure) old new w v source head at line on at_is on_is taken enough is tells = tt
 told_ended (Ok status) old new w v source head at line on at_is on_is taken enough is tells =
     told_whole old new w v source head line status taken enough (subst (λ h. IsTold source h line) at_is is) (subst (λ l. Appends w v l) on_is tells.0) tells.1
 
-pub told_failed : (r : Result ℕ Failure) (old new w v : Option (List ℕ)) (source head at line on : List ℕ) → at ≡ head → on ≡ line → Consumes old new head → IsHead head new
+pub told_failed : (r : Result ℕ ToolFailure) (old new w v : Option (List ℕ)) (source head at line on : List ℕ) → at ≡ head → on ≡ line → Consumes old new head → IsHead head new
     → IsTold source at line → IfErr r (λ failure. IsFault failure × ((count : ℕ) × Appends w v (take count on)))
     → IfErr r (λ failure. IsFault failure × IfSome old (λ text. (written : List ℕ) × Appends w v written × IsHeldRunFront source text written))
 told_failed (Ok status) old new w v source head at line on at_is on_is taken enough is tells = tt

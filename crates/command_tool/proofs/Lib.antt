@@ -1,1 +1,2 @@
 pub mod HeldScripts
+pub mod Servable

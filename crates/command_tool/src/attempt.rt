@@ -6,7 +6,7 @@ ghost use Rattle.answer_core.specs.Status.{IsFault};
 use answer_core::answer::REFUSED;
 use answer_core::attempt::answer_try;
 use answer_core::explanation::{Telling, explained};
-use answer_core::failure::Failure;
+use answer_core::failure::ToolFailure;
 use answer_core::inputs::source_at;
 use answer_core::lack::Wanted;
 use answer_core::said::{telling_of, told, told_unread, written};
@@ -94,7 +94,7 @@ fn tell_line(
     path: &str,
     name: Option<&str>,
     telling: Telling,
-) -> Result<u8, Failure>
+) -> Result<u8, ToolFailure>
     ensures status { IfOk result (λ status. status ≤ 1) }
     ensures fault { IfErr result IsFault }
 {
@@ -129,7 +129,7 @@ fn answer_input(
     again: Accepted,
     list: &[u8],
     manner: Manner,
-) -> Result<u8, Failure>
+) -> Result<u8, ToolFailure>
     ensures status { IfOk result (λ status. status ≤ 1) }
     ensures fault { IfErr result IsFault }
 {
@@ -158,7 +158,7 @@ fn answer_opened(
     path: &str,
     name: Option<&str>,
     telling: Telling,
-) -> Result<u8, Failure>
+) -> Result<u8, ToolFailure>
     ensures status { IfOk result (λ status. status ≤ 1) }
     ensures fault { IfErr result IsFault }
 {
@@ -181,7 +181,7 @@ pub fn run_try(
     path: &str,
     name: Option<&str>,
     when: Explain,
-) -> Result<u8, Failure>
+) -> Result<u8, ToolFailure>
     ensures status { IfOk result (λ status. status ≤ 1) }
     ensures fault { IfErr result IsFault }
 {

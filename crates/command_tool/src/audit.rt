@@ -6,7 +6,7 @@ ghost use Rattle.answer_core.specs.Status.{IsFault};
 use answer_core::answer::{ACCEPTED, REFUSED};
 use answer_core::audit::audit_trace;
 use answer_core::explanation::{explained, explained_audit};
-use answer_core::failure::Failure;
+use answer_core::failure::ToolFailure;
 use answer_core::files::FolderFault;
 use answer_core::folder_audit::audit_folder;
 use answer_core::inputs::{Inputs, inputs_of, is_folder, source_at};
@@ -27,7 +27,7 @@ fn tell_folder(
     objects: &[Accepted],
     rules: &[Rules],
     folder: &str,
-) -> Result<u8, Failure>
+) -> Result<u8, ToolFailure>
     ensures status { IfOk result (λ status. status ≤ 1) }
     ensures fault { IfErr result IsFault }
 {
@@ -40,7 +40,7 @@ fn tell_folder(
                 written(&said.lines, REFUSED, &mut io::writer(rt))
             }
         }
-        Err(FolderFault::Memory) => Err(Failure::Memory),
+        Err(FolderFault::Memory) => Err(ToolFailure::Memory),
         Err(FolderFault::Unread(path, cause)) => {
             Err(told(rt, Lacking::at(Wanted::File, cause), path.as_str()))
         }
@@ -48,7 +48,7 @@ fn tell_folder(
 }
 
 // `pathserve audit` of a folder.
-fn run_folder(rt: &HostRuntime, files: Files<'_>, when: Explain) -> Result<u8, Failure>
+fn run_folder(rt: &HostRuntime, files: Files<'_>, when: Explain) -> Result<u8, ToolFailure>
     ensures status { IfOk result (λ status. status ≤ 1) }
     ensures fault { IfErr result IsFault }
 {
@@ -82,7 +82,7 @@ fn run_folder(rt: &HostRuntime, files: Files<'_>, when: Explain) -> Result<u8, F
 ///
 /// A failure is, in this order: `ReadFault`, which is told, where the source cannot be opened or read, and where the trace
 /// cannot be opened; `Memory`, `ReadFault` of the trace, or of a file of the folder, or `WriteFault`.
-pub fn run_audit(rt: &HostRuntime, files: Files<'_>, when: Explain) -> Result<u8, Failure>
+pub fn run_audit(rt: &HostRuntime, files: Files<'_>, when: Explain) -> Result<u8, ToolFailure>
     ensures status { IfOk result (λ status. status ≤ 1) }
     ensures fault { IfErr result IsFault }
 {

@@ -6,7 +6,7 @@ ghost use Rattle.answer_core.specs.Status.{IsFault};
 use crate::holds::check_held;
 use answer_core::answer::{ACCEPTED, REFUSED, check_source};
 use answer_core::explanation::Telling;
-use answer_core::failure::Failure;
+use answer_core::failure::ToolFailure;
 use answer_core::inputs::open_file;
 use answer_core::lack::Wanted;
 use answer_core::said::{telling_of, told, told_unread};
@@ -27,7 +27,7 @@ fn check_text(
     path: &str,
     telling: Telling,
     stuck: bool,
-) -> Result<u8, Failure>
+) -> Result<u8, ToolFailure>
     ensures status { IfOk result (λ status. status ≤ 1) }
     ensures fault { IfErr result IsFault }
 {
@@ -85,7 +85,12 @@ fn pairs_of(rt: &HostRuntime, source: &[u8], path: &str, when: Explain) -> Vec<u
 ///
 /// A failure is, in this order: `ReadFault`, which is told, where the file cannot be opened or read; `Memory` or
 /// `WriteFault`.
-pub fn run_check(rt: &HostRuntime, path: &str, when: Explain, stuck: bool) -> Result<u8, Failure>
+pub fn run_check(
+    rt: &HostRuntime,
+    path: &str,
+    when: Explain,
+    stuck: bool,
+) -> Result<u8, ToolFailure>
     ensures status { IfOk result (λ status. status ≤ 1) }
     ensures fault { IfErr result IsFault }
 {
@@ -103,6 +108,6 @@ pub fn run_check(rt: &HostRuntime, path: &str, when: Explain, stuck: bool) -> Re
             }
             ended
         }
-        Err(error) => told_unread(rt, Err(Failure::from(error)), Wanted::File, path, &kept),
+        Err(error) => told_unread(rt, Err(ToolFailure::from(error)), Wanted::File, path, &kept),
     }
 }

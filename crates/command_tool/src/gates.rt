@@ -1,5 +1,9 @@
 //! Where clients of a server connect.
 
+ghost use Rattle.std.specs.Prelude.{◌≡◌, IfErr, IfOk, string_bytes};
+ghost use Rattle.answer_core.specs.Lacks.{Lacks};
+ghost use Rattle.answer_core.specs.Places.{IsSocketOf, need_at};
+
 use answer_core::lack::{Lacking, Wanted};
 use answer_core::socket::{Socket, socket_at};
 use command_line::request::Address;
@@ -16,7 +20,9 @@ fn gate_at_port(rt: &HostRuntime, port: u16, sessions: usize) -> io::Result<Gate
 }
 
 // A gate at the path of a socket, for so many connections, and the socket.
-fn gate_at_path(rt: &HostRuntime, path: &str, sessions: usize) -> io::Result<(Gate, Socket)> {
+fn gate_at_path(rt: &HostRuntime, path: &str, sessions: usize) -> io::Result<(Gate, Socket)>
+    ensures { IfOk result (λ made. string_bytes made.1.path ≡ path.now) }
+{
     let (listener, socket) = socket_at(rt, path)?;
     let place = String::from_str(rt.alloc(), path)?;
     Ok((
@@ -25,13 +31,16 @@ fn gate_at_path(rt: &HostRuntime, path: &str, sessions: usize) -> io::Result<(Ga
     ))
 }
 
-/// A gate where clients are to connect, for so many of them, and its socket, where that has a path. It lacks the port, or the
-/// socket.
+/// A gate where clients are to connect, for so many of them, and its socket, where that has a path. It lacks the port, or
+/// the socket.
 pub fn gate_at(
     rt: &HostRuntime,
     address: Address<'_>,
     sessions: usize,
-) -> Result<(Gate, Option<Socket>), Lacking> {
+) -> Result<(Gate, Option<Socket>), Lacking>
+    ensures made { IfOk result (λ made. IsSocketOf address.entry made.1) }
+    ensures lacking { IfErr result (λ lacking. Lacks (need_at address.entry) lacking) }
+{
     match address {
         Address::Port(port) => match gate_at_port(rt, port, sessions) {
             Ok(gate) => Ok((gate, None)),

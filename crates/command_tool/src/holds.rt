@@ -11,12 +11,12 @@ ghost use Rattle.world_core.specs.declared.script.ScriptEnd.{ScriptEnd as TheScr
 ghost use Rattle.answer_core.specs.Status.{check_status, script_status, IsFault};
 ghost use Rattle.answer_core.specs.Telling.{IsHinted};
 ghost use Rattle.answer_core.specs.declared.explanation.Telling.TheVariants.{Nothing, Hint};
-ghost use Rattle.answer_core.specs.declared.failure.Failure.TheVariants.{WriteFault, Memory};
+ghost use Rattle.answer_core.specs.declared.failure.ToolFailure.TheVariants.{WriteFault, Memory};
 ghost use Rattle.command_tool.specs.HeldRun.{IsHeldRun, IsHeldRunFront};
 
 use answer_core::answer::status_of_check;
 use answer_core::explanation::{Telling, explained, explained_script};
-use answer_core::failure::Failure;
+use answer_core::failure::ToolFailure;
 use answer_core::said::written;
 use answer_core::script::{status_of_script, tell};
 use check_core::head::read_head;
@@ -36,7 +36,7 @@ fn report_held<W: Write>(
     objects: Vec<Object>,
     rules: &[Rules],
     writer: &mut W,
-) -> Result<u8, Failure>
+) -> Result<u8, ToolFailure>
     requires { length objects.items ≡ length rules.now }
     ensures ended { IfOk result (λ status. (end : TheEnd) × (written : List ℕ)
         × Appends (W.contents writer.old) (W.contents writer.new) written
@@ -51,7 +51,7 @@ fn report_held<W: Write>(
 {
     match held_report(alloc, objects, rules) {
         Ok(report) => written(&report.text, status_of_check(report.end), writer),
-        Err(_) => Err(Failure::Memory),
+        Err(_) => Err(ToolFailure::Memory),
     }
 }
 
@@ -66,7 +66,7 @@ pub fn check_held<W: Write, E: Write>(
     file: &str,
     writer: &mut W,
     error: &mut E,
-) -> Result<u8, Failure>
+) -> Result<u8, ToolFailure>
     ensures ended { IfOk result (λ status. (end : TheEnd) × (written : List ℕ)
         × Appends (W.contents writer.old) (W.contents writer.new) written
         × IsHeldCheck (objects_of held.objects.items) (all_rules_of held.rules.items) end written
@@ -86,7 +86,7 @@ pub fn check_held<W: Write, E: Write>(
         rules,
     } = held;
     if objects.len() != rules.len() {
-        return Err(Failure::Memory);
+        return Err(ToolFailure::Memory);
     }
     let ended = report_held(alloc, objects, &rules, writer);
     explained(alloc, ended, telling, file, &cut, None, error)
@@ -118,7 +118,7 @@ fn run_on<R: Read, W: Write>(
     head: &[u8],
     reader: &mut R,
     writer: &mut W,
-) -> Result<u8, Failure>
+) -> Result<u8, ToolFailure>
     ensures ended { IfOk result (λ status. IfSome (R.remaining reader.old) (λ rest. (end : TheScriptEnd)
         × (written : List ℕ) × Appends (W.contents writer.old) (W.contents writer.new) written
         × IsHeldScript accepted (all_holds_of holds.items) (head.now ++ rest) end written
@@ -132,7 +132,7 @@ fn run_on<R: Read, W: Write>(
     let mut text = head.chain(reader);
     match run_held_script(alloc, accepted, holds, &mut text, writer) {
         Ok(end) => Ok(status_of_script(end)),
-        Err(fault) => Err(Failure::from(fault)),
+        Err(fault) => Err(ToolFailure::from(fault)),
     }
 }
 
@@ -151,7 +151,7 @@ pub fn run_held<R: Read, W: Write, E: Write>(
     telling: Telling,
     file: &str,
     error: &mut E,
-) -> Result<u8, Failure>
+) -> Result<u8, ToolFailure>
     ensures ended { IfOk result (λ status. IfSome (R.remaining reader.old) (λ text. (written : List ℕ)
         × Appends (W.contents writer.old) (W.contents writer.new) written
         × IsHeldRun cut.now text status written)) }
@@ -162,7 +162,7 @@ pub fn run_held<R: Read, W: Write, E: Write>(
 {
     let head = match read_head(alloc, reader) {
         Ok(head) => head,
-        Err(fault) => return Err(Failure::from(fault)),
+        Err(fault) => return Err(ToolFailure::from(fault)),
     };
     match open_script(alloc, cut, &head) {
         Ok(OpenedScript::Ready(accepted)) => {
@@ -173,6 +173,6 @@ pub fn run_held<R: Read, W: Write, E: Write>(
             let ended = tell(&line, writer);
             explained_script(alloc, ended, telling, file, cut, &head, error)
         }
-        Err(_) => Err(Failure::Memory),
+        Err(_) => Err(ToolFailure::Memory),
     }
 }

@@ -4,7 +4,7 @@ ghost use Rattle.std.specs.Prelude.{◌≤◌, IfErr, IfOk};
 ghost use Rattle.answer_core.specs.Status.{IsFault};
 
 use answer_core::answer::answer_lines;
-use answer_core::failure::Failure;
+use answer_core::failure::ToolFailure;
 use answer_core::lack::Wanted;
 use answer_core::said::told_unread;
 use note_core::kept::CopyingReader;
@@ -14,7 +14,7 @@ use std::io;
 /// one was refused and ended the run.
 ///
 /// A failure is `ReadFault`, which is told, `WriteFault` or `Memory`, the first that was met.
-pub fn run_paths(rt: &HostRuntime) -> Result<u8, Failure>
+pub fn run_paths(rt: &HostRuntime) -> Result<u8, ToolFailure>
     ensures status { IfOk result (λ status. status ≤ 1) }
     ensures fault { IfErr result IsFault }
 {

@@ -1,14 +1,14 @@
 //! `pathserve serve` over any runtime, hands and writer.
 
-ghost use Rattle.std.specs.Prelude.{◌≡◌, IfOk};
-ghost use Rattle.std.specs.Prelude.{Result};
+ghost use Rattle.std.specs.Prelude.{◌≡◌, ◌⊎◌, IfErr, IfOk, Result, length, string_bytes};
 ghost use Rattle.std.specs.Arc.{arc_value};
+ghost use Rattle.answer_core.specs.declared.failure.ToolFailure.TheVariants.{ReadFault, Memory};
 ghost use Rattle.serve_core.specs.Runs.{IsRun};
 ghost use Rattle.command_tool.specs.Ends.{serve_status, status_of_end};
 
 use answer_core::answer::{ACCEPTED, REFUSED};
 use answer_core::explanation::{Telling, explained};
-use answer_core::failure::Failure;
+use answer_core::failure::ToolFailure;
 use answer_core::lack::{Unmet, Wanted, tell_lack};
 use device_core::ahead::{AheadHand, Ends};
 use device_core::dir::DirHand;
@@ -46,6 +46,27 @@ fn shared<R: AllocGlobal>(rt: &R) -> Result<Arc<Sealed>, AllocError> {
     }
 }
 
+// A hand on a folder for each of so many sessions.
+fn hands_on<R: Files + AllocGlobal + Clone + Drop>(
+    rt: &R,
+    folder: &str,
+    numbers: &Arc<Numbers>,
+    sessions: usize,
+) -> Result<Vec<AheadHand<R>>, AllocError>
+    ensures { IfOk result (λ hands. length hands.items ≡ sessions) }
+{
+    let sealed = shared(rt)?;
+    let mut hands = Vec::new(rt.alloc());
+    for made in 0..sessions {
+        let hand = DirHand::new(rt.clone()?, folder, Arc::try_clone(numbers)?)?;
+        let hand = AheadHand::new(rt.clone()?, hand, folder, Arc::try_clone(&sealed)?)?;
+        if hands.push(hand).is_err() {
+            return Err(AllocError);
+        }
+    }
+    Ok(hands)
+}
+
 /// A folder and a hand on it for each of so many sessions. It touches no file.
 ///
 /// A failure is `ReadFault` where the folder cannot be read, or `Memory`.
@@ -53,19 +74,15 @@ pub fn place_of<R: Files + AllocGlobal + Clone + Drop>(
     rt: &R,
     folder: &str,
     sessions: usize,
-) -> Result<ServerFolder<AheadHand<R>>, Failure> {
+) -> Result<ServerFolder<AheadHand<R>>, ToolFailure>
+    ensures place { IfOk result (λ place. string_bytes place.folder ≡ folder.now) }
+    ensures hands { IfOk result (λ place. length place.hands.items ≡ sessions) }
+    ensures fault { IfErr result (λ failure. (failure ≡ ReadFault) ⊎ (failure ≡ Memory)) }
+{
     let values = DirValues::new(rt.clone()?, folder)?;
     let found = found_in(&values, rt.alloc())?;
     let numbers = numbers_from(rt, found.first())?;
-    let sealed = shared(rt)?;
-    let mut hands = Vec::new(rt.alloc());
-    for _ in 0..sessions {
-        let hand = DirHand::new(rt.clone()?, folder, Arc::try_clone(&numbers)?)?;
-        let hand = AheadHand::new(rt.clone()?, hand, folder, Arc::try_clone(&sealed)?)?;
-        if hands.push(hand).is_err() {
-            return Err(Failure::Memory);
-        }
-    }
+    let hands = hands_on(rt, folder, &numbers, sessions)?;
     let folder = String::from_str(rt.alloc(), folder)?;
     Ok(ServerFolder {
         folder,
@@ -76,13 +93,13 @@ pub fn place_of<R: Files + AllocGlobal + Clone + Drop>(
 }
 
 // The exit status of a server that ended so.
-fn status_of_serve(end: ServeEnd) -> Result<u8, Failure>
+fn status_of_serve(end: ServeEnd) -> Result<u8, ToolFailure>
     ensures { result ≡ serve_status end }
 {
     match end {
         ServeEnd::Whole => Ok(ACCEPTED),
         ServeEnd::Refused => Ok(REFUSED),
-        ServeEnd::Unopened => Err(Failure::ReadFault),
+        ServeEnd::Unopened => Err(ToolFailure::ReadFault),
     }
 }
 
@@ -126,7 +143,7 @@ pub fn serve_objects<
     gate: &Gate,
     writer: &mut W,
     error: &mut E,
-) -> Result<u8, Failure>
+) -> Result<u8, ToolFailure>
 where
     R::File: FileExt,
     // The status is that of the end of the server.
@@ -137,7 +154,7 @@ where
     tell_lack(rt.alloc(), lack_of(&ended), source.folder.as_str(), error);
     let ended = match ended {
         Ok(end) => status_of_serve(end),
-        Err(fault) => Err(Failure::from(fault)),
+        Err(fault) => Err(ToolFailure::from(fault)),
     };
     explained(
         rt.alloc(),

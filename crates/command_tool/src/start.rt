@@ -1,10 +1,15 @@
 //! What a server starts with.
 
+ghost use Rattle.std.specs.Prelude.{◌≡◌, IfErr, IfOk, IfSome};
+ghost use Rattle.answer_core.specs.Status.{IsFault};
+ghost use Rattle.answer_core.specs.Telling.{HasNoHolds};
+ghost use Rattle.command_tool.specs.Starts.{IsPrepared, IsServable, StartsAs, TellsAs};
+
 use crate::gates::gate_at;
 use crate::kept::is_kept;
 use crate::serve::{ServedSource, place_of};
 use answer_core::answer::REFUSED;
-use answer_core::failure::Failure;
+use answer_core::failure::ToolFailure;
 use answer_core::inputs::{lock_folder, source_at};
 use answer_core::lack::{Lacking, Unmet, Wanted};
 use answer_core::said::{telling_of, told, written};
@@ -50,12 +55,17 @@ fn shared(rt: &HostRuntime, gate: Gate) -> Result<Arc<Gate>, AllocError> {
 }
 
 // Takes what a server of this source needs, in this order: the folder, the place where clients connect.
-fn take_needs(rt: &HostRuntime, asked: Serving<'_>, text: Vec<u8>) -> Result<ServerStart, Lacking> {
+fn take_needs(rt: &HostRuntime, asked: Serving<'_>, text: Vec<u8>) -> Result<ServerStart, Lacking>
+    ensures text { IfOk result (λ start. start.source.text.items ≡ text.items) }
+    ensures asked { IfOk result (λ start. StartsAs asked.entry start) }
+    ensures telling { IfOk result (λ start. TellsAs asked.entry start) }
+    ensures fault { IfErr result (λ lacking. IsFault lacking.failure) }
+{
     let lock = lock_folder(rt, asked.folder)?;
     let (gate, socket) = gate_at(rt, asked.address, asked.sessions)?;
     let place = match place_of(rt, asked.folder, asked.sessions) {
         Ok(place) => place,
-        Err(Failure::ReadFault) => return Err(Lacking::at(Wanted::Folder, ErrorKind::Other)),
+        Err(ToolFailure::ReadFault) => return Err(Lacking::at(Wanted::Folder, ErrorKind::Other)),
         Err(failure) => return Err(Lacking {
             failure,
             lack: None,
@@ -85,32 +95,51 @@ fn is_told_later(error: &io::Error) -> bool {
     )
 }
 
-/// Prepares a server. Where it lacks something that is told.
-pub fn prepare_server(rt: &HostRuntime, asked: Serving<'_>) -> Result<Prepared, Failure> {
-    match is_kept(rt, asked.folder) {
-        Ok(false) => {}
+// The exit status where a folder is that of a server that stays, which is told.
+fn refuse_kept(rt: &HostRuntime, folder: &str) -> Result<Option<u8>, ToolFailure>
+    ensures status { IfOk result (λ ended. IfSome ended (λ status. status ≡ 1)) }
+    ensures fault { IfErr result IsFault }
+{
+    match is_kept(rt, folder) {
+        Ok(false) => Ok(None),
         Ok(true) => {
-            let line = format!(in rt.alloc(); "{} is kept: use pathserve keep\n", asked.folder)?;
+            let line = format!(in rt.alloc(); "{} is kept: use pathserve keep\n", folder)?;
             let status = written(line.as_bytes(), REFUSED, &mut io::writer(rt))?;
-            return Ok(Prepared::Ended(status));
+            Ok(Some(status))
         }
         Err(error) => {
             // (what is no folder, or may not be read, is told in its turn)
-            if !is_told_later(&error) {
-                let lacking = Lacking::of(Wanted::Folder, error);
-                return Err(told(rt, lacking, asked.folder));
+            if is_told_later(&error) {
+                return Ok(None);
             }
+            let lacking = Lacking::of(Wanted::Folder, error);
+            Err(told(rt, lacking, folder))
         }
     }
+}
+
+// The source that is to be served, or the exit status where that was refused.
+#[tactic(auto, using(crate::proofs::Servable::servable))]
+fn served_source(rt: &HostRuntime, asked: Serving<'_>) -> Result<WithoutHolds, ToolFailure>
+    ensures plain { IfOk result IsServable }
+    ensures fault { IfErr result IsFault }
+{
     let text = match source_at(rt, asked.file) {
         Ok(text) => text,
         Err(lacking) => return Err(told(rt, lacking, asked.file)),
     };
     let telling = telling_of(rt, asked.explain);
-    let text = match plain_source(rt, text, telling, asked.file, b"use pathserve keep")? {
-        WithoutHolds::Plain(text) => text,
-        WithoutHolds::Told(status) => return Ok(Prepared::Ended(status)),
-    };
+    let plain = plain_source(rt, text, telling, asked.file, b"use pathserve keep")?;
+    Ok(plain)
+}
+
+// A server of this source. What it lacks is told.
+#[tactic(auto, using(crate::proofs::Servable::goes_on))]
+fn start_on(rt: &HostRuntime, asked: Serving<'_>, text: Vec<u8>) -> Result<Prepared, ToolFailure>
+    requires { HasNoHolds text.items }
+    ensures prepared { IfOk result (λ prepared. IsPrepared asked.entry prepared) }
+    ensures fault { IfErr result IsFault }
+{
     match take_needs(rt, asked, text) {
         Ok(started) => Ok(Prepared::Serves(started, asked.stops)),
         Err(lacking) => {
@@ -125,6 +154,23 @@ pub fn prepare_server(rt: &HostRuntime, asked: Serving<'_>) -> Result<Prepared, 
             };
             Err(told(rt, lacking, name))
         }
+    }
+}
+
+/// Prepares a server. Where it lacks something that is told; so is, with status 1, that the folder is that of a server
+/// that stays, or why the source is refused.
+///
+/// A failure is `ReadFault`, `WriteFault` or `Memory`, the first that was met.
+pub fn prepare_server(rt: &HostRuntime, asked: Serving<'_>) -> Result<Prepared, ToolFailure>
+    ensures prepared { IfOk result (λ prepared. IsPrepared asked.entry prepared) }
+    ensures fault { IfErr result IsFault }
+{
+    if let Some(status) = refuse_kept(rt, asked.folder)? {
+        return Ok(Prepared::Ended(status));
+    }
+    match served_source(rt, asked)? {
+        WithoutHolds::Plain(text) => start_on(rt, asked, text),
+        WithoutHolds::Told(status) => Ok(Prepared::Ended(status)),
     }
 }
 

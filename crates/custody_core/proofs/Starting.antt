@@ -4,7 +4,7 @@ use Rattle.std.specs.Prelude.{slice_get, slice_set, All}
 use Rattle.std.proofs.lemmas.Bool.{cases_lt, cases_eq}
 use Rattle.std.proofs.lemmas.List.Elements.{All-more}
 use Rattle.guest_core.proofs.Items.{get_here, get_there}
-use Rattle.guest_core.specs.declared.seats.Seat.TheVariants.{Free, Nameless, Named}
+use Rattle.guest_core.specs.declared.seats.SeatHolder.TheVariants.{Free, Nameless, Named}
 use Rattle.guest_core.specs.Entering.{Leaves}
 use Rattle.guest_core.specs.Guests.{Guests, with_seat}
 use Rattle.guest_core.specs.Seats.{IsLeastFree, NoneIsFree}

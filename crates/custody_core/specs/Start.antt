@@ -1,7 +1,7 @@
 -- What the server begins with, where something is held.
 use Rattle.std.specs.Prelude.{◌≡◌, ◌≢◌, ◌⊎◌, ◌≤◌, ◌<◌, ℕ, true, false, List, Some, All, slice_get}
 use Rattle.guest_core.specs.declared.guest.Guest.{Guest}
-use Rattle.guest_core.specs.declared.seats.Seat.TheVariants.{Free}
+use Rattle.guest_core.specs.declared.seats.SeatHolder.TheVariants.{Free}
 use Rattle.guest_core.specs.Guests.{Guests, IsNamed, HasNoName}
 use Rattle.hosted_core.specs.Calls.{seat_of}
 use Rattle.guest_core.specs.Held.{HeldCall}

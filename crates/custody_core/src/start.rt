@@ -2,7 +2,7 @@
 
 ghost use Rattle.std.specs.Prelude.{◌≡◌, ◌≢◌, ◌≤◌, ◌+◌, ℕ, [], All, List, true, false, IfOk, OnOk, Some, slice_get};
 ghost use Rattle.guest_core.specs.declared.guest.Guest.{Guest as AGuest};
-ghost use Rattle.guest_core.specs.declared.seats.Seat.TheVariants.{Free as AFree};
+ghost use Rattle.guest_core.specs.declared.seats.SeatHolder.TheVariants.{Free as AFree};
 ghost use Rattle.guest_core.specs.Guests.{IsNamed, HasNoName};
 ghost use Rattle.guest_core.specs.Seats.{NoneIsFree};
 ghost use Rattle.guest_core.specs.Held.{HeldCall as AHeldCall};

@@ -8,7 +8,7 @@ use Rattle.decl_core.specs.ObjectForm.{ObjectForm}
 use Rattle.decl_core.specs.declared.object.Object.{Object}
 use Rattle.decl_core.specs.ObjectMap.{operation_of}
 use Rattle.decl_core.specs.ObjectMap.{object_of}
-use Rattle.decl_core.specs.declared.certificate.Entry.{Entry}
+use Rattle.decl_core.specs.declared.certificate.SeparatedPair.{SeparatedPair}
 use Rattle.decl_core.specs.Exclusive.{Conflicts, AreSeparated, IsExclusive, PairBefore}
 use Rattle.decl_core.specs.Certificate.{IsCertificate, IsFirstCertificate}
 use Rattle.decl_core.specs.Rest.{IsRest, NodeSeparates, NodeIsFirst, IsCertified}
@@ -32,7 +32,7 @@ before_row a b i j n end le within h = elim (cases_lt a i) [
   | inr more ↦ inr (omega arith, omega arith)
 ]
 
-none_of_length : (es : List Entry) → length es ≡ 0 → es ≡ []
+none_of_length : (es : List SeparatedPair) → length es ≡ 0 → es ≡ []
 none_of_length [] h = refl
 none_of_length (e ∷ es) h = absurd (omega arith)
 
@@ -43,32 +43,32 @@ operations_counted object = length-map object.operations.items (λ o. operation_
 module _ (o : ObjectForm) where
   -- ---- certificates
 
-  rest_is_certificate : (es : List Entry) → IsRest o (NodeSeparates o) 0 0 es → IsCertificate o es
+  rest_is_certificate : (es : List SeparatedPair) → IsRest o (NodeSeparates o) 0 0 es → IsCertificate o es
   rest_is_certificate es h = record {
     rising = h.rising;
     sound = each_of (λ e entry. record { in_order = entry.in_order; conflict = entry.conflict; separated = entry.fits }) es h.each;
     all = λ i j le c. h.all i j le (omega arith) c;
   }
 
-  certificate_is_rest : (es : List Entry) → IsCertificate o es → IsRest o (NodeSeparates o) 0 0 es
+  certificate_is_rest : (es : List SeparatedPair) → IsCertificate o es → IsRest o (NodeSeparates o) 0 0 es
   certificate_is_rest es h = record {
     rising = h.rising;
     each = each_of (λ e entry. record { in_order = entry.in_order; from = omega arith; conflict = entry.conflict; fits = entry.separated }) es h.sound;
     all = λ i j le from c. h.all i j le c;
   }
 
-  pub certificate_is : (es : List Entry) → IsCertificate o es ↔ IsRest o (NodeSeparates o) 0 0 es
+  pub certificate_is : (es : List SeparatedPair) → IsCertificate o es ↔ IsRest o (NodeSeparates o) 0 0 es
   certificate_is es = (certificate_is_rest es, rest_is_certificate es)
 
   -- entries are a certificate where none is left behind those of all rows
-  pub nothing_left : (i : ℕ) → length o.operations ≤ i → (es rest : List Entry) → IsRest o (NodeSeparates o) 0 0 es ↔ IsRest o (NodeSeparates o) i i rest →
+  pub nothing_left : (i : ℕ) → length o.operations ≤ i → (es rest : List SeparatedPair) → IsRest o (NodeSeparates o) 0 0 es ↔ IsRest o (NodeSeparates o) i i rest →
       (empty : Bool) → empty ≡ (length rest == 0) → IsTrue empty ↔ IsCertificate o es
   nothing_left i end es rest same empty is = (
     λ h. rest_is_certificate es (same.1 ((all_end o (NodeSeparates o) i i end rest).1 (none_of_length rest (eqb-true (length rest) 0 (sym is ∙ h))))),
     λ h. is ∙ ap (λ l. length l == 0) ((all_end o (NodeSeparates o) i i end rest).0 (same.0 (certificate_is_rest es h))),
   )
 
-  pub rest_is_first : (es : List Entry) → IsRest o (NodeIsFirst o) 0 0 es → IsFirstCertificate o es
+  pub rest_is_first : (es : List SeparatedPair) → IsRest o (NodeIsFirst o) 0 0 es → IsFirstCertificate o es
   rest_is_first es h = record {
     certificate = record {
       rising = h.rising;
@@ -78,7 +78,7 @@ module _ (o : ObjectForm) where
     first = each_of (λ e entry. entry.fits.1) es h.each;
   }
 
-  pub first_is_rest : (es : List Entry) → IsFirstCertificate o es → IsRest o (NodeIsFirst o) 0 0 es
+  pub first_is_rest : (es : List SeparatedPair) → IsFirstCertificate o es → IsRest o (NodeIsFirst o) 0 0 es
   first_is_rest es h = record {
     rising = h.certificate.rising;
     each = each_of_both (λ e entry first. record { in_order = entry.in_order; from = omega arith; conflict = entry.conflict; fits = (entry.separated, first) }) es h.certificate.sound h.first;
@@ -90,7 +90,7 @@ module _ (o : ObjectForm) where
   pub none_yet : IsCertified o 0 0 []
   none_yet = record { whole = λ more h. h; separated = λ a b le before c. absurd (omega arith) }
 
-  pub certified_past : (i j : ℕ) → (Conflicts o i j → ⊥) → (es : List Entry) → IsCertified o i j es → IsCertified o i (j + 1) es
+  pub certified_past : (i j : ℕ) → (Conflicts o i j → ⊥) → (es : List SeparatedPair) → IsCertified o i j es → IsCertified o i (j + 1) es
   certified_past i j apart es h = record {
     whole = λ more rest. h.whole more ((skipped o (NodeIsFirst o) i j apart more).1 rest);
     separated = λ a b le before c. elim (before_next a b i j before) [
@@ -102,7 +102,7 @@ module _ (o : ObjectForm) where
   pub separated_same : (i j a b : ℕ) → a ≡ i → b ≡ j → AreSeparated o i j → AreSeparated o a b
   separated_same i j a b p q h = subst (λ x. AreSeparated o x b) (sym p) (subst (λ y. AreSeparated o i y) (sym q) h)
 
-  pub certified_with : (i j : ℕ) → i ≤ j → Conflicts o i j → (e : Entry) → e.first ≡ i → e.second ≡ j → NodeIsFirst o e → (es : List Entry) → IsCertified o i j es →
+  pub certified_with : (i j : ℕ) → i ≤ j → Conflicts o i j → (e : SeparatedPair) → e.first ≡ i → e.second ≡ j → NodeIsFirst o e → (es : List SeparatedPair) → IsCertified o i j es →
       IsCertified o i (j + 1) (es ++ e ∷ [])
   certified_with i j le c e p q first es h = record {
     whole = λ more rest. subst (λ all. IsRest o (NodeIsFirst o) 0 0 all) (sym (append_assoc es (e ∷ []) more))
@@ -113,13 +113,13 @@ module _ (o : ObjectForm) where
     ];
   }
 
-  pub certified_row : (i j : ℕ) → length o.operations ≤ j → (es : List Entry) → IsCertified o i j es → IsCertified o (i + 1) (i + 1) es
+  pub certified_row : (i j : ℕ) → length o.operations ≤ j → (es : List SeparatedPair) → IsCertified o i j es → IsCertified o (i + 1) (i + 1) es
   certified_row i j end es h = record {
     whole = λ more rest. h.whole more ((row_ends o (NodeIsFirst o) i j end more).1 rest);
     separated = λ a b le before c. h.separated a b le (before_row a b i j (length o.operations) end le (conflicts_within o (NodeIsFirst o) a b c).1 before) c;
   }
 
-  pub certified_first : (i j : ℕ) → length o.operations ≤ i → (es : List Entry) → IsCertified o i j es → IsFirstCertificate o es
+  pub certified_first : (i j : ℕ) → length o.operations ≤ i → (es : List SeparatedPair) → IsCertified o i j es → IsFirstCertificate o es
   certified_first i j end es h = rest_is_first es (subst (λ all. IsRest o (NodeIsFirst o) 0 0 all) (append-nil es) (h.whole [] ((all_end o (NodeIsFirst o) i j end []).1 refl)))
 
   -- ---- exclusion
@@ -127,7 +127,7 @@ module _ (o : ObjectForm) where
   pub conflicts_swapped : (i j : ℕ) → Conflicts o i j → Conflicts o j i
   conflicts_swapped i j h = (h.0, (h.1.1, h.1.0, h.1.3, h.1.2, elim h.1.4 [ inl one ↦ inr one | inr other ↦ inl other ]))
 
-  pub certified_exclusive : (i j : ℕ) → length o.operations ≤ i → (es : List Entry) → IsCertified o i j es → IsExclusive o
+  pub certified_exclusive : (i j : ℕ) → length o.operations ≤ i → (es : List SeparatedPair) → IsCertified o i j es → IsExclusive o
   certified_exclusive i j end es h = λ a b c. elim (cases_lt b a) [
     | inl swapped ↦ are_separated_swapped o b a (h.separated b a (omega arith) (inl (omega (arith, (conflicts_within o (NodeIsFirst o) a b c).1))) (conflicts_swapped a b c))
     | inr in_order ↦ h.separated a b in_order (inl (omega (arith, (conflicts_within o (NodeIsFirst o) a b c).0))) c

@@ -3,7 +3,7 @@ use Rattle.std.proofs.Common.{◌≡◌, List, [], ◌∷◌, ◌++◌, length, 
 use Rattle.std.specs.Borrow.{Bor}
 use Rattle.decl_core.specs.declared.expr.IntegerExpr.{IntegerExpr}
 use Rattle.decl_core.specs.declared.expr.Signed.{Signed}
-use Rattle.decl_core.specs.declared.sum_rows.Row.{Row}
+use Rattle.decl_core.specs.declared.sum_rows.SumRow.{SumRow}
 use Rattle.decl_core.specs.declared.sum_rows.Single.{Single}
 use Rattle.decl_core.specs.declared.sum_rows.Single.TheVariants as singles
 use Rattle.decl_core.specs.declared.sum_rows.Outer.{Outer}
@@ -30,5 +30,5 @@ no_single false f g (singles.Number n) h = absurd cc
 no_single false f g (singles.From s) h = absurd cc
 no_single false f g (singles.Count p) h = absurd cc
 
-pub sum_apart : (x y : Outer) (before : Row) (plus : Bool) (term : Bor IntegerExpr) (s : Single) → x ≡ outers.Sum before plus term → y ≡ outers.Single s → outer_form x ≡ outer_form y → ⊥
+pub sum_apart : (x y : Outer) (before : SumRow) (plus : Bool) (term : Bor IntegerExpr) (s : Single) → x ≡ outers.Sum before plus term → y ≡ outers.Single s → outer_form x ≡ outer_form y → ⊥
 sum_apart x y before plus term s is other h = no_single plus (row_form before) (integers_of term.now) s (sym (ap outer_form is) ∙ h ∙ ap outer_form other)

@@ -1,6 +1,6 @@
 -- The forms of sums that are seen from their last terms.
 use Rattle.std.specs.Prelude.{Bool, true, false}
-use Rattle.decl_core.specs.declared.sum_rows.Row.{Row}
+use Rattle.decl_core.specs.declared.sum_rows.SumRow.{SumRow}
 use Rattle.decl_core.specs.declared.sum_rows.Single.{Single}
 use Rattle.decl_core.specs.declared.sum_rows.Single.TheVariants as singles
 use Rattle.decl_core.specs.declared.sum_rows.Outer.{Outer}
@@ -8,7 +8,7 @@ use Rattle.decl_core.specs.declared.sum_rows.Outer.TheVariants as outers
 use Rattle.decl_core.specs.Form.{Integers, number, integer_from, count, add, subtract}
 use Rattle.decl_core.specs.View.{from_of, integers_of, total_of_list}
 
-abbrev pub row_form : Row → Integers
+abbrev pub row_form : SumRow → Integers
 row_form r = total_of_list (integers_of r.first.now) r.terms.now
 
 abbrev pub single_form : Single → Integers

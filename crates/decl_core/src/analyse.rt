@@ -5,10 +5,10 @@ ghost use Rattle.decl_core.specs.ObjectMap.{object_of};
 ghost use Rattle.decl_core.specs.Exclusive.{IsExclusive};
 ghost use Rattle.decl_core.specs.Certificate.{IsFirstCertificate};
 ghost use Rattle.decl_core.specs.Rest.{IsCertified};
-ghost use Rattle.decl_core.specs.Refusals.{IsWhy, refusal_number, refusal_name};
-ghost use Rattle.decl_core.specs.declared.analyse.Refusal.TheVariants.{Memory};
+ghost use Rattle.decl_core.specs.Refusals.{IsWhy};
+ghost use Rattle.decl_core.specs.declared.analyse.ObjectRefusal.TheVariants.{Memory};
 
-use crate::certificate::{Certificate, Entry};
+use crate::certificate::{Certificate, SeparatedPair};
 use crate::conflict::conflict_of;
 use crate::object::Object;
 use crate::search::separation_of;
@@ -68,7 +68,7 @@ impl Accepted {
 
 /// Why an object is not accepted.
 #[derive(Clone, Copy, Debug, PartialEq, Eq, Error)]
-pub enum Refusal {
+pub enum ObjectRefusal {
     /// The first two operations that conflict, in order of declaration, which no node of a path separates,
     /// by their numbers, and the first part at which they do.
     #[error("Unseparated {0} {1} {2}")]
@@ -78,41 +78,19 @@ pub enum Refusal {
     Memory,
 }
 
-impl Refusal {
-    /// The number of the refusal: 1 or 2.
-    pub fn number(&self) -> u8
-        ensures { result ≡ refusal_number self.now }
-    {
-        match self {
-            Refusal::Unseparated(_, _, _) => 1,
-            Refusal::Memory => 2,
-        }
-    }
+impl From<AllocError> for ObjectRefusal {
+    ghost from_gives = { λ _ e. e ≡ Memory };
 
-    /// The name of the refusal, as in `Unseparated`.
-    pub fn name(&self) -> &'static str
-        ensures { result.now ≡ refusal_name self.now }
-    {
-        match self {
-            Refusal::Unseparated(_, _, _) => "Unseparated",
-            Refusal::Memory => "Memory",
-        }
+    fn from(_e: AllocError) -> ObjectRefusal {
+        ObjectRefusal::Memory
     }
 }
 
-impl From<AllocError> for Refusal {
+impl<T: Drop> From<AllocFailed<T>> for ObjectRefusal {
     ghost from_gives = { λ _ e. e ≡ Memory };
 
-    fn from(_e: AllocError) -> Refusal {
-        Refusal::Memory
-    }
-}
-
-impl<T: Drop> From<AllocFailed<T>> for Refusal {
-    ghost from_gives = { λ _ e. e ≡ Memory };
-
-    fn from(_e: AllocFailed<T>) -> Refusal {
-        Refusal::Memory
+    fn from(_e: AllocFailed<T>) -> ObjectRefusal {
+        ObjectRefusal::Memory
     }
 }
 
@@ -122,7 +100,7 @@ pub struct Refused {
     /// The object, as it was given.
     pub object: Object,
     /// Why it is refused.
-    pub why: Refusal,
+    pub why: ObjectRefusal,
 }
 
 // Adds the entry of two operations, if they conflict.
@@ -130,8 +108,8 @@ fn certify_pair(
     object: &Object,
     first: usize,
     second: usize,
-    entries: &mut Vec<Entry>,
-) -> Result<(), Refusal>
+    entries: &mut Vec<SeparatedPair>,
+) -> Result<(), ObjectRefusal>
     requires in_order { first ≤ second }
     requires so_far { IsCertified (object_of object.now) first second entries.old.items }
     ensures { MatchResult result (λ _. IsCertified (object_of object.now) first (second + 1) entries.new.items)
@@ -140,9 +118,9 @@ fn certify_pair(
     match conflict_of(object, first, second) {
         None => Ok(()),
         Some(part) => match separation_of(object, first, second) {
-            None => Err(Refusal::Unseparated(first, second, part)),
+            None => Err(ObjectRefusal::Unseparated(first, second, part)),
             Some(at) => {
-                entries.push(Entry {
+                entries.push(SeparatedPair {
                     first,
                     second,
                     path: at.path,
@@ -155,7 +133,11 @@ fn certify_pair(
 }
 
 // Adds the entries of an operation with itself and with those after it.
-fn certify_row(object: &Object, first: usize, entries: &mut Vec<Entry>) -> Result<(), Refusal>
+fn certify_row(
+    object: &Object,
+    first: usize,
+    entries: &mut Vec<SeparatedPair>,
+) -> Result<(), ObjectRefusal>
     requires so_far { IsCertified (object_of object.now) first first entries.old.items }
     ensures { MatchResult result (λ _. IsCertified (object_of object.now) (first + 1) (first + 1) entries.new.items)
         (λ why. IsWhy (object_of object.now) why) }
@@ -167,7 +149,7 @@ fn certify_row(object: &Object, first: usize, entries: &mut Vec<Entry>) -> Resul
 }
 
 // The certificate of an object.
-fn certify(alloc: Global, object: &Object) -> Result<Certificate, Refusal>
+fn certify(alloc: Global, object: &Object) -> Result<Certificate, ObjectRefusal>
     ensures { MatchResult result (λ c. IsExclusive (object_of object.now)
         × IsFirstCertificate (object_of object.now) c.entries.items) (λ why. IsWhy (object_of object.now) why) }
 {

@@ -30,5 +30,6 @@ mod search;
 pub mod stmt;
 mod sum_rows;
 mod touched;
+pub mod uncalled;
 mod walk;
 pub mod word;

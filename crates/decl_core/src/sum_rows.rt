@@ -9,7 +9,7 @@ use crate::id::PartId;
 
 /// A first term, and the terms added to it and subtracted from it, from left to right.
 #[derive(Clone, Copy)]
-pub(crate) struct Row<'a> {
+pub(crate) struct SumRow<'a> {
     /// The first term.
     pub first: &'a IntegerExpr,
     /// The others.
@@ -33,7 +33,7 @@ pub(crate) enum Outer<'a> {
     /// No sum.
     Single(Single<'a>),
     /// What stands before the last term of a sum, whether this is added, and this term.
-    Sum(Row<'a>, bool, &'a IntegerExpr),
+    Sum(SumRow<'a>, bool, &'a IntegerExpr),
 }
 
 /// What a first term with others behind it is.
@@ -42,7 +42,7 @@ pub(crate) fn seen_from_end<'a>(first: &'a IntegerExpr, terms: &'a [Signed]) -> 
 {
     match terms.split_last() {
         Some((last, before)) => {
-            let row = Row {
+            let row = SumRow {
                 first,
                 terms: before,
             };

@@ -13,7 +13,7 @@ ghost use Rattle.body_read.specs.Series.{series_at};
 use crate::group::{begins, begins_name};
 use body_read::front::{after, behind, name, start_of};
 use body_read::lookup::constant_of;
-use body_read::terms::Read;
+use body_read::terms::TextRead;
 use body_read::text_fault::TextFault;
 use path_tree::lookup::Constant;
 use path_tree::token::{Symbol, Token, TokenKind};
@@ -23,7 +23,7 @@ use std::alloc::Global;
 const MOST_CONSTANTS: usize = 16;
 
 /// A number that has to stand here, and the tokens behind it.
-fn number<'t>(tokens: &'t [Token]) -> Read<'t, u32>
+fn number<'t>(tokens: &'t [Token]) -> TextRead<'t, u32>
     ensures { Gives (λ x. (x.0, lexemes x.1.now)) result (number_at (lexemes tokens.now)) }
 {
     match tokens {
@@ -44,7 +44,7 @@ fn constant<'t>(
     alloc: Global,
     before: Vec<Constant>,
     tokens: &'t [Token],
-) -> Read<'t, Vec<Constant>>
+) -> TextRead<'t, Vec<Constant>>
     ensures { Gives constants_read result (constant_in (constants_of before.items) (lexemes tokens.now)) }
 {
     let mut all = before;
@@ -69,7 +69,7 @@ fn more_constants<'t>(
     so_far: Vec<Constant>,
     left: u8,
     tokens: &'t [Token],
-) -> Read<'t, Vec<Constant>>
+) -> TextRead<'t, Vec<Constant>>
     ensures { Gives constants_read result (series_at constant_in a_name_begins left (constants_of so_far.items)
         (lexemes tokens.now)) }
 {
@@ -85,7 +85,11 @@ fn more_constants<'t>(
 
 /// Constants behind `const`.
 #[tactic(auto, unfolding(crate::specs::DeclarationReading::consts_in))]
-fn consts<'t>(alloc: Global, before: Vec<Constant>, tokens: &'t [Token]) -> Read<'t, Vec<Constant>>
+fn consts<'t>(
+    alloc: Global,
+    before: Vec<Constant>,
+    tokens: &'t [Token],
+) -> TextRead<'t, Vec<Constant>>
     ensures { Gives constants_read result (consts_in (constants_of before.items) (lexemes tokens.now)) }
 {
     let opened = behind(tokens, Symbol::Const)?;
@@ -115,7 +119,7 @@ pub(crate) fn constants<'t>(
     so_far: Vec<Constant>,
     left: u8,
     tokens: &'t [Token],
-) -> Read<'t, Vec<Constant>>
+) -> TextRead<'t, Vec<Constant>>
     ensures { Gives constants_read result (series_at consts_in (begins_with Const) left (constants_of so_far.items)
         (lexemes tokens.now)) }
 {

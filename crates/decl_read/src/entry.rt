@@ -23,8 +23,8 @@ use crate::params::params;
 use body_read::block::body;
 use body_read::front::{after, behind, name, start_of};
 use body_read::lookup::{constant_of, is_operation, param_of, place_of};
-use body_read::scope::Scope;
-use body_read::terms::Read;
+use body_read::scope::BodyScope;
+use body_read::terms::TextRead;
 use body_read::text_fault::TextFault;
 use decl_core::object::{Operation, Param, Part};
 use decl_core::stmt::Stmt;
@@ -97,7 +97,7 @@ fn new_operation<'t>(
 
 /// What the text of an operation says behind its name.
 #[derive(Drop)]
-struct Said {
+struct EntryText {
     params: Vec<Param>,
     reply: Option<Elem>,
     body: Vec<Stmt>,
@@ -109,7 +109,7 @@ fn with_operation(
     before: Vec<Arc<Operation>>,
     parts: &[Part],
     own: &Name,
-    said: Said,
+    said: EntryText,
 ) -> Result<Vec<Arc<Operation>>, TextFault>
     requires few { length parts.now ≤ 16 }
     requires typed { IsWellTyped (kinds_from (named_in_all (all_of said.body.items) 0) 0 (parts_of parts.now))
@@ -120,7 +120,7 @@ fn with_operation(
 {
     let mut all = before;
     let name = own.copy(alloc)?;
-    let Said {
+    let EntryText {
         params,
         reply,
         body,
@@ -138,13 +138,13 @@ fn procedure<'t>(
     parts: &[Part],
     before: Vec<Arc<Operation>>,
     tokens: &'t [Token],
-) -> Read<'t, Vec<Arc<Operation>>>
+) -> TextRead<'t, Vec<Arc<Operation>>>
     requires { length parts.now ≤ 16 }
     ensures { Gives operations_read result (procedure_in 131072 (constants_of constants.now) (parts_of parts.now)
         (operations_of before.items) (lexemes tokens.now)) }
 {
     let (own, rest) = new_operation(constants, parts, &before, tokens)?;
-    let scope = Scope {
+    let scope = BodyScope {
         constants,
         params: &[],
         parts,
@@ -156,7 +156,7 @@ fn procedure<'t>(
     let (given, rest) = params(alloc, &scope, rest)?;
     let rest = behind(rest, Symbol::Semicolon)?;
     let rest = behind(rest, Symbol::Begin)?;
-    let inside = Scope {
+    let inside = BodyScope {
         constants,
         params: &given,
         parts,
@@ -167,7 +167,7 @@ fn procedure<'t>(
     };
     let (statements, rest) = body(alloc, &inside, rest)?;
     let rest = behind(rest, Symbol::Semicolon)?;
-    let said = Said {
+    let said = EntryText {
         params: given,
         reply: None,
         body: statements,
@@ -184,13 +184,13 @@ fn function<'t>(
     parts: &[Part],
     before: Vec<Arc<Operation>>,
     tokens: &'t [Token],
-) -> Read<'t, Vec<Arc<Operation>>>
+) -> TextRead<'t, Vec<Arc<Operation>>>
     requires { length parts.now ≤ 16 }
     ensures { Gives operations_read result (function_in 131072 (constants_of constants.now) (parts_of parts.now)
         (operations_of before.items) (lexemes tokens.now)) }
 {
     let (own, rest) = new_operation(constants, parts, &before, tokens)?;
-    let scope = Scope {
+    let scope = BodyScope {
         constants,
         params: &[],
         parts,
@@ -204,7 +204,7 @@ fn function<'t>(
     let (sort, rest) = elem(rest)?;
     let rest = behind(rest, Symbol::Semicolon)?;
     let rest = behind(rest, Symbol::Begin)?;
-    let inside = Scope {
+    let inside = BodyScope {
         constants,
         params: &given,
         parts,
@@ -215,7 +215,7 @@ fn function<'t>(
     };
     let (statements, rest) = body(alloc, &inside, rest)?;
     let rest = behind(rest, Symbol::Semicolon)?;
-    let said = Said {
+    let said = EntryText {
         params: given,
         reply: Some(sort),
         body: statements,
@@ -232,7 +232,7 @@ fn entry<'t>(
     parts: &[Part],
     before: Vec<Arc<Operation>>,
     tokens: &'t [Token],
-) -> Read<'t, Vec<Arc<Operation>>>
+) -> TextRead<'t, Vec<Arc<Operation>>>
     requires { length parts.now ≤ 16 }
     ensures { Gives operations_read result (entry_in 131072 (constants_of constants.now) (parts_of parts.now)
         (operations_of before.items) (lexemes tokens.now)) }
@@ -255,7 +255,7 @@ pub(crate) fn entries<'t>(
     so_far: Vec<Arc<Operation>>,
     left: u8,
     tokens: &'t [Token],
-) -> Read<'t, Vec<Arc<Operation>>>
+) -> TextRead<'t, Vec<Arc<Operation>>>
     requires { length parts.now ≤ 16 }
     ensures { Gives operations_read result (series_at (entry_in 131072 (constants_of constants.now)
         (parts_of parts.now)) (begins_with Entry) left (operations_of so_far.items) (lexemes tokens.now)) }

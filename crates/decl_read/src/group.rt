@@ -11,8 +11,8 @@ ghost use Rattle.body_read.specs.Scopes.{names_of};
 
 use body_read::front::{after, behind, name, start_of};
 use body_read::lookup::is_known;
-use body_read::scope::Scope;
-use body_read::terms::Read;
+use body_read::scope::BodyScope;
+use body_read::terms::TextRead;
 use body_read::text_fault::TextFault;
 use path_tree::name::Name;
 use path_tree::token::{Symbol, Token, TokenKind};
@@ -55,7 +55,7 @@ pub(crate) fn is_among(names: &[Name], text: &[u8]) -> bool
 }
 
 /// The fault where no name has room.
-fn no_room(scope: &Scope, so_far: &[Name], tokens: &[Token]) -> TextFault {
+fn no_room(scope: &BodyScope, so_far: &[Name], tokens: &[Token]) -> TextFault {
     match name(tokens) {
         Err(fault) => fault,
         Ok((name, _)) => if is_known(scope, name.as_bytes()) || is_among(so_far, name.as_bytes()) {
@@ -71,11 +71,11 @@ fn no_room(scope: &Scope, so_far: &[Name], tokens: &[Token]) -> TextFault {
 #[tactic(auto, unfolding(crate::specs::DeclarationReading::names_with, crate::specs::DeclarationReading::names_by))]
 fn some_names<'t>(
     alloc: Global,
-    scope: &Scope,
+    scope: &BodyScope,
     so_far: Vec<Name>,
     left: u8,
     tokens: &'t [Token],
-) -> Read<'t, Vec<Name>>
+) -> TextRead<'t, Vec<Name>>
     ensures read { Gives names_read result (names_with (names_of scope.now) (names_at (names_of scope.now) left)
         so_far.items (lexemes tokens.now)) }
     ensures few { IfOk result (λ x. length x.0.items ≤ length so_far.items + left + 1) }
@@ -101,11 +101,11 @@ fn some_names<'t>(
 #[tactic(auto, using(crate::proofs::NameSteps::names_step, crate::proofs::NameSteps::names_none))]
 pub(crate) fn names<'t>(
     alloc: Global,
-    scope: &Scope,
+    scope: &BodyScope,
     so_far: Vec<Name>,
     left: u8,
     tokens: &'t [Token],
-) -> Read<'t, Vec<Name>>
+) -> TextRead<'t, Vec<Name>>
     ensures read { Gives names_read result (names_at (names_of scope.now) left so_far.items (lexemes tokens.now)) }
     ensures few { IfOk result (λ x. length x.0.items ≤ length so_far.items + left) }
 {

@@ -10,8 +10,8 @@ ghost use Rattle.body_read.specs.Reader.{Gives};
 use crate::group::is_among;
 use body_read::front::{behind, start_of};
 use body_read::lookup::{constant_of, is_known};
-use body_read::scope::Scope;
-use body_read::terms::Read;
+use body_read::scope::BodyScope;
+use body_read::terms::TextRead;
 use body_read::text_fault::TextFault;
 use path_tree::name::Name;
 use path_tree::token::{Symbol, Token, TokenKind, is_same_symbol};
@@ -34,7 +34,7 @@ fn allowed(n: u32, at: usize) -> Result<u16, TextFault>
 /// A number from 1 to 1024, or the name of a constant of such a value. The names of the group that is
 /// declared are known, and no constants.
 #[tactic(auto, unfolding(crate::specs::DeclarationReading::size_in))]
-fn size<'t>(scope: &Scope, group: &[Name], tokens: &'t [Token]) -> Read<'t, u16>
+fn size<'t>(scope: &BodyScope, group: &[Name], tokens: &'t [Token]) -> TextRead<'t, u16>
     ensures { Gives (λ x. (x.0, lexemes x.1.now)) result (size_in (constants_of scope.now.constants.now)
         (lexemes tokens.now)) }
 {
@@ -77,7 +77,7 @@ fn elem_by_symbol(symbol: Symbol, at: usize) -> Result<Elem, TextFault>
 }
 
 /// What elements are, and the tokens behind.
-pub(crate) fn elem<'t>(tokens: &'t [Token]) -> Read<'t, Elem>
+pub(crate) fn elem<'t>(tokens: &'t [Token]) -> TextRead<'t, Elem>
     ensures { Gives (λ x. (x.0, lexemes x.1.now)) result (elem_at (lexemes tokens.now)) }
 {
     match tokens {
@@ -97,7 +97,7 @@ pub(crate) fn elem<'t>(tokens: &'t [Token]) -> Read<'t, Elem>
 
 /// `of` and what the elements are.
 #[tactic(auto, unfolding(crate::specs::DeclarationReading::of_elem_in))]
-fn of_elem<'t>(tokens: &'t [Token]) -> Read<'t, Elem>
+fn of_elem<'t>(tokens: &'t [Token]) -> TextRead<'t, Elem>
     ensures { Gives (λ x. (x.0, lexemes x.1.now)) result (of_elem_in (lexemes tokens.now)) }
 {
     let rest = behind(tokens, Symbol::Of)?;
@@ -107,7 +107,7 @@ fn of_elem<'t>(tokens: &'t [Token]) -> Read<'t, Elem>
 
 /// What stands behind `array`.
 #[tactic(auto, unfolding(crate::specs::DeclarationReading::array_in))]
-fn array<'t>(scope: &Scope, group: &[Name], tokens: &'t [Token]) -> Read<'t, Kind>
+fn array<'t>(scope: &BodyScope, group: &[Name], tokens: &'t [Token]) -> TextRead<'t, Kind>
     ensures { Gives (λ x. (x.0, lexemes x.1.now)) result (array_in (constants_of scope.now.constants.now)
         (lexemes tokens.now)) }
 {
@@ -120,7 +120,7 @@ fn array<'t>(scope: &Scope, group: &[Name], tokens: &'t [Token]) -> Read<'t, Kin
 
 /// What stands behind `queue`.
 #[tactic(auto, unfolding(crate::specs::DeclarationReading::queue_in))]
-fn queue<'t>(tokens: &'t [Token]) -> Read<'t, Kind>
+fn queue<'t>(tokens: &'t [Token]) -> TextRead<'t, Kind>
     ensures { Gives (λ x. (x.0, lexemes x.1.now)) result (queue_in (lexemes tokens.now)) }
 {
     let (e, rest) = of_elem(tokens)?;
@@ -129,7 +129,7 @@ fn queue<'t>(tokens: &'t [Token]) -> Read<'t, Kind>
 
 /// What stands behind `table`.
 #[tactic(auto, unfolding(crate::specs::DeclarationReading::table_in))]
-fn table<'t>(tokens: &'t [Token]) -> Read<'t, Kind>
+fn table<'t>(tokens: &'t [Token]) -> TextRead<'t, Kind>
     ensures { Gives (λ x. (x.0, lexemes x.1.now)) result (table_in (lexemes tokens.now)) }
 {
     let (e, rest) = of_elem(tokens)?;
@@ -139,12 +139,12 @@ fn table<'t>(tokens: &'t [Token]) -> Read<'t, Kind>
 /// What begins with a symbol.
 #[tactic(auto, unfolding(crate::specs::DeclarationReading::kind_by_symbol))]
 fn by_symbol<'t>(
-    scope: &Scope,
+    scope: &BodyScope,
     group: &[Name],
     symbol: Symbol,
     at: usize,
     tokens: &'t [Token],
-) -> Read<'t, Kind>
+) -> TextRead<'t, Kind>
     ensures { Gives (λ x. (x.0, lexemes x.1.now)) result (kind_by_symbol (constants_of scope.now.constants.now) symbol
         (lexemes tokens.now)) }
 {
@@ -161,7 +161,7 @@ fn by_symbol<'t>(
 
 /// What a part holds, and the tokens behind; `group` are the names before the colon.
 #[tactic(auto, unfolding(crate::specs::DeclarationReading::kind_in))]
-pub(crate) fn kind<'t>(scope: &Scope, group: &[Name], tokens: &'t [Token]) -> Read<'t, Kind>
+pub(crate) fn kind<'t>(scope: &BodyScope, group: &[Name], tokens: &'t [Token]) -> TextRead<'t, Kind>
     ensures { Gives (λ x. (x.0, lexemes x.1.now)) result (kind_in (constants_of scope.now.constants.now)
         (lexemes tokens.now)) }
 {

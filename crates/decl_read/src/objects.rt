@@ -18,7 +18,7 @@ use crate::group::begins;
 use crate::parts::parts;
 use crate::paths::paths;
 use body_read::front::{after, behind, name, start_of};
-use body_read::terms::Read;
+use body_read::terms::TextRead;
 use body_read::text_fault::TextFault;
 use decl_core::object::Object;
 use path_tree::name::Name;
@@ -30,7 +30,7 @@ pub const MOST_OBJECTS: u8 = 16;
 
 /// An object behind its name and the semicolon.
 #[tactic(auto, unfolding(crate::specs::DeclarationReading::contents_in))]
-fn contents<'t>(alloc: Global, own: &Name, tokens: &'t [Token]) -> Read<'t, Object>
+fn contents<'t>(alloc: Global, own: &Name, tokens: &'t [Token]) -> TextRead<'t, Object>
     requires { length tokens.now ≤ 65537 }
     ensures { Gives object_read result (contents_in 131072 own.now (lexemes tokens.now)) }
 {
@@ -53,7 +53,7 @@ fn contents<'t>(alloc: Global, own: &Name, tokens: &'t [Token]) -> Read<'t, Obje
 
 /// An object of another name than those before.
 #[tactic(auto, unfolding(crate::specs::DeclarationReading::next_object_in))]
-fn next_object<'t>(alloc: Global, before: Catalog, tokens: &'t [Token]) -> Read<'t, Catalog>
+fn next_object<'t>(alloc: Global, before: Catalog, tokens: &'t [Token]) -> TextRead<'t, Catalog>
     requires { length tokens.now ≤ 65537 }
     ensures { Gives objects_read result (next_object_in 131072 (objects_of before) (lexemes tokens.now)) }
 {
@@ -84,7 +84,12 @@ fn no_room(before: &Catalog, tokens: &[Token]) -> TextFault {
 }
 
 /// The objects that stand here, behind those before; so many more at most.
-fn objects<'t>(alloc: Global, so_far: Catalog, left: u8, tokens: &'t [Token]) -> Read<'t, Catalog>
+fn objects<'t>(
+    alloc: Global,
+    so_far: Catalog,
+    left: u8,
+    tokens: &'t [Token],
+) -> TextRead<'t, Catalog>
     requires { length tokens.now ≤ 65537 }
     ensures { Gives objects_read result (series_at (next_object_in 131072) (begins_with ObjectWord) left
         (objects_of so_far) (lexemes tokens.now)) }

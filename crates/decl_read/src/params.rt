@@ -15,8 +15,8 @@ ghost use Rattle.body_read.specs.Series.{series_at};
 use crate::group::{begins, names};
 use crate::kind_text::elem;
 use body_read::front::{after, behind, start_of};
-use body_read::scope::Scope;
-use body_read::terms::Read;
+use body_read::scope::BodyScope;
+use body_read::terms::TextRead;
 use body_read::text_fault::TextFault;
 use decl_core::object::Param;
 use path_tree::name::Name;
@@ -49,16 +49,16 @@ fn with_names(before: Vec<Param>, names: Vec<Name>, kind: Elem) -> Result<Vec<Pa
 #[tactic(auto, unfolding(crate::specs::DeclarationReading::group_of_params))]
 fn group<'t>(
     alloc: Global,
-    scope: &Scope,
+    scope: &BodyScope,
     before: Vec<Param>,
     tokens: &'t [Token],
-) -> Read<'t, Vec<Param>>
+) -> TextRead<'t, Vec<Param>>
     requires few { length before.items ≤ 8 }
     ensures read { Gives params_read result (group_of_params (names_of scope.now) (params_of before.items)
         (lexemes tokens.now)) }
     ensures few { IfOk result (λ x. length x.0.items ≤ 8) }
 {
-    let inner = Scope {
+    let inner = BodyScope {
         constants: scope.constants,
         params: &before,
         parts: scope.parts,
@@ -77,10 +77,10 @@ fn group<'t>(
 #[tactic(auto, unfolding(crate::specs::DeclarationReading::next_group_in))]
 fn next_group<'t>(
     alloc: Global,
-    scope: &Scope,
+    scope: &BodyScope,
     before: Vec<Param>,
     tokens: &'t [Token],
-) -> Read<'t, Vec<Param>>
+) -> TextRead<'t, Vec<Param>>
     requires few { length before.items ≤ 8 }
     ensures read { Gives params_read result (next_group_in (names_of scope.now) (params_of before.items)
         (lexemes tokens.now)) }
@@ -94,11 +94,11 @@ fn next_group<'t>(
 /// Groups one after the other, behind those before.
 fn more_groups<'t>(
     alloc: Global,
-    scope: &Scope,
+    scope: &BodyScope,
     so_far: Vec<Param>,
     left: u8,
     tokens: &'t [Token],
-) -> Read<'t, Vec<Param>>
+) -> TextRead<'t, Vec<Param>>
     requires few { length so_far.items ≤ 8 }
     ensures read { Gives params_read result (series_at (next_group_in (names_of scope.now)) (begins_with Semicolon) left
         (params_of so_far.items) (lexemes tokens.now)) }
@@ -120,7 +120,11 @@ fn more_groups<'t>(
 /// there; `DuplicateName` at a name declared before, `TooMany` at the name of a ninth parameter; `Memory`
 /// where room was refused.
 #[tactic(auto, unfolding(crate::specs::DeclarationReading::params_in, crate::specs::DeclarationReading::params_by))]
-pub(crate) fn params<'t>(alloc: Global, scope: &Scope, tokens: &'t [Token]) -> Read<'t, Vec<Param>>
+pub(crate) fn params<'t>(
+    alloc: Global,
+    scope: &BodyScope,
+    tokens: &'t [Token],
+) -> TextRead<'t, Vec<Param>>
     ensures read { Gives params_read result (params_in (names_of scope.now) (lexemes tokens.now)) }
     ensures few { IfOk result (λ x. length x.0.items ≤ 8) }
 {

@@ -18,8 +18,8 @@ use crate::group::{begins, begins_name, names};
 use crate::kind_text::kind;
 use body_read::front::{after, behind, name, start_of};
 use body_read::lookup::is_known;
-use body_read::scope::Scope;
-use body_read::terms::Read;
+use body_read::scope::BodyScope;
+use body_read::terms::TextRead;
 use body_read::text_fault::TextFault;
 use decl_core::id::MOST_PARTS;
 use decl_core::object::Part;
@@ -33,12 +33,12 @@ use value_core::kind::Kind;
 const MOST: u32 = 131_072;
 
 /// What the declaration of a part is read with.
-fn scope_of<'a>(constants: &'a [Constant], parts: &'a [Part]) -> Scope<'a>
+fn scope_of<'a>(constants: &'a [Constant], parts: &'a [Part]) -> BodyScope<'a>
     requires { length parts.now ≤ 16 }
     ensures names { names_of result ≡ names_of_parts (constants_of constants.now) (parts_of parts.now) }
     ensures constants { constants_of result.constants.now ≡ constants_of constants.now }
 {
-    Scope {
+    BodyScope {
         constants,
         params: &[],
         parts,
@@ -78,7 +78,7 @@ fn part_group<'t>(
     constants: &[Constant],
     before: Vec<Part>,
     tokens: &'t [Token],
-) -> Read<'t, Vec<Part>>
+) -> TextRead<'t, Vec<Part>>
     requires few { length before.items ≤ 16 }
     ensures read { Gives parts_read result (part_group_in (constants_of constants.now) (parts_of before.items)
         (lexemes tokens.now)) }
@@ -99,7 +99,7 @@ fn more_parts<'t>(
     so_far: Vec<Part>,
     left: u8,
     tokens: &'t [Token],
-) -> Read<'t, Vec<Part>>
+) -> TextRead<'t, Vec<Part>>
     requires few { length so_far.items ≤ 16 }
     ensures read { Gives parts_read result (series_at (part_group_in (constants_of constants.now)) a_name_begins left
         (parts_of so_far.items) (lexemes tokens.now)) }
@@ -122,7 +122,7 @@ fn var<'t>(
     constants: &[Constant],
     before: Vec<Part>,
     tokens: &'t [Token],
-) -> Read<'t, Vec<Part>>
+) -> TextRead<'t, Vec<Part>>
     requires few { length before.items ≤ 16 }
     ensures read { Gives parts_read result (var_in (constants_of constants.now) (parts_of before.items)
         (lexemes tokens.now)) }
@@ -163,7 +163,7 @@ pub(crate) fn parts<'t>(
     so_far: Vec<Part>,
     left: u8,
     tokens: &'t [Token],
-) -> Read<'t, Vec<Part>>
+) -> TextRead<'t, Vec<Part>>
     requires few { length so_far.items ≤ 16 }
     ensures read { Gives parts_read result (series_at (var_in (constants_of constants.now)) (begins_with Var) left
         (parts_of so_far.items) (lexemes tokens.now)) }

@@ -13,7 +13,7 @@ ghost use Rattle.decl_read.specs.Views.{path_fault_told, path_read, paths_read};
 
 use crate::group::begins;
 use body_read::front::{behind, start_of};
-use body_read::terms::Read;
+use body_read::terms::TextRead;
 use body_read::text_fault::TextFault;
 use path_tree::lookup::Constant;
 use path_tree::name::Name;
@@ -47,7 +47,7 @@ pub(crate) fn path<'t>(
     constants: &[Constant],
     names: &[Name],
     tokens: &'t [Token],
-) -> Read<'t, PathTree>
+) -> TextRead<'t, PathTree>
     requires few { length names.now ≤ 65535 }
     requires bounded { length tokens.now ≤ 65537 }
     ensures { Gives path_read result (read_path (known_with constants.now names.now) (length tokens.now + 1)
@@ -73,7 +73,7 @@ fn path_item<'t>(
     names: &[Name],
     so_far: Vec<PathTree>,
     tokens: &'t [Token],
-) -> Read<'t, Vec<PathTree>>
+) -> TextRead<'t, Vec<PathTree>>
     requires few { length names.now ≤ 65535 }
     requires bounded { length tokens.now ≤ 65537 }
     ensures { Gives paths_read result (path_item_in (constants_of constants.now) names.now so_far.items
@@ -97,7 +97,7 @@ pub(crate) fn paths<'t>(
     so_far: Vec<PathTree>,
     left: u8,
     tokens: &'t [Token],
-) -> Read<'t, Vec<PathTree>>
+) -> TextRead<'t, Vec<PathTree>>
     requires few { length names.now ≤ 65535 }
     requires bounded { length tokens.now ≤ 65537 }
     ensures { Gives paths_read result (series_at (path_item_in (constants_of constants.now) names.now)

@@ -16,7 +16,7 @@ ghost use Rattle.board_core.specs.Answers.{IsGone, IsTaken, IsRefused, Cancels, 
 ghost use Rattle.board_core.specs.Answers.{receipt_by, waits_in, runs_in, runs_by};
 
 use crate::roster::{MOST_SESSIONS, Roster};
-use board_core::answer::{Collected, Finished, Kept, Keyed, Stranger};
+use board_core::answer::{Collected, EarlierCall, Finished, Keyed, Stranger};
 use board_core::call::Call;
 use board_core::entry::Entry;
 use board_core::event::TraceEvent;
@@ -160,7 +160,7 @@ impl Desk {
         key: u32,
         op: &str,
         args: &[Datum],
-    ) -> Result<Option<Kept>, KeyedFault>
+    ) -> Result<Option<EarlierCall>, KeyedFault>
         ensures { Finds self.now (record { session = session; name = op.now; arguments = args.now }) key result }
     {
         self.roster.kept(session, key, op.as_bytes(), args)

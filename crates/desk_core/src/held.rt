@@ -5,12 +5,9 @@
 //! functions are called for their contracts alone: they change nothing, and tell nothing.
 
 ghost use Rattle.std.specs.Prelude.{◌≡◌, All, Some, slice_get};
-ghost use Rattle.path_tree.specs.Identifier.{IsName};
 ghost use Rattle.value_core.specs.declared.datum.Datum.{Datum as ADatum};
 ghost use Rattle.value_core.specs.Datum.{IsDatum};
-ghost use Rattle.decl_core.specs.ObjectMap.{object_of, parts_of, operations_of};
 ghost use Rattle.apply_core.specs.Fits.{ArgumentsFit};
-ghost use Rattle.word_core.specs.TraceLaws.{HasNames};
 ghost use Rattle.board_core.specs.Lists.{Every};
 ghost use Rattle.board_core.specs.Calls.{AcceptedCall};
 ghost use Rattle.board_core.specs.Board.{call_at};
@@ -22,50 +19,7 @@ use apply_core::reply::Reply;
 use apply_core::slim::Slims;
 use board_core::call::Call;
 use board_core::entry::Entry;
-use decl_core::object::{Object, Operation, Part};
-use std::sync::Arc;
-
-// Each of these parts has a name.
-fn parts_have_names(parts: &[Part])
-    ensures { All (λ p. IsName p.0) (parts_of parts.now) }
-{
-    match parts {
-        [] => {}
-        [part, parts @ ..] => {
-            part.name.as_bytes();
-            parts_have_names(parts);
-        }
-    }
-}
-
-// An operation has a name.
-fn operation_has_name(operation: &Operation)
-    ensures { IsName operation.now.name }
-{
-    operation.name.as_bytes();
-}
-
-// Each of these operations has a name.
-fn operations_have_names(operations: &[Arc<Operation>])
-    ensures { All (λ f. IsName f.name) (operations_of operations.now) }
-{
-    match operations {
-        [] => {}
-        [operation, operations @ ..] => {
-            operation_has_name(operation);
-            operations_have_names(operations);
-        }
-    }
-}
-
-/// An object, its parts and its operations have names.
-pub fn object_has_names(object: &Object)
-    ensures { HasNames (object_of object.now) }
-{
-    object.name.as_bytes();
-    parts_have_names(&object.parts);
-    operations_have_names(&object.operations);
-}
+use word_core::names::object_has_names;
 
 // What was replied is a datum, where it is one that a function replied.
 fn reply_is_datum(reply: &Reply)

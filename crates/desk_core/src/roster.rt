@@ -34,7 +34,7 @@ use crate::marks::{Mark, event_of, note, note_end, note_start};
 use crate::text::{call_of, push_marks};
 use apply_core::fits::arguments_fit;
 use apply_core::reply::Reply;
-use board_core::answer::{CallState, Kept};
+use board_core::answer::{CallState, EarlierCall};
 use board_core::call::Call;
 use board_core::entry::Entry;
 use board_core::event::TraceEvent;
@@ -42,9 +42,9 @@ use board_core::find::{
     is_same_call, place_of, place_of_left, place_to_end, runs, runs_for, waits, waits_for,
 };
 use board_core::index::Index;
-use board_core::open_call::{Asked, Running, Waiting};
+use board_core::open_call::{NewCall, Running, Waiting};
 use board_core::pick::pick;
-use board_core::queue::Queue;
+use board_core::queue::WaitingQueue;
 use call_core::outcome::Outcome;
 use call_core::ticket::Ticket;
 use decl_core::analyse::Accepted;
@@ -83,7 +83,7 @@ pub(crate) struct Roster {
     index: Index,
     marks: Vec<Mark>,
     history: Vec<Entry>,
-    waiting: Queue,
+    waiting: WaitingQueue,
     running: Vec<Running>,
     gone: Vec<bool>,
     opening: Pins,
@@ -134,7 +134,7 @@ fn asked_at(waiting: &[Waiting], place: usize) -> (u32, OpId)
 }
 
 // Moves the call at this place to those that run.
-fn start_at(waiting: &mut Queue, running: &mut Vec<Running>, place: usize, pins: &Pins)
+fn start_at(waiting: &mut WaitingQueue, running: &mut Vec<Running>, place: usize, pins: &Pins)
     requires there { place < length waiting.old }
     requires room { length running.old.items < vec_capacity running.old }
     requires few { length pins.now ≤ 16 }
@@ -153,7 +153,7 @@ fn start_at(waiting: &mut Queue, running: &mut Vec<Running>, place: usize, pins:
 fn asked_of(
     alloc: Global,
     object: &Object,
-    asked: Asked<'_>,
+    asked: NewCall<'_>,
     pins: &Pins,
 ) -> Result<Waiting, AllocError>
     requires place { asked.op < length object.now.operations.items }
@@ -292,7 +292,7 @@ impl Roster {
     {
         let counters = counters_of(alloc, accepted.object())?;
         let gone = vec![in alloc; false; MOST_SESSIONS]?;
-        let waiting = Queue::new(alloc)?;
+        let waiting = WaitingQueue::new(alloc)?;
         let index = Index::new(alloc)?;
         Ok(Roster {
             alloc,
@@ -377,7 +377,7 @@ impl Roster {
         let asked = asked_of(
             self.alloc,
             self.accepted.object(),
-            Asked {
+            NewCall {
                 number,
                 session,
                 op: place as OpId,
@@ -567,7 +567,7 @@ impl Roster {
         key: u32,
         name: &[u8],
         args: &[Datum],
-    ) -> Result<Option<Kept>, KeyedFault>
+    ) -> Result<Option<EarlierCall>, KeyedFault>
         ensures { Finds self.now (record { session = session; name = name.now; arguments = args.now }) key result }
     {
         if self.is_gone(session) {
@@ -586,7 +586,7 @@ impl Roster {
                     return Err(KeyedFault::KeyReused);
                 }
                 let state = self.state(number);
-                Ok(Some(Kept { number, state }))
+                Ok(Some(EarlierCall { number, state }))
             }
         }
     }

@@ -13,19 +13,19 @@ use std::{fs, io, str};
 
 /// What a shelf keeps in its folder.
 #[derive(Clone, Copy, Debug, PartialEq, Eq)]
-pub enum Kept {
+pub enum ShelfKind {
     /// The values of parts, the one of NAME in `NAME.part`, which is written as `NAME.new`.
     Parts,
     /// Traces, the one of NAME in `NAME.trace`, which is written as `NAME.trace.new`.
     Traces,
 }
 
-impl Kept {
+impl ShelfKind {
     // The ending of a file, and the one that it has until it is whole.
     fn endings(self) -> (&'static str, &'static str) {
         match self {
-            Kept::Parts => ("part", "new"),
-            Kept::Traces => ("trace", "trace.new"),
+            ShelfKind::Parts => ("part", "new"),
+            ShelfKind::Traces => ("trace", "trace.new"),
         }
     }
 }
@@ -38,7 +38,7 @@ impl Kept {
 pub struct DirShelf<R: Files + AllocGlobal> {
     rt: R,
     folder: String,
-    kept: Kept,
+    kept: ShelfKind,
     failures: u64,
 }
 
@@ -53,11 +53,11 @@ impl<R: Files + AllocGlobal + Drop> DirShelf<R> {
     pub fn new(rt: R, folder: &str) -> Result<DirShelf<R>, AllocError>
         ensures { IfOk result (λ shelf. shelf.failures ≡ 0) }
     {
-        DirShelf::of(rt, folder, Kept::Parts)
+        DirShelf::of(rt, folder, ShelfKind::Parts)
     }
 
     /// A shelf of parts or of traces on this folder, which has to be there. It touches no file yet.
-    pub fn of(rt: R, folder: &str, kept: Kept) -> Result<DirShelf<R>, AllocError>
+    pub fn of(rt: R, folder: &str, kept: ShelfKind) -> Result<DirShelf<R>, AllocError>
         ensures { IfOk result (λ shelf. shelf.failures ≡ 0) }
     {
         let folder = String::from_str(rt.alloc(), folder)?;
@@ -136,7 +136,7 @@ impl<R: Files + AllocGlobal> DirShelf<R> {
 ///
 /// - Another name than the ones above fails by `Device`, and no file is touched.
 /// - `load` answers `None` where the file is not there.
-/// - `store` writes another file first (`Kept`), has it go to the disk, renames it, and then has the folder go to the
+/// - `store` writes another file first (`ShelfKind`), has it go to the disk, renames it, and then has the folder go to the
 ///   disk. Where the write fails, what was there stays; where the renaming fails, either is there. The other file is
 ///   removed then. Where the folder does not go to the disk, the new bytes are there, and after a loss of power either.
 impl<R: Files + AllocGlobal> Shelf for DirShelf<R> {

@@ -1,8 +1,5 @@
 //! A device as its callers see it.
 
-ghost use Rattle.std.specs.Prelude.{◌≡◌};
-ghost use Rattle.device_core.specs.Faults.{fault_number, fault_name};
-
 use thiserror::Error;
 
 /// Why a call of a device failed.
@@ -14,28 +11,6 @@ pub enum HandFault {
     /// Memory was refused.
     #[error("Memory")]
     Memory,
-}
-
-impl HandFault {
-    /// The number of the fault: 1 or 2.
-    pub fn number(&self) -> u8
-        ensures { result ≡ fault_number self.now }
-    {
-        match self {
-            HandFault::Device => 1,
-            HandFault::Memory => 2,
-        }
-    }
-
-    /// The name of the fault, as in `Device`.
-    pub fn name(&self) -> &'static str
-        ensures { result.now ≡ fault_name self.now }
-    {
-        match self {
-            HandFault::Device => "Device",
-            HandFault::Memory => "Memory",
-        }
-    }
 }
 
 /// A file that is being written, by its number. It has to be sealed or discarded.

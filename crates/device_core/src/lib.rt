@@ -1,7 +1,7 @@
 //! Devices: files in memory and in folders, and hands that fail.
 //!
-//! `memory` and `mem_shelf` are devices of which everything is proved, `dir` and `dir_shelf` those of a folder, `fuse`
-//! and `once` hands that fail where they are told to.
+//! `memory` and `mem_shelf` are devices of which everything is proved, `dir` and `dir_shelf` those of a folder, and
+//! `fuse` hands that fail from some call on.
 //!
 //! What a device is: hands that write files, and shelves that keep bytes under names.
 //!
@@ -27,9 +27,9 @@ pub mod hand;
 pub mod mem_shelf;
 pub mod memory;
 pub mod numbers;
-pub mod once;
 pub(crate) mod reads;
 pub mod retire;
 pub mod sealed;
 pub mod shelf;
+pub mod uncalled;
 pub mod whole;

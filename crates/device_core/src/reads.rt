@@ -13,12 +13,12 @@ const MOST_READS: usize = 8;
 
 // The bytes of a read, and where they stand: the stamp of the file, and the place in it. Or none.
 #[derive(Drop)]
-pub(crate) struct Kept {
+pub(crate) struct KeptRead {
     of: Option<(Stamp, usize)>,
     bytes: Vec<u8>,
 }
 
-impl Kept {
+impl KeptRead {
     // Whether these are so many bytes of this place.
     fn is_of(&self, stamp: &Stamp, at: usize, len: usize) -> bool
         ensures of { IsTrue result → self.now.of ≡ Some (stamp.now, at) }
@@ -62,7 +62,7 @@ impl Kept {
 /// change once it is sealed.
 #[derive(Drop)]
 pub(crate) struct Reads {
-    reads: Vec<Kept>,
+    reads: Vec<KeptRead>,
     // The place of the one that was kept longest.
     oldest: usize,
 }
@@ -73,7 +73,7 @@ impl Reads {
         let mut reads = Vec::with_capacity(alloc, MOST_READS)?;
         for _ in 0..MOST_READS {
             let bytes = Vec::with_capacity(alloc, MOST_BYTES)?;
-            if reads.push(Kept { of: None, bytes }).is_err() {
+            if reads.push(KeptRead { of: None, bytes }).is_err() {
                 return Err(AllocError);
             }
         }

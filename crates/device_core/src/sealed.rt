@@ -15,26 +15,26 @@ pub(crate) const MOST_BYTES: usize = 4096;
 
 // A file, or none where it has no number.
 #[derive(Drop)]
-struct Kept {
+struct SealedFile {
     number: Option<u64>,
     bytes: Vec<u8>,
 }
 
 // The files, and the place of the one that was kept longest.
 #[derive(Drop)]
-struct Row {
-    files: Vec<Kept>,
+struct SealedFiles {
+    files: Vec<SealedFile>,
     oldest: usize,
 }
 
 // Room for the files, none of which is kept.
-fn none_kept(alloc: Global) -> Result<Row, AllocError>
+fn none_kept(alloc: Global) -> Result<SealedFiles, AllocError>
     ensures { IfOk result (λ row. HasRoom row.files.items × (row.oldest ≡ 0)) }
 {
     let mut files = Vec::with_capacity(alloc, MOST_FILES)?;
     for _ in 0..MOST_FILES {
         let bytes = Vec::with_capacity(alloc, MOST_BYTES)?;
-        let kept = Kept {
+        let kept = SealedFile {
             number: None,
             bytes,
         };
@@ -42,7 +42,7 @@ fn none_kept(alloc: Global) -> Result<Row, AllocError>
             return Err(AllocError);
         }
     }
-    Ok(Row { files, oldest: 0 })
+    Ok(SealedFiles { files, oldest: 0 })
 }
 
 /// What the hands of one folder sealed last, so that a file which one of them wrote is read by another one without the
@@ -52,7 +52,7 @@ fn none_kept(alloc: Global) -> Result<Row, AllocError>
 /// Nobody waits for it: where another thread is at it, nothing is kept, or found, or forgotten.
 #[derive(Drop)]
 pub struct Sealed {
-    row: Mutex<Row>,
+    row: Mutex<SealedFiles>,
 }
 
 impl Sealed {

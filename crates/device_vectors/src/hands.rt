@@ -7,7 +7,8 @@ use crate::hand_calls::HandCall::{
 use crate::hand_calls::{A, B, C, FileRow, HandCall};
 use device_core::hand::{Hand, Stamp};
 use device_core::memory::MemHand;
-use device_core::whole::{fetch, put};
+use device_core::uncalled::fetch;
+use device_core::whole::put;
 use std::alloc::Global;
 use std::process::Abort;
 

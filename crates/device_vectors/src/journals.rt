@@ -7,8 +7,7 @@ use post_core::device::{Device, DeviceError};
 use post_core::folder::FolderFile;
 use post_core::journal::{Journal, recover};
 use post_core::memory::Memory;
-use post_core::round::RoundFault;
-use post_core::run::Step;
+use post_core::uncalled::{JournalStep, RoundFault};
 use std::alloc::Global;
 use std::io::{self, ErrorKind, Write};
 use std::process;
@@ -41,8 +40,8 @@ fn recovers(alloc: Global, file: Memory, want: &[u8]) -> bool {
 // Whether steps are made, and lines that have no room are told so.
 fn makes_steps(alloc: Global) -> Result<bool, DeviceError> {
     let mut steps = Vec::new(alloc);
-    steps.push(Step::Lines(b"b\n".to_vec(alloc)?))?;
-    steps.push(Step::Sync)?;
+    steps.push(JournalStep::Lines(b"b\n".to_vec(alloc)?))?;
+    steps.push(JournalStep::Sync)?;
     let file = Memory::new(alloc, Vec::new(alloc));
     let Ok(mut journal) = Journal::begin(alloc, file, b"a\n", 4) else {
         return Ok(false);

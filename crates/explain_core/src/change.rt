@@ -1,7 +1,7 @@
 //! A change of a source, tried.
 
 use crate::case::{Case, count_of};
-use decl_core::analyse::{Refusal, analyse};
+use decl_core::analyse::{ObjectRefusal, analyse};
 use decl_core::object::Object;
 use decl_read::fault::DeclFault;
 use decl_read::read::read_objects;
@@ -52,8 +52,8 @@ fn keeps_each(found: &Findings) -> bool {
 fn is_kept(alloc: Global, object: Object) -> Result<bool, AllocError> {
     match analyse(alloc, object) {
         Err(refused) => match refused.why {
-            Refusal::Memory => Err(AllocError),
-            Refusal::Unseparated(..) => Ok(false),
+            ObjectRefusal::Memory => Err(AllocError),
+            ObjectRefusal::Unseparated(..) => Ok(false),
         },
         Ok(accepted) => {
             let object = accepted.object();

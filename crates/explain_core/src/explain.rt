@@ -2,7 +2,7 @@
 
 use crate::proposal::{Pair, place_for_path, proposal};
 use crate::refusal::{RefusalCase, push_case};
-use decl_core::analyse::{Refusal, Refused, analyse};
+use decl_core::analyse::{ObjectRefusal, Refused, analyse};
 use decl_core::object::Object;
 use decl_read::fault::DeclFault;
 use decl_read::read::read_objects;
@@ -98,8 +98,8 @@ fn push_refused(
     number: usize,
 ) -> Result<(), AllocError> {
     match refused.why {
-        Refusal::Memory => Err(AllocError),
-        Refusal::Unseparated(first, second, part) => {
+        ObjectRefusal::Memory => Err(AllocError),
+        ObjectRefusal::Unseparated(first, second, part) => {
             push_unseparated(
                 alloc,
                 out,

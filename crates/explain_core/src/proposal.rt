@@ -1,6 +1,6 @@
 //! A path that keeps the operations of an object apart.
 
-use decl_core::analyse::{Refusal, analyse};
+use decl_core::analyse::{ObjectRefusal, analyse};
 use decl_core::exclude_footprint::footprint;
 use decl_core::object::Object;
 use decl_read::fault::DeclFault;
@@ -35,8 +35,8 @@ fn judge(alloc: Global, object: Object) -> Result<ProposalVerdict, AllocError> {
     match analyse(alloc, object) {
         Ok(_) => Ok(ProposalVerdict::Accepted),
         Err(refused) => match refused.why {
-            Refusal::Memory => Err(AllocError),
-            Refusal::Unseparated(first, second, _) => Ok(ProposalVerdict::Refused(Pair {
+            ObjectRefusal::Memory => Err(AllocError),
+            ObjectRefusal::Unseparated(first, second, _) => Ok(ProposalVerdict::Refused(Pair {
                 first,
                 second,
             })),

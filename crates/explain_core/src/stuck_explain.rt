@@ -4,7 +4,7 @@ use crate::case::{Case, calls_text, count_of, push_names};
 use crate::shown::push_shown;
 use crate::waiting::push_waiting;
 use crate::ways::push_ways;
-use decl_core::analyse::{Refusal, analyse};
+use decl_core::analyse::{ObjectRefusal, analyse};
 use decl_core::object::Object;
 use decl_read::fault::DeclFault;
 use decl_read::read::read_objects;
@@ -18,7 +18,7 @@ use path_tree::lex::lex;
 use path_tree::node::OpId;
 use path_tree::token::Symbol;
 use std::alloc::{AllocError, Global};
-use stuck_core::found::{Ending, Finding, Findings};
+use stuck_core::found::{Finding, Findings, StuckVerdict};
 use stuck_search::find::{MOST_STATES, find};
 
 // What is said first.
@@ -144,8 +144,8 @@ fn push_accepted(
         lost: &[],
     };
     match &found.ending {
-        Ending::After(calls) => push_stuck(alloc, out, case, calls),
-        Ending::Never | Ending::Unknown => push_lost(alloc, out, case, &found),
+        StuckVerdict::After(calls) => push_stuck(alloc, out, case, calls),
+        StuckVerdict::Never | StuckVerdict::Unknown => push_lost(alloc, out, case, &found),
     }
 }
 
@@ -160,8 +160,8 @@ fn push_object(
     match analyse(alloc, object) {
         Ok(accepted) => push_accepted(alloc, out, page, accepted.object(), number),
         Err(refused) => match refused.why {
-            Refusal::Memory => Err(AllocError),
-            Refusal::Unseparated(..) => Ok(()),
+            ObjectRefusal::Memory => Err(AllocError),
+            ObjectRefusal::Unseparated(..) => Ok(()),
         },
     }
 }

@@ -16,9 +16,9 @@ use Rattle.value_core.specs.declared.datum.Datum.TheVariants.{Integer, Text}
 use Rattle.value_core.specs.declared.kind.Kind.{Kind}
 use Rattle.value_core.specs.Datum.{IsDatum}
 use Rattle.value_core.specs.Contents.{Contents, array, queue, table, IsContents}
-use Rattle.value_core.specs.Spelling.{spelling}
-use Rattle.value_core.specs.Laws.{AreBytes}
-use Rattle.value_core.proofs.Bytes.{spelling_is_bytes}
+use Rattle.value_bytes.specs.Spelling.{spelling}
+use Rattle.value_bytes.specs.Laws.{AreBytes}
+use Rattle.value_bytes.proofs.Bytes.{spelling_is_bytes}
 use Rattle.path_tree.specs.Identifier.{IsName, IsLetter, IsWordByte}
 use Rattle.decl_core.specs.ObjectForm.{OperationForm, ObjectForm}
 use Rattle.decl_core.specs.RefusalWord.{IsRefusalWord}

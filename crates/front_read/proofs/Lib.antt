@@ -6,7 +6,6 @@ mod Forms
 mod Levels
 mod Moving
 mod None
-mod Numerals
 mod Parting
 mod Rowing
 mod Standing

@@ -7,9 +7,9 @@ use Rattle.hex.proofs.HexLemmas.{decode_of-encode_lower}
 use Rattle.value_core.specs.declared.kind.Kind.{Kind}
 use Rattle.value_core.specs.declared.format.Format.TheVariants.{Second}
 use Rattle.value_core.specs.Contents.{Contents}
-use Rattle.value_core.specs.Spelling.{spelling, Spells}
-use Rattle.value_core.proofs.Bytes.{spelling_is_bytes}
-use Rattle.value_core.proofs.Unique.{unique_in}
+use Rattle.value_bytes.specs.Spelling.{spelling, Spells}
+use Rattle.value_bytes.proofs.Bytes.{spelling_is_bytes}
+use Rattle.value_bytes.proofs.Unique.{unique_in}
 use Rattle.word_core.specs.Text.{part_words}
 use Rattle.word_core.specs.Words.{Word}
 use Rattle.live_core.specs.Front.{IsLong}

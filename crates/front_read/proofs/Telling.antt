@@ -4,7 +4,7 @@ use Rattle.std.specs.Prelude.{Option, Some, None, option_map, decimal, nat_lt, c
 use Rattle.std.proofs.lemmas.Bool.Decides.{nat_tests}
 use Rattle.decl_core.specs.ObjectForm.{ObjectForm}
 use Rattle.word_core.specs.Words.{Word, bare}
-use Rattle.word_core.specs.Data.{◌>>=◌, bare_of, integer_of, session_of, session_word}
+use Rattle.word_core.specs.Data.{◌>>=◌, bare_of, integer_of, long_of, session_of, session_word}
 use Rattle.word_core.proofs.Written.{written_integer, written_session}
 use Rattle.live_core.specs.declared.front.CarriedCall.{CarriedCall}
 use Rattle.live_core.specs.declared.front.NamedClient.{NamedClient}
@@ -13,11 +13,11 @@ use Rattle.live_core.specs.Front.{IsSession, IsLong, IsCount, IsKey, IsCarried, 
 use Rattle.live_core.specs.Text.{object_words, base_words, carried_words, client_words, kept_words, call_words, answer_words}
 use Rattle.front_read.specs.declared.carried.CarriedHead.{CarriedHead}
 use Rattle.front_read.specs.declared.kept.KeptHead.{KeptHead}
-use Rattle.front_read.specs.Words.{long_of, behind_verb, long_first, key_first, count_first, session_first, carried_head, kept_head, epoch_of, base_of}
+use Rattle.front_read.specs.Words.{behind_verb, long_first, key_first, count_first, session_first, carried_head, kept_head, epoch_of, base_of}
 use Rattle.front_read.specs.Rows.{Finds, row_words}
 use Rattle.front_read.specs.Row.{client_of}
 use Rattle.front_read.proofs.Calling.{some_same}
-use Rattle.front_read.proofs.Numerals.{long_of-decimal, long_fits, integer_fits, unless}
+use Rattle.word_core.proofs.Longs.{long_of-decimal, long_fits, integer_fits, unless}
 
 pub bind_some : {A B : Type 0} (o : Option A) (f : A → Option B) (y : B) → (o >>= f) ≡ Some y → (x : A) × (o ≡ Some x) × (f x ≡ Some y)
 bind_some None f y is = absurd cc

@@ -10,8 +10,8 @@ use Rattle.value_core.specs.declared.datum.Datum.{Datum}
 use Rattle.value_core.specs.declared.kind.Kind.{Kind}
 use Rattle.value_core.specs.declared.format.Format.TheVariants.{Second}
 use Rattle.value_core.specs.Datum.{IsDatum}
-use Rattle.value_core.specs.Spelling.{spelling}
-use Rattle.value_core.proofs.Bytes.{spelling_is_bytes}
+use Rattle.value_bytes.specs.Spelling.{spelling}
+use Rattle.value_bytes.proofs.Bytes.{spelling_is_bytes}
 use Rattle.decl_core.specs.ObjectForm.{ObjectForm}
 use Rattle.apply_core.specs.declared.reply.Reply.{Reply}
 use Rattle.apply_core.specs.declared.reply.Reply.TheVariants.{Done, Refused, Failed}

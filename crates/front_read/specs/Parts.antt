@@ -3,7 +3,7 @@ use Rattle.std.specs.Prelude.{◌≡◌, ℕ, List, [], ◌∷◌, Option, Some,
 use Rattle.hex.specs.Hex.{encode_lower}
 use Rattle.value_core.specs.declared.kind.Kind.{Kind}
 use Rattle.value_core.specs.Contents.{Contents, IsContents, kind_of}
-use Rattle.value_core.specs.Spelling.{spelling}
+use Rattle.value_bytes.specs.Spelling.{spelling}
 use Rattle.word_core.specs.Text.{part_words}
 use Rattle.front_read.specs.Rows.{IsRow}
 

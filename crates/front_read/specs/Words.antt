@@ -1,20 +1,13 @@
 -- What words at the front of a line stand for.
-use Rattle.std.specs.Prelude.{ℕ, ◌&&◌, nat_lt, ◌==◌, List, length, Option, Some, None, codes, if◌then◌else◌}
+use Rattle.std.specs.Prelude.{ℕ, nat_lt, ◌==◌, List, Option, Some, None, codes, if◌then◌else◌}
 use Rattle.std.specs.Borrow.{Bor}
-use Rattle.std.specs.Str.{all_ascii_digits, bytes_eq}
-use Rattle.std.specs.Str.Parse.{digits_value}
+use Rattle.std.specs.Str.{bytes_eq}
 use Rattle.word_core.specs.declared.word.Word as declared
 use Rattle.word_core.specs.View.{words_of}
 use Rattle.word_core.specs.Words.{Word}
-use Rattle.word_core.specs.Data.{◌>>=◌, bare_of, only_bare, integer_of, session_of}
+use Rattle.word_core.specs.Data.{◌>>=◌, bare_of, only_bare, integer_of, long_of, session_of}
 use Rattle.front_read.specs.declared.carried.CarriedHead.{CarriedHead}
 use Rattle.front_read.specs.declared.kept.KeptHead.{KeptHead}
-
--- an integer is decimal digits of a value below 2 ^ 64
-abbrev pub long_of : List ℕ → Option ℕ
-long_of bytes =
-    if nat_lt 0 (length bytes) && (all_ascii_digits bytes && nat_lt (digits_value 10 bytes) 18446744073709551616) then
-    Some (digits_value 10 bytes) else None
 
 -- what was found, and the words behind it
 abbrev pub with_rest : {A : Type 0} → A × Bor (List declared.Word) → A × List Word

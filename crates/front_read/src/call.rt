@@ -19,8 +19,8 @@ use value_core::datum::Datum;
 use word_core::word::Word;
 use word_core::words::{bare_of, data_of};
 
-// The place of the first operation of this name.
-fn place_in(operations: &[Arc<Operation>], name: &[u8]) -> Option<OpId>
+/// The place of the first operation of this name.
+pub fn place_in(operations: &[Arc<Operation>], name: &[u8]) -> Option<OpId>
     requires { length operations.now ≤ 32 }
     ensures place { result ≡ place_of (map (λ f. f.name) (operations_of operations.now)) name.now }
     ensures within { IfSome result (λ k. k < length operations.now) }
@@ -56,8 +56,8 @@ fn operation_for(object: &Object, name: &[u8], arguments: &[Datum]) -> Option<Op
     None
 }
 
-// Integers and texts are what they should be.
-fn are_data(all: &[Datum])
+/// Integers and texts are what they should be.
+pub fn are_data(all: &[Datum])
     ensures { Every IsDatum all.now }
 {
     match all {

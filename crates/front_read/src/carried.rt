@@ -10,7 +10,6 @@ ghost use Rattle.front_read.specs.Rows.{Finds, Takes, TakesThis, row_words};
 ghost use Rattle.front_read.specs.Row.{carried_row};
 
 use crate::call::call_of;
-use crate::names::object_has_names;
 use crate::number::{behind_verb, count_first, long_first, session_first};
 use crate::text::{behind, first_line};
 use apply_core::slim::Slims;
@@ -20,6 +19,7 @@ use live_core::write::push_carried;
 use path_tree::node::OpId;
 use std::alloc::{AllocError, Global};
 use value_core::datum::Datum;
+use word_core::names::object_has_names;
 use word_core::word::Word;
 use word_core::words::words_of;
 

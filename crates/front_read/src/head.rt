@@ -1,10 +1,9 @@
 //! Rows that stand once: the object with its epoch, the source, each part, the base.
 
-ghost use Rattle.std.specs.Prelude.{◌≡◌, ◌++◌, ◌<◌, ◌^◌, ℕ, List, IfOk, IfSome, OnOk, MatchOption, Some, Ok, option_map};
+ghost use Rattle.std.specs.Prelude.{◌≡◌, ◌<◌, ◌^◌, ℕ, List, IfOk, IfSome, MatchOption, Some, Ok, option_map};
 ghost use Rattle.std.specs.Int.{w64, to_be_bytes};
 ghost use Rattle.hex.specs.Hex.{decode_of};
 ghost use Rattle.decl_core.specs.ObjectMap.{object_of};
-ghost use Rattle.word_core.specs.Words.{line_of};
 ghost use Rattle.word_core.specs.View.{words_of as words_in};
 ghost use Rattle.word_core.specs.Text.{part_words};
 ghost use Rattle.live_core.specs.Front.{IsKey, IsLong};
@@ -13,19 +12,18 @@ ghost use Rattle.front_read.specs.Words.{epoch_of as epoch_in, base_of as base_i
 ghost use Rattle.front_read.specs.Rows.{Finds, Gives, GivesThis, Takes, TakesThis};
 ghost use Rattle.front_read.specs.Parts.{IsValueOf, IsHexOf};
 
-use crate::names::object_has_names;
 use crate::number::{behind_verb, key_first, long_first};
 use crate::text::{behind, first_line};
 use decl_core::object::{Object, Part};
 use hex::FromHexError;
 use live_core::write::{push_base, push_object, push_source};
 use std::alloc::{AllocError, Global};
-use value_core::decode::{DecodeFault, decode};
-use value_core::encode::encode;
+use value_bytes::decode::{DecodeFault, decode};
 use value_core::kind::Kind;
 use value_core::value::Value;
-use word_core::line::push_line;
-use word_core::word::{Word, Written};
+use word_core::names::object_has_names;
+use word_core::trace_front::push_part;
+use word_core::word::Word;
 use word_core::words::{bare_of, only_bare, words_of};
 
 // The epoch that the words `object NAME epoch E` tell.
@@ -263,20 +261,4 @@ fn take_this_part<'a>(
         }
         None => Ok(None),
     }
-}
-
-// Adds `part NAME HEX`.
-fn push_part(alloc: Global, out: &mut Vec<u8>, name: &[u8], value: &Value) -> Result<(), AllocError>
-    ensures { OnOk result (out.new.items ≡ out.old.items ++ line_of (part_words name.now value.now)) }
-{
-    let bytes = encode(alloc, value)?;
-    let hex = hex::encode(alloc, bytes.as_slice())?;
-    push_line(
-        out,
-        &[
-            Written::Bare(b"part"),
-            Written::Bare(name),
-            Written::Bare(hex.as_bytes()),
-        ],
-    )
 }

@@ -14,6 +14,7 @@ use guest_core::held::{HeldCall, Holds};
 use path_tree::node::OpId;
 use std::alloc::AllocError;
 use value_core::datum::Datum;
+use word_core::event::name_of;
 use word_core::line::push_data_line;
 use word_core::word::Written;
 
@@ -43,16 +44,6 @@ fn held_name<'a>(object: &'a Object, holds: &[Hold], rule: usize) -> &'a [u8]
     ensures { result.now ≡ operation_name (object_of object.now) (op_by (slice_get (holds_of holds.now) rule)) }
 {
     name_of(object, op_at(holds, rule))
-}
-
-// The name of the operation at a place of the object; no bytes where there is none.
-fn name_of(object: &Object, operation: OpId) -> &[u8]
-    ensures { result.now ≡ operation_name (object_of object.now) operation }
-{
-    match object.operations.get(operation as usize) {
-        Some(found) => found.name.as_bytes(),
-        None => &[],
-    }
 }
 
 /// Adds `held sK N OP DATA ..`, the line of a call that is held so; without a name, where there is no such hold. The error

@@ -13,7 +13,6 @@ ghost use Rattle.front_read.specs.Row.{kept_row, KeptBy};
 
 use crate::answer::{RememberedEnd, answer_first, behind_first};
 use crate::call::call_of;
-use crate::names::object_has_names;
 use crate::number::{behind_verb, key_first, long_first, session_first};
 use crate::text::{behind, first_line};
 use apply_core::reply::Reply;
@@ -26,6 +25,7 @@ use path_tree::node::OpId;
 use std::alloc::{AllocError, Global};
 use text_core::limits::MOST_TEXT_BYTES;
 use value_core::datum::Datum;
+use word_core::names::object_has_names;
 use word_core::word::Word;
 use word_core::words::words_of;
 

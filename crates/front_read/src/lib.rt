@@ -9,14 +9,13 @@
 #![tactic(auto)]
 
 mod answer;
-mod call;
+pub mod call;
 mod carried;
 mod client;
 mod head;
 pub mod hold_lines;
 mod kept;
-mod names;
-mod number;
+pub mod number;
 pub mod read;
 mod run;
-mod text;
+pub mod text;

@@ -14,7 +14,6 @@ use crate::carried::take_carried;
 use crate::client::take_client;
 use crate::head::{take_base, take_object, take_part, take_source};
 use crate::kept::take_kept;
-use crate::names::object_has_names;
 use crate::run::take_run;
 use crate::text::{begins_with, feeds_in, goes_on};
 use decl_core::object::{Object, Part};
@@ -22,6 +21,7 @@ use live_core::front::{CarriedCall, Front, KeptCall, NamedClient};
 use live_core::past::PastRun;
 use std::alloc::{AllocError, Global};
 use value_core::value::Value;
+use word_core::names::object_has_names;
 
 // Takes the rows of all parts, and gives what stands behind them; or what stands from the first on that is no row of
 // the part that is due.

@@ -13,7 +13,6 @@ ghost use Rattle.front_read.specs.Rows.{Finds, Takes, TakesThis, row_words};
 ghost use Rattle.front_read.specs.Row.{FindsRun, two_in, event_in, count_in};
 
 use crate::call::operation_of;
-use crate::names::object_has_names;
 use crate::number::behind_verb;
 use crate::text::{behind, first_line};
 use decl_core::object::Object;
@@ -22,6 +21,7 @@ use live_core::write::push_past;
 use path_tree::node::OpId;
 use std::alloc::{AllocError, Global};
 use text_core::words::is_same_word;
+use word_core::names::object_has_names;
 use word_core::number::integer_of;
 use word_core::word::Word;
 use word_core::words::{bare_of, only_bare, words_of};

@@ -4,8 +4,8 @@ ghost use Rattle.std.specs.Prelude.{◌≡◌, ◌≤◌, length, [], ◌+◌, �
 ghost use Rattle.text_core.specs.Runs.{NoLineFeed};
 ghost use Rattle.front_read.specs.Text.{begins, goes_on, goes_on_behind_parts, goes_on_with_calls, feeds_in};
 
-// What stands behind these bytes, where a text begins with them.
-pub(crate) fn behind<'a>(text: &'a [u8], front: &[u8]) -> Option<&'a [u8]>
+/// What stands behind these bytes, where a text begins with them.
+pub fn behind<'a>(text: &'a [u8], front: &[u8]) -> Option<&'a [u8]>
     ensures { MatchOption result ((rest : List ℕ) → text.now ≡ front.now ++ rest → ⊥)
         (λ rest. text.now ≡ front.now ++ rest.now) }
 {

@@ -2,7 +2,7 @@
 use Rattle.std.proofs.Common.{◌≡◌, ◌-◌, ◌<◌, ℕ, inl, inr, sym, ap, ◌∙◌, arith}
 use Rattle.std.specs.Prelude.{slice_get}
 use Rattle.guest_core.specs.declared.kept.Asked.{Asked}
-use Rattle.guest_core.specs.declared.kept.Kept.{Kept}
+use Rattle.guest_core.specs.declared.kept.RememberedCall.{RememberedCall}
 use Rattle.guest_core.specs.declared.keys.Judged.{Judged}
 use Rattle.guest_core.specs.declared.keys.Judged.TheVariants.{New, Waits, Repeat, KeyReused, BadKey}
 use Rattle.guest_core.specs.Keys.{Keys, HasKey, Judges, JudgesNext, JudgesKept}
@@ -25,7 +25,7 @@ kept_judged w key place a KeyReused below is h =
 kept_judged w key place a BadKey below is h = inr (omega (arith, below, is, h))
 
 -- a key is that of one call
-pub key_once : (w : Keys) (key j k : ℕ) (c d : Kept) → HasKey w key j c → HasKey w key k d → (j ≡ k) × (c ≡ d)
+pub key_once : (w : Keys) (key j k : ℕ) (c d : RememberedCall) → HasKey w key j c → HasKey w key k d → (j ≡ k) × (c ≡ d)
 key_once w key j k c d first second =
     let same : j ≡ k = omega (arith, first.key_is, second.key_is) in
     (same, one_item w.kept k c d (ap (slice_get w.kept) (sym same) ∙ first.there) second.there)

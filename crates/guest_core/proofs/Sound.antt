@@ -3,13 +3,13 @@ use Rattle.std.proofs.Common.{◌≡◌, ◌≢◌, ℕ, zero, suc, inl, inr, Li
 use Rattle.std.specs.Prelude.{slice_get, slice_set, unwrap_or}
 use Rattle.std.proofs.lemmas.Bool.{cases_eq}
 use Rattle.guest_core.specs.declared.guest.Guest.{Guest}
-use Rattle.guest_core.specs.declared.seats.Seat.{Seat}
-use Rattle.guest_core.specs.declared.seats.Seat.TheVariants.{Void, Free, Nameless, Named, Retired}
+use Rattle.guest_core.specs.declared.seats.SeatHolder.{SeatHolder}
+use Rattle.guest_core.specs.declared.seats.SeatHolder.TheVariants.{Void, Free, Nameless, Named, Retired}
 use Rattle.guest_core.specs.Guests.{Guests, IsSound, IsUnknown, with_seat, with_guest, with_other}
 use Rattle.guest_core.specs.Seats.{free_seats, renewed}
 use Rattle.guest_core.proofs.Items.{get_more, get_set, get_front, get_last, get_here, get_there, one_item}
 
-abbrev place_of : Seat → ℕ
+abbrev place_of : SeatHolder → ℕ
 place_of Void = 0
 place_of Free = 0
 place_of Nameless = 0
@@ -23,7 +23,7 @@ pub same_place : (p q : ℕ) → Named p ≡ Named q → p ≡ q
 same_place p q is = ap place_of is
 
 -- two places of one session are one
-pub one_place : (seats : List Seat) (s p q : ℕ) → slice_get seats s ≡ Some (Named p) → slice_get seats s ≡ Some (Named q) → p ≡ q
+pub one_place : (seats : List SeatHolder) (s p q : ℕ) → slice_get seats s ≡ Some (Named p) → slice_get seats s ≡ Some (Named q) → p ≡ q
 one_place seats s p q is at = same_place p q (one_item seats s (Named p) (Named q) is at)
 
 -- a client changes, and keeps its name and its session
@@ -60,7 +60,7 @@ sound_changed v p g h sound there session name = record {
     ]
 
 -- A seat changes that no client has and no client gets.
-pub sound_seat : (v : Guests) (s : ℕ) (seat : Seat) → IsSound v → ((p : ℕ) → slice_get v.seats s ≢ Some (Named p)) → ((p : ℕ) → seat ≢ Named p) → IsSound (with_seat v s seat)
+pub sound_seat : (v : Guests) (s : ℕ) (seat : SeatHolder) → IsSound v → ((p : ℕ) → slice_get v.seats s ≢ Some (Named p)) → ((p : ℕ) → seat ≢ Named p) → IsSound (with_seat v s seat)
 sound_seat v s seat sound unnamed other = record {
   seated = λ p g is. get_there v.seats s seat g.session (λ same. unnamed p (ap (slice_get v.seats) (sym same) ∙ sound.seated p g is)) ∙ sound.seated p g is;
   named = λ t p is. elim (get_set v.seats s seat t (Named p) is) [
@@ -122,7 +122,7 @@ sound_other v p f g sound there free own = record {
   ];
 }
   where
-    seats : List Seat
+    seats : List SeatHolder
     seats = slice_set (slice_set v.seats f.session Retired) g.session (Named p)
 
     retired_named : (q : ℕ) → Retired ≡ Named q → ⊥
@@ -141,11 +141,11 @@ sound_other v p f g sound there free own = record {
         ∙ is
 
 -- the numbers of forgotten names are free
-get_renewed : (seats : List Seat) (s p : ℕ) → slice_get (map renewed seats) s ≡ Some (Named p) → slice_get seats s ≡ Some (Named p)
+get_renewed : (seats : List SeatHolder) (s p : ℕ) → slice_get (map renewed seats) s ≡ Some (Named p) → slice_get seats s ≡ Some (Named p)
 get_renewed [] s p is = absurd cc
 get_renewed (x ∷ seats) zero p is = ap Some (by x (ap (λ o. unwrap_or o (renewed x)) is))
   where
-    by : (y : Seat) → renewed y ≡ Named p → y ≡ Named p
+    by : (y : SeatHolder) → renewed y ≡ Named p → y ≡ Named p
     by Void is = absurd cc
     by Free is = absurd cc
     by Nameless is = absurd cc
@@ -153,7 +153,7 @@ get_renewed (x ∷ seats) zero p is = ap Some (by x (ap (λ o. unwrap_or o (rene
     by Retired is = absurd cc
 get_renewed (x ∷ seats) (suc s) p is = get_renewed seats s p is
 
-renewed_named : (seats : List Seat) (s p : ℕ) → slice_get seats s ≡ Some (Named p) → slice_get (map renewed seats) s ≡ Some (Named p)
+renewed_named : (seats : List SeatHolder) (s p : ℕ) → slice_get seats s ≡ Some (Named p) → slice_get (map renewed seats) s ≡ Some (Named p)
 renewed_named [] s p is = absurd cc
 renewed_named (x ∷ seats) zero p is = ap (λ o. Some (renewed (unwrap_or o x))) is
 renewed_named (x ∷ seats) (suc s) p is = renewed_named seats s p is

@@ -6,9 +6,9 @@ use Rattle.guest_core.specs.declared.guest.Guest.{Guest}
 use Rattle.guest_core.specs.declared.guests.Entered.{Entered}
 use Rattle.guest_core.specs.declared.kept.Asked.{Asked}
 use Rattle.apply_core.specs.declared.reply.Reply.{Reply}
-use Rattle.guest_core.specs.declared.kept.Kept.{Kept}
-use Rattle.guest_core.specs.declared.seats.Seat.{Seat}
-use Rattle.guest_core.specs.declared.seats.Seat.TheVariants.{Void, Free, Nameless, Named, Retired}
+use Rattle.guest_core.specs.declared.kept.RememberedCall.{RememberedCall}
+use Rattle.guest_core.specs.declared.seats.SeatHolder.{SeatHolder}
+use Rattle.guest_core.specs.declared.seats.SeatHolder.TheVariants.{Void, Free, Nameless, Named, Retired}
 use Rattle.guest_core.specs.declared.guests.EnterFault.TheVariants.{InUse, Full, Memory}
 use Rattle.guest_core.specs.declared.guests.AdmitFault.TheVariants as admit
 use Rattle.guest_core.specs.declared.keys.AskFault.TheVariants.{SessionBusy, KeysSpent, Memory as NoMemory}
@@ -214,7 +214,7 @@ leaving old new name session now false t does stands = unchanged old new name (l
 whose : (old : Guests) (session : ℕ) → IsSound old → ((p : ℕ) × (g : Guest) × IsNamed old session p g) ⊎ HasNoName old session
 whose old session sound = by (slice_get old.seats session) refl
   where
-    by : (seat : Option Seat) → slice_get old.seats session ≡ seat → ((p : ℕ) × (g : Guest) × IsNamed old session p g) ⊎ HasNoName old session
+    by : (seat : Option SeatHolder) → slice_get old.seats session ≡ seat → ((p : ℕ) × (g : Guest) × IsNamed old session p g) ⊎ HasNoName old session
     by (Some (Named p)) is = let known = sound.named session p is in inl (p, known.0, record { seat = is; there = known.1 })
     by None is = inr (λ p at. let e : None ≡ Some (Named p) = sym is ∙ at in cc)
     by (Some Void) is = inr (λ p at. let e : Some Void ≡ Some (Named p) = sym is ∙ at in cc)
@@ -244,7 +244,7 @@ end_told : (old new : Guests) (name : List ℕ) (session told p : ℕ) (reply : 
     → new ≡ with_keys old p g (remembered g.keys (record { asked = a; told = told; reply = reply })) → IsSound old → StandsSo old name t → Goes old new name (ended session told reply true) t
 end_told old new name session told p reply g a None by same waits is sound stands = absurd (stands p g by.there same)
 end_told old new name session told p reply g a (Some t) by same waits is sound stands =
-    let c : Kept = record { asked = a; told = told; reply = reply } in
+    let c : RememberedCall = record { asked = a; told = told; reply = reply } in
     let own : stands.guest ≡ g = one_item old.guests p stands.guest g (subst (λ k. slice_get old.guests k ≡ Some stands.guest) (sound.once stands.place p stands.guest g stands.at.there by.there (stands.at.named ∙ sym same)) stands.at.there) by.there in
     let next : g.keys.next ≡ t.first + length t.calls = subst (λ (x : Guest). x.keys.next ≡ t.first + length t.calls) own stands.next in
     let kept : g.keys.kept ≡ take 16 t.calls = subst (λ (x : Guest). x.keys.kept ≡ take 16 t.calls) own stands.kept in (

@@ -4,8 +4,8 @@ use Rattle.std.specs.Prelude.{slice_get, slice_set}
 use Rattle.guest_core.specs.declared.guest.Guest.{Guest}
 use Rattle.guest_core.specs.declared.guests.Entered.{Entered}
 use Rattle.guest_core.specs.declared.guests.EnterFault.TheVariants.{InUse, Full, Memory}
-use Rattle.guest_core.specs.declared.seats.Seat.{Seat}
-use Rattle.guest_core.specs.declared.seats.Seat.TheVariants.{Free, Nameless, Named, Retired}
+use Rattle.guest_core.specs.declared.seats.SeatHolder.{SeatHolder}
+use Rattle.guest_core.specs.declared.seats.SeatHolder.TheVariants.{Free, Nameless, Named, Retired}
 use Rattle.guest_core.specs.Entering.{Enters, Leaves, IsLongestAway, NoneMayForget, IsFull, ComesAgain}
 use Rattle.guest_core.specs.Guests.{Guests, IsAt, IsNamed, IsSound, IsUnknown, HasNoName, with_keys, with_seat, with_guest, with_other, guest_of}
 use Rattle.guest_core.specs.Keys.{Keys, withdrawn}
@@ -16,7 +16,7 @@ use Rattle.guest_core.proofs.Sound.{one_place, sound_changed, sound_more, sound_
 abbrev with_guests : Guests → List Guest → Guests
 with_guests v gs = record v { guests = gs }
 
-abbrev with_both : Guests → List Guest → List Seat → Guests
+abbrev with_both : Guests → List Guest → List SeatHolder → Guests
 with_both v gs seats = record { guests = gs; seats = seats; most = v.most }
 
 pub place_within : (v : Guests) (session place : ℕ) → IsSound v → slice_get v.seats session ≡ Some (Named place) → place < length v.guests
@@ -97,18 +97,18 @@ left_nameless v new session second true none free stays = inr (free refl)
 left_nameless v new session second false none free stays = ((stays refl).0, λ p g by away. none p by.seat, (stays refl).1)
 
 -- a client of a new name gets a free number and the next place
-pub settled : (v : Guests) (roll : List Guest) (seats : List Seat) (g : Guest) (place : ℕ) → roll ≡ v.guests ++ g ∷ [] → place ≡ length v.guests → seats ≡ slice_set v.seats g.session (Named place) → with_both v roll seats ≡ with_guest v g
+pub settled : (v : Guests) (roll : List Guest) (seats : List SeatHolder) (g : Guest) (place : ℕ) → roll ≡ v.guests ++ g ∷ [] → place ≡ length v.guests → seats ≡ slice_set v.seats g.session (Named place) → with_both v roll seats ≡ with_guest v g
 settled v roll seats g place more at set = ap (λ gs. with_both v gs seats) more ∙ ap (with_both v (v.guests ++ g ∷ [])) (set ∙ ap (λ p. slice_set v.seats g.session (Named p)) at)
 
-pub sound_settled : (v : Guests) (roll : List Guest) (seats : List Seat) (g : Guest) (place : ℕ) → IsSound v → IsUnknown v g.name → slice_get v.seats g.session ≡ Some Free → roll ≡ v.guests ++ g ∷ [] → place ≡ length v.guests
+pub sound_settled : (v : Guests) (roll : List Guest) (seats : List SeatHolder) (g : Guest) (place : ℕ) → IsSound v → IsUnknown v g.name → slice_get v.seats g.session ≡ Some Free → roll ≡ v.guests ++ g ∷ [] → place ≡ length v.guests
     → seats ≡ slice_set v.seats g.session (Named place) → IsSound (with_both v roll seats)
 sound_settled v roll seats g place sound unknown free more at set = subst IsSound (sym (settled v roll seats g place more at set)) (sound_more v g sound unknown free)
 
 -- a client has the place of one that is forgotten
-pub placed : (v : Guests) (roll : List Guest) (seats : List Seat) (f g : Guest) (place : ℕ) → roll ≡ slice_set v.guests place g → seats ≡ slice_set (slice_set v.seats f.session Retired) g.session (Named place) → with_both v roll seats ≡ with_other v place f g
+pub placed : (v : Guests) (roll : List Guest) (seats : List SeatHolder) (f g : Guest) (place : ℕ) → roll ≡ slice_set v.guests place g → seats ≡ slice_set (slice_set v.seats f.session Retired) g.session (Named place) → with_both v roll seats ≡ with_other v place f g
 placed v roll seats f g place put set = ap (λ gs. with_both v gs seats) put ∙ ap (with_both v (slice_set v.guests place g)) set
 
-pub sound_placed : (v : Guests) (roll : List Guest) (seats : List Seat) (f g : Guest) (place : ℕ) → IsSound v → slice_get v.guests place ≡ Some f → slice_get v.seats g.session ≡ Some Free
+pub sound_placed : (v : Guests) (roll : List Guest) (seats : List SeatHolder) (f g : Guest) (place : ℕ) → IsSound v → slice_get v.guests place ≡ Some f → slice_get v.seats g.session ≡ Some Free
     → ((q : ℕ) (h : Guest) → slice_get v.guests q ≡ Some h → h.name ≡ g.name → q ≡ place) → roll ≡ slice_set v.guests place g → seats ≡ slice_set (slice_set v.seats f.session Retired) g.session (Named place)
     → IsSound (with_both v roll seats)
 sound_placed v roll seats f g place sound there free own put set = subst IsSound (sym (placed v roll seats f g place put set)) (sound_other v place f g sound there free own)
@@ -181,7 +181,7 @@ instead_refused old new name session second p f unknown free longest is = (unkno
 pub none_entered : (old new : Guests) (name : List ℕ) (second : ℕ) → IsUnknown old name → old.most ≤ length old.guests → NoneMayForget old.guests second → new ≡ old → Enters old name second (Err Full) new
 none_entered old new name second unknown full none is = (unknown, inr (full, none), is)
 
-pub sound_begin : (roll : List Guest) (seats : List Seat) (most names : ℕ) → roll ≡ [] → seats ≡ free_seats most → IsSound (record { guests = roll; seats = seats; most = names })
+pub sound_begin : (roll : List Guest) (seats : List SeatHolder) (most names : ℕ) → roll ≡ [] → seats ≡ free_seats most → IsSound (record { guests = roll; seats = seats; most = names })
 sound_begin roll seats most names none free =
     subst (λ gs. IsSound (record { guests = gs; seats = seats; most = names })) (sym none)
     (subst (λ ss. IsSound (record { guests = []; seats = ss; most = names })) (sym free) (sound_new most names))
@@ -193,14 +193,14 @@ free_named : (p : ℕ) → Free ≡ Named p → ⊥
 free_named p is = cc
 
 -- a number that is free, or that of a client without a name, has no name
-pub unnamed_free : (seats : List Seat) (session : ℕ) → slice_get seats session ≡ Some Free → (p : ℕ) → slice_get seats session ≢ Some (Named p)
+pub unnamed_free : (seats : List SeatHolder) (session : ℕ) → slice_get seats session ≡ Some Free → (p : ℕ) → slice_get seats session ≢ Some (Named p)
 unnamed_free seats session is p at = free_named p (one_item seats session Free (Named p) is at)
 
-pub unnamed_nameless : (seats : List Seat) (session : ℕ) → slice_get seats session ≡ Some Nameless → (p : ℕ) → slice_get seats session ≢ Some (Named p)
+pub unnamed_nameless : (seats : List SeatHolder) (session : ℕ) → slice_get seats session ≡ Some Nameless → (p : ℕ) → slice_get seats session ≢ Some (Named p)
 unnamed_nameless seats session is p at = nameless_named p (one_item seats session Nameless (Named p) is at)
 
-pub sound_given : (v : Guests) (session : ℕ) (seats : List Seat) → IsSound v → slice_get v.seats session ≡ Some Free → seats ≡ slice_set v.seats session Nameless → IsSound (with_both v v.guests seats)
+pub sound_given : (v : Guests) (session : ℕ) (seats : List SeatHolder) → IsSound v → slice_get v.seats session ≡ Some Free → seats ≡ slice_set v.seats session Nameless → IsSound (with_both v v.guests seats)
 sound_given v session seats sound free set = subst (λ ss. IsSound (with_both v v.guests ss)) (sym set) (sound_seat v session Nameless sound (unnamed_free v.seats session free) nameless_named)
 
-pub sound_freed : (v : Guests) (session : ℕ) (seats : List Seat) → IsSound v → slice_get v.seats session ≡ Some Nameless → seats ≡ slice_set v.seats session Free → IsSound (with_both v v.guests seats)
+pub sound_freed : (v : Guests) (session : ℕ) (seats : List SeatHolder) → IsSound v → slice_get v.seats session ≡ Some Nameless → seats ≡ slice_set v.seats session Free → IsSound (with_both v v.guests seats)
 sound_freed v session seats sound nameless set = subst (λ ss. IsSound (with_both v v.guests ss)) (sym set) (sound_seat v session Free sound (unnamed_nameless v.seats session nameless) free_named)

@@ -7,7 +7,7 @@ use Rattle.guest_core.specs.declared.guests.EnterFault.{EnterFault}
 use Rattle.guest_core.specs.declared.guests.EnterFault.TheVariants.{InUse, Full, Memory}
 use Rattle.guest_core.specs.declared.guests.AdmitFault.{AdmitFault}
 use Rattle.guest_core.specs.declared.guests.AdmitFault.TheVariants as admit
-use Rattle.guest_core.specs.declared.seats.Seat.TheVariants.{Free, Nameless}
+use Rattle.guest_core.specs.declared.seats.SeatHolder.TheVariants.{Free, Nameless}
 use Rattle.guest_core.specs.Keys.{fresh_keys}
 use Rattle.guest_core.specs.Seats.{IsLeastFree, NoneIsFree}
 use Rattle.guest_core.specs.Guests.{Guests, IsAt, IsNamed, IsUnknown, with_away, with_seat, with_guest, with_other, guest_of}

@@ -2,15 +2,15 @@
 use Rattle.std.specs.Prelude.{◌≡◌, ◌≢◌, ◌⊎◌, ℕ, List, [], ◌∷◌, ◌++◌, length, slice_get, slice_set}
 use Rattle.std.specs.Prelude.{Option, Some}
 use Rattle.guest_core.specs.declared.guest.Guest.{Guest}
-use Rattle.guest_core.specs.declared.seats.Seat.{Seat}
-use Rattle.guest_core.specs.declared.seats.Seat.TheVariants.{Nameless, Named, Retired}
+use Rattle.guest_core.specs.declared.seats.SeatHolder.{SeatHolder}
+use Rattle.guest_core.specs.declared.seats.SeatHolder.TheVariants.{Nameless, Named, Retired}
 use Rattle.guest_core.specs.Keys.{Keys, fresh_keys}
 
 -- The clients that have names, in the order of their places; what each session number is, from 0 on; and how many names
 -- there may be before a new one takes the place of another.
 pub record Guests : Type 0 where
   pub guests : List Guest
-  pub seats : List Seat
+  pub seats : List SeatHolder
   pub most : ℕ
 
 -- the client that has this session stands at this place
@@ -52,7 +52,7 @@ abbrev pub with_away : Guests → ℕ → Guest → Option ℕ → Guests
 with_away v p g away = record v { guests = slice_set v.guests p (record g { away = away }) }
 
 -- a session number is this now
-abbrev pub with_seat : Guests → ℕ → Seat → Guests
+abbrev pub with_seat : Guests → ℕ → SeatHolder → Guests
 with_seat v session seat = record v { seats = slice_set v.seats session seat }
 
 -- a client of whose calls nothing is known but the key of the next one

@@ -4,7 +4,7 @@ use Rattle.std.specs.Prelude.{Bool, true, false, Option, Some, None, Result, Ok,
 use Rattle.value_core.specs.declared.datum.Datum.{Datum}
 use Rattle.apply_core.specs.declared.reply.Reply.{Reply}
 use Rattle.guest_core.specs.declared.kept.Asked.{Asked}
-use Rattle.guest_core.specs.declared.kept.Kept.{Kept}
+use Rattle.guest_core.specs.declared.kept.RememberedCall.{RememberedCall}
 use Rattle.guest_core.specs.declared.keys.Judged.{Judged}
 use Rattle.guest_core.specs.declared.keys.Judged.TheVariants.{New, Waits, Repeat, KeyReused, BadKey}
 use Rattle.guest_core.specs.declared.keys.AskFault.{AskFault}
@@ -14,7 +14,7 @@ use Rattle.guest_core.specs.declared.keys.AskFault.TheVariants.{SessionBusy, Key
 -- the last calls has the key below the next one, and each other one the key below that of the call before it.
 pub record Keys : Type 0 where
   pub next : ℕ
-  pub kept : List Kept
+  pub kept : List RememberedCall
   pub asked : Option Asked
 
 -- what a call asks for
@@ -22,14 +22,14 @@ abbrev pub asks : ℕ → List Datum → Asked
 asks operation arguments = record { operation = operation; arguments = arguments }
 
 -- the call at this place among those that are kept, and it has this key
-pub record HasKey (w : Keys) (key k : ℕ) (c : Kept) : Type 0 where
+pub record HasKey (w : Keys) (key k : ℕ) (c : RememberedCall) : Type 0 where
   pub there : slice_get w.kept k ≡ Some c
   pub key_is : key + k + 1 ≡ w.next
 
 -- a call that is kept has this key, and asked for something else
 pub record IsReused (w : Keys) (key : ℕ) (a : Asked) : Type 0 where
   pub place : ℕ
-  pub call : Kept
+  pub call : RememberedCall
   pub has : HasKey w key place call
   pub other : call.asked ≢ a
 
@@ -49,18 +49,18 @@ JudgesNext waits a KeyReused = (b : Asked) × (waits ≡ Some b) × (b ≢ a)
 JudgesNext waits a BadKey = ⊥
 
 -- what the key that this place has says of a call, by those that are kept
-abbrev pub JudgesKept : List Kept → ℕ → Asked → Judged → Type 0
+abbrev pub JudgesKept : List RememberedCall → ℕ → Asked → Judged → Type 0
 JudgesKept kept place a New = ⊥
 JudgesKept kept place a Waits = ⊥
-JudgesKept kept place a (Repeat k) = (c : Kept) × (k ≡ place) × (slice_get kept place ≡ Some c) × (c.asked ≡ a)
-JudgesKept kept place a KeyReused = (c : Kept) × (slice_get kept place ≡ Some c) × (c.asked ≢ a)
+JudgesKept kept place a (Repeat k) = (c : RememberedCall) × (k ≡ place) × (slice_get kept place ≡ Some c) × (c.asked ≡ a)
+JudgesKept kept place a KeyReused = (c : RememberedCall) × (slice_get kept place ≡ Some c) × (c.asked ≢ a)
 JudgesKept kept place a BadKey = length kept ≤ place
 
 -- What a key says of a call. A key is bad where it is past the next one, or older than those that are kept; 0 is older.
 abbrev pub Judges : Keys → ℕ → Asked → Judged → Type 0
 Judges w key a New = (key ≡ w.next) × (w.asked ≡ None)
 Judges w key a Waits = (key ≡ w.next) × (w.asked ≡ Some a)
-Judges w key a (Repeat k) = (c : Kept) × HasKey w key k c × (c.asked ≡ a)
+Judges w key a (Repeat k) = (c : RememberedCall) × HasKey w key k c × (c.asked ≡ a)
 Judges w key a KeyReused = IsReused w key a ⊎ IsHeldBack w key a
 Judges w key a BadKey = (w.next < key) ⊎ (key + length w.kept < w.next)
 
@@ -80,7 +80,7 @@ abbrev pub withdrawn : Keys → Keys
 withdrawn w = record w { asked = None }
 
 -- a call has ended: it stands in front of those that are kept, at most 16 with it, and its key is counted
-abbrev pub remembered : Keys → Kept → Keys
+abbrev pub remembered : Keys → RememberedCall → Keys
 remembered w c = record { next = w.next + 1; kept = c ∷ take 15 w.kept; asked = None }
 
 -- the call that was asked ended so; none was asked, and nothing changes

@@ -1,6 +1,6 @@
 -- The numbers of sessions, as they lie in memory.
 use Rattle.std.specs.Prelude.{◌≢◌, ℕ, ◌<◌, ◌≤◌, length, slice_get, Some}
-use Rattle.guest_core.specs.declared.seats.Seat.TheVariants.{Free}
+use Rattle.guest_core.specs.declared.seats.SeatHolder.TheVariants.{Free}
 use Rattle.guest_core.specs.declared.seats.Seats.TheInside.{Inside}
 
 -- no number below this one is free, and there are at most 65,536

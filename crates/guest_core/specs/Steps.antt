@@ -7,10 +7,10 @@ use Rattle.guest_core.specs.declared.guests.Entered.{Entered}
 use Rattle.guest_core.specs.declared.guests.EnterFault.{EnterFault}
 use Rattle.guest_core.specs.declared.guests.AdmitFault.{AdmitFault}
 use Rattle.guest_core.specs.declared.kept.Asked.{Asked}
-use Rattle.guest_core.specs.declared.kept.Kept.{Kept}
+use Rattle.guest_core.specs.declared.kept.RememberedCall.{RememberedCall}
 use Rattle.guest_core.specs.declared.keys.AskFault.{AskFault}
 use Rattle.guest_core.specs.declared.keys.Judged.TheVariants.{Repeat}
-use Rattle.guest_core.specs.declared.seats.Seat.TheVariants.{Nameless}
+use Rattle.guest_core.specs.declared.seats.SeatHolder.TheVariants.{Nameless}
 use Rattle.guest_core.specs.Entering.{Enters, Admits, Leaves}
 use Rattle.guest_core.specs.Guests.{Guests, IsAt, IsNamed, IsSound, IsUnknown, HasNoName, with_keys, with_seat}
 use Rattle.guest_core.specs.Keys.{Keys, HasKey, Judges, Asks, Ends, withdrawn}
@@ -18,7 +18,7 @@ use Rattle.guest_core.specs.Seats.{IsLeastFree, renewed}
 
 -- a key is that of at most one call among those that are kept
 abbrev pub KeysStandOnce : Type 0
-KeysStandOnce = (w : Keys) (key j k : ℕ) (c d : Kept) → HasKey w key j c → HasKey w key k d → (j ≡ k) × (c ≡ d)
+KeysStandOnce = (w : Keys) (key j k : ℕ) (c d : RememberedCall) → HasKey w key j c → HasKey w key k d → (j ≡ k) × (c ≡ d)
 
 -- what was done, and what was answered
 pub data Step : Type 0 where
@@ -51,7 +51,7 @@ Does old renews new = new ≡ record old { seats = map renewed old.seats }
 -- what was told of the calls of a name since it is known: the key of the first one, and the calls, the newest first
 pub record Told : Type 0 where
   pub first : ℕ
-  pub calls : List Kept
+  pub calls : List RememberedCall
 
 -- The key of the next call of a name is the one behind all that were told, and the last 16 of them are kept.
 pub record Stands (v : Guests) (name : List ℕ) (t : Told) : Type 0 where
@@ -67,7 +67,7 @@ StandsSo v name None = IsUnknown v name
 StandsSo v name (Some t) = Stands v name t
 
 -- a call of this name has ended so
-pub record HasEnded (old : Guests) (name : List ℕ) (session told : ℕ) (reply : Option Reply) (c : Kept) : Type 0 where
+pub record HasEnded (old : Guests) (name : List ℕ) (session told : ℕ) (reply : Option Reply) (c : RememberedCall) : Type 0 where
   pub place : ℕ
   pub guest : Guest
   pub by : IsNamed old session place guest
@@ -85,7 +85,7 @@ pub data Tells (old : Guests) (name : List ℕ) : Step → Option Told → Optio
       Tells old name (admitted g (Ok done)) t (Some (record { first = g.keys.next; calls = [] }))
   forgotten : {t : Told} (other : List ℕ) (now : ℕ) (a : Entered) → a.is_new ≡ true → other ≢ name →
       Tells old name (entered other now (Ok a)) (Some t) None
-  ends : {t : Told} (session told : ℕ) (reply : Option Reply) (c : Kept) → HasEnded old name session told reply c →
+  ends : {t : Told} (session told : ℕ) (reply : Option Reply) (c : RememberedCall) → HasEnded old name session told reply c →
       Tells old name (ended session told reply true) (Some t) (Some (record t { calls = c ∷ t.calls }))
   nothing : {t : Option Told} {step : Step} → Tells old name step t t
 
@@ -110,7 +110,7 @@ KeysAreConsecutive =
     StandsSo old name t → (u : Option Told) × TellsAll name old steps new t u × StandsSo new name u
 
 -- the call that was told under a key, so many calls before the newest one
-pub record IsTold (t : Told) (key k : ℕ) (c : Kept) : Type 0 where
+pub record IsTold (t : Told) (key k : ℕ) (c : RememberedCall) : Type 0 where
   pub there : slice_get t.calls k ≡ Some c
   pub key_is : key + k + 1 ≡ t.first + length t.calls
 
@@ -120,4 +120,4 @@ abbrev pub RepeatsAreExact : Type 0
 RepeatsAreExact =
     (v : Guests) (name : List ℕ) (p : ℕ) (g : Guest) (t : Told) (key k : ℕ) (a : Asked) →
     Stands v name t → IsAt v name p g → IsSound v →
-    Judges g.keys key a (Repeat k) ↔ ((k < 16) × ((c : Kept) × IsTold t key k c × (c.asked ≡ a)))
+    Judges g.keys key a (Repeat k) ↔ ((k < 16) × ((c : RememberedCall) × IsTold t key k c × (c.asked ≡ a)))

@@ -5,10 +5,10 @@ use thiserror::Error;
 /// Why a call is refused. The first that applies is told.
 #[derive(Clone, Copy, Debug, PartialEq, Eq, Error)]
 pub enum SubmitFault {
-    /// The session has left, or has no number from 1 to 1,024.
+    /// There is no such session: it has left, or has no number from 1 to 1,024, or up to the limit of a kept object.
     #[error("Gone")]
     Gone,
-    /// No operation of the object has this name.
+    /// The object has no such operation.
     #[error("UnknownOp")]
     UnknownOp,
     /// The arguments do not fit the operation.
@@ -17,10 +17,10 @@ pub enum SubmitFault {
     /// A call of the session waits or runs.
     #[error("SessionBusy")]
     SessionBusy,
-    /// 256 calls wait or run.
+    /// 256 calls wait or run, or as many wait as may at a kept object.
     #[error("Full")]
     Full,
-    /// 65,536 numbers were given out.
+    /// 65,536 numbers were given out, those of a kept object in this epoch and its past.
     #[error("HistoryFull")]
     HistoryFull,
     /// Memory was refused.

@@ -4,7 +4,7 @@ ghost use Rattle.std.specs.Prelude.{◌≡◌, ◌≢◌, ◌<◌, ◌≤◌, �
 ghost use Rattle.std.specs.Prelude.{slice_get, length, OnOk, OnErr, true, false};
 ghost use Rattle.guest_core.specs.declared.guest.Guest.{Guest as AGuest};
 ghost use Rattle.guest_core.specs.declared.keys.Judged.TheVariants.{BadKey as IsBadKey};
-ghost use Rattle.guest_core.specs.declared.seats.Seat.TheVariants.{Free as AFree, Nameless as ANameless};
+ghost use Rattle.guest_core.specs.declared.seats.SeatHolder.TheVariants.{Free as AFree, Nameless as ANameless};
 ghost use Rattle.guest_core.specs.Entering.{Enters, Admits, Leaves};
 ghost use Rattle.guest_core.specs.Guests.{IsNamed, HasNoName, IsAt, IsUnknown, SomebodyHas, with_keys, with_seat};
 ghost use Rattle.guest_core.specs.Guests.{with_guest, with_other, guest_of};
@@ -14,7 +14,7 @@ ghost use Rattle.guest_core.specs.Seats.{free_seats, IsLeastFree, NoneIsFree, re
 use crate::guest::Guest;
 use crate::keys::{AskFault, Judged};
 use crate::roll::Roll;
-use crate::seats::{Seat, Seats};
+use crate::seats::{SeatHolder, Seats};
 use apply_core::reply::Reply;
 use path_tree::name::Name;
 use path_tree::node::OpId;
@@ -89,7 +89,7 @@ impl Model for Guests {
     ghost use Rattle.guest_core.specs.Guests.{Guests as AllGuests};
     ghost use Rattle.guest_core.specs.GuestsView.{guests_of, IsWhole};
     ghost use Rattle.guest_core.specs.contracts.guest.Guest as g;
-    ghost use Rattle.guest_core.specs.contracts.seats.Seat as s;
+    ghost use Rattle.guest_core.specs.contracts.seats.SeatHolder as s;
 
     ghost Value = { AllGuests };
 
@@ -221,7 +221,7 @@ impl Guests {
     {
         let place = self.roll.len() as u16;
         self.roll.add(name, session, away, first)?;
-        self.seats.set(session, Seat::Named(place));
+        self.seats.set(session, SeatHolder::Named(place));
         Ok(())
     }
 
@@ -243,8 +243,8 @@ impl Guests {
         ensures err { OnErr result (self.new ≡ self.old) }
     {
         let old = self.roll.replace(place, name, session, away, first)?;
-        self.seats.set(old, Seat::Retired);
-        self.seats.set(session, Seat::Named(place));
+        self.seats.set(old, SeatHolder::Retired);
+        self.seats.set(session, SeatHolder::Named(place));
         Ok(())
     }
 
@@ -332,8 +332,8 @@ impl Guests {
         ensures err { OnErr result (self.new ≡ self.old) }
     {
         let was = self.roll.restart(place, session, away, first)?;
-        self.seats.set(was, Seat::Retired);
-        self.seats.set(session, Seat::Named(place));
+        self.seats.set(was, SeatHolder::Retired);
+        self.seats.set(session, SeatHolder::Named(place));
         Ok(())
     }
 
@@ -344,7 +344,7 @@ impl Guests {
         ensures none { IfNone result (NoneIsFree self.old.seats × (self.new ≡ self.old)) }
     {
         let session = self.seats.least_free()?;
-        self.seats.set(session, Seat::Nameless);
+        self.seats.set(session, SeatHolder::Nameless);
         Some(session)
     }
 
@@ -369,7 +369,7 @@ impl Guests {
         if !self.seats.is_nameless(session) {
             return false;
         }
-        self.seats.set(session, Seat::Free);
+        self.seats.set(session, SeatHolder::Free);
         true
     }
 

@@ -19,7 +19,7 @@ pub struct Asked {
 /// A call that ended: what it asked for, the number that its client was told, and what it replied. `None`: it was
 /// cancelled.
 #[derive(Drop)]
-pub struct Kept {
+pub struct RememberedCall {
     asked: Asked,
     told: u64,
     reply: Option<Short>,
@@ -63,12 +63,12 @@ impl Asked {
     }
 }
 
-impl Kept {
+impl RememberedCall {
     // A call that was done, was refused or failed.
-    pub(crate) fn ended(asked: Asked, told: u64, reply: Short) -> Kept
+    pub(crate) fn ended(asked: Asked, told: u64, reply: Short) -> RememberedCall
         ensures { result ≡ record { asked = asked; told = told; reply = Some reply } }
     {
-        Kept {
+        RememberedCall {
             asked,
             told,
             reply: Some(reply),
@@ -76,10 +76,10 @@ impl Kept {
     }
 
     // A call that was cancelled.
-    pub(crate) fn cancelled(asked: Asked, told: u64) -> Kept
+    pub(crate) fn cancelled(asked: Asked, told: u64) -> RememberedCall
         ensures { result ≡ record { asked = asked; told = told; reply = None } }
     {
-        Kept {
+        RememberedCall {
             asked,
             told,
             reply: None,

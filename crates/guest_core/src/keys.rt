@@ -4,7 +4,7 @@ ghost use Rattle.std.specs.Prelude.{◌≡◌, ◌<◌, ◌≤◌, ◌↔◌, �
 ghost use Rattle.guest_core.specs.Keys.{asks, Judges, JudgesNext, JudgesKept, Asks, Ends};
 ghost use Rattle.guest_core.specs.Keys.{fresh_keys, withdrawn, remembered};
 
-use crate::kept::{Asked, Kept};
+use crate::kept::{Asked, RememberedCall};
 use apply_core::reply::Reply;
 use apply_core::short::Short;
 use path_tree::node::OpId;
@@ -54,7 +54,7 @@ pub enum AskFault {
 pub struct Keys {
     alloc: Global,
     next: u64,
-    kept: Vec<Kept>,
+    kept: Vec<RememberedCall>,
     asked: Option<Asked>,
     // memory for the text of a reply
     room: Vec<u8>,
@@ -76,7 +76,7 @@ impl Model for Keys {
 }
 
 // Puts a call in front, and lets go of the oldest one where there were 16.
-fn put(kept: &mut Vec<Kept>, call: Kept)
+fn put(kept: &mut Vec<RememberedCall>, call: RememberedCall)
     requires { 16 ≤ vec_capacity kept.old }
     ensures items { kept.new.items ≡ call ∷ take 15 kept.old.items }
     ensures room { vec_capacity kept.new ≡ vec_capacity kept.old }
@@ -103,7 +103,7 @@ fn judge_next(waits: &Option<Asked>, operation: OpId, arguments: &[Datum]) -> Ju
 }
 
 // What a key says of a call, whose place among those that are kept is this one.
-fn judge_kept(kept: &[Kept], place: u64, operation: OpId, arguments: &[Datum]) -> Judged
+fn judge_kept(kept: &[RememberedCall], place: u64, operation: OpId, arguments: &[Datum]) -> Judged
     ensures { JudgesKept kept.now place (asks operation arguments.now) result }
 {
     if place >= kept.len() as u64 {
@@ -166,7 +166,7 @@ impl Keys {
     }
 
     // A call has ended.
-    fn remember(&mut self, call: Kept)
+    fn remember(&mut self, call: RememberedCall)
         requires key { self.old.next < 18446744073709551615 }
         requires ended { self.old.asked ≡ None }
         ensures { self.new ≡ remembered self.old call }
@@ -190,7 +190,7 @@ impl Keys {
             None => false,
             Some(asked) => {
                 let reply = Short::within(self.alloc, &mut self.room, reply);
-                self.remember(Kept::ended(asked, told, reply));
+                self.remember(RememberedCall::ended(asked, told, reply));
                 true
             }
         }
@@ -203,7 +203,7 @@ impl Keys {
         match self.asked.take() {
             None => false,
             Some(asked) => {
-                self.remember(Kept::cancelled(asked, told));
+                self.remember(RememberedCall::cancelled(asked, told));
                 true
             }
         }
@@ -217,7 +217,7 @@ impl Keys {
     }
 
     /// The last calls, the newest first.
-    pub fn kept(&self) -> &[Kept]
+    pub fn kept(&self) -> &[RememberedCall]
         ensures { result.now ≡ self.now.kept }
     {
         &self.kept

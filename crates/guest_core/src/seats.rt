@@ -2,8 +2,8 @@
 
 ghost use Rattle.std.specs.Prelude.{◌≡◌, ◌≢◌, ℕ, ◌<◌, ◌+◌, ◌↔◌, IsTrue, IfOk, IfSome, IfNone, Some, None, map, slice_get};
 ghost use Rattle.std.specs.Prelude.{slice_set, length};
-ghost use Rattle.guest_core.specs.declared.seats.Seat.TheVariants.{Free as AFree, Nameless as ANameless};
-ghost use Rattle.guest_core.specs.declared.seats.Seat.TheVariants.{Named as ANamed};
+ghost use Rattle.guest_core.specs.declared.seats.SeatHolder.TheVariants.{Free as AFree, Nameless as ANameless};
+ghost use Rattle.guest_core.specs.declared.seats.SeatHolder.TheVariants.{Named as ANamed};
 ghost use Rattle.guest_core.specs.Seats.{free_seats, IsLeastFree, NoneIsFree, renewed};
 
 use std::alloc::{AllocError, Global};
@@ -11,7 +11,7 @@ use std::marker::Model;
 
 /// What a number of a session is.
 #[derive(Clone, Copy, Debug, PartialEq, Eq)]
-pub enum Seat {
+pub enum SeatHolder {
     /// No number of a session: 0.
     Void,
     /// Nobody has it.
@@ -27,7 +27,7 @@ pub enum Seat {
 // What each number is, from 0 on.
 #[derive(Drop)]
 pub(crate) struct Seats {
-    rows: Vec<Seat>,
+    rows: Vec<SeatHolder>,
     // no number below this one is free
     low: usize,
 }
@@ -35,11 +35,11 @@ pub(crate) struct Seats {
 impl Model for Seats {
     ghost use Rattle.std.specs.Prelude.{List};
     ghost use Rattle.std.specs.Coded.{codes};
-    ghost use Rattle.guest_core.specs.declared.seats.Seat.{Seat};
-    ghost use Rattle.guest_core.specs.contracts.seats.Seat as s;
+    ghost use Rattle.guest_core.specs.declared.seats.SeatHolder.{SeatHolder};
+    ghost use Rattle.guest_core.specs.contracts.seats.SeatHolder as s;
     ghost use Rattle.guest_core.specs.SeatsView.{AreSeats};
 
-    ghost Value = { List Seat };
+    ghost Value = { List SeatHolder };
 
     ghost coded = { Prim.hlevel (codes, s.the_row.coded) };
 
@@ -49,42 +49,42 @@ impl Model for Seats {
 }
 
 // Whether nobody has a number.
-fn is_free(seat: Seat) -> bool
+fn is_free(seat: SeatHolder) -> bool
     ensures { IsTrue result ↔ (seat ≡ AFree) }
 {
     match seat {
-        Seat::Free => true,
+        SeatHolder::Free => true,
         _ => false,
     }
 }
 
 // Whether a client without a name has a number.
-fn is_nameless(seat: Seat) -> bool
+fn is_nameless(seat: SeatHolder) -> bool
     ensures { IsTrue result ↔ (seat ≡ ANameless) }
 {
     match seat {
-        Seat::Nameless => true,
+        SeatHolder::Nameless => true,
         _ => false,
     }
 }
 
 // The place of the client that has a number, where one that has a name has it.
-fn place_of(seat: Seat) -> Option<u16>
+fn place_of(seat: SeatHolder) -> Option<u16>
     ensures some { IfSome result (λ p. seat ≡ ANamed p) }
     ensures none { IfNone result ((p : ℕ) → seat ≢ ANamed p) }
 {
     match seat {
-        Seat::Named(place) => Some(place),
+        SeatHolder::Named(place) => Some(place),
         _ => None,
     }
 }
 
 // What a number is in the next epoch.
-fn renew(seat: Seat) -> Seat
+fn renew(seat: SeatHolder) -> SeatHolder
     ensures { result ≡ renewed seat }
 {
     match seat {
-        Seat::Retired => Seat::Free,
+        SeatHolder::Retired => SeatHolder::Free,
         seat => seat,
     }
 }
@@ -95,9 +95,9 @@ impl Seats {
         ensures { IfOk result (λ s. s ≡ free_seats most) }
     {
         let mut rows = Vec::with_capacity(alloc, most as usize + 1)?;
-        rows.push_reserved(Seat::Void);
+        rows.push_reserved(SeatHolder::Void);
         for _ in 0..most {
-            rows.push_reserved(Seat::Free);
+            rows.push_reserved(SeatHolder::Free);
         }
         Ok(Seats { rows, low: 0 })
     }
@@ -149,7 +149,7 @@ impl Seats {
     }
 
     // A number is this from now on. One past the most stays none.
-    pub(crate) fn set(&mut self, session: u16, seat: Seat)
+    pub(crate) fn set(&mut self, session: u16, seat: SeatHolder)
         ensures { self.new ≡ slice_set self.old session seat }
     {
         if session as usize >= self.rows.len() {

@@ -12,7 +12,7 @@ use Rattle.word_core.specs.Text.{operation_name}
 use Rattle.guest_core.specs.declared.answer.SubmitFault.TheVariants as faults
 use Rattle.session_text.specs.declared.line.ReplyLine.TheVariants as lines
 use Rattle.session_text.specs.Lines.{bye_text, line_text, opened_text}
-use Rattle.guest_core.specs.declared.seats.Seat.TheVariants.{Nameless}
+use Rattle.guest_core.specs.declared.seats.SeatHolder.TheVariants.{Nameless}
 use Rattle.guest_core.specs.Guests.{with_seat}
 use Rattle.guest_core.specs.Keys.{asks as asks_for}
 use Rattle.hosted_core.specs.declared.hosted.KeyState.{KeyState}

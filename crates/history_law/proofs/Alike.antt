@@ -4,7 +4,7 @@ use Rattle.std.specs.Prelude.{map, slice_get, slice_set, unwrap_or}
 use Rattle.live_core.specs.declared.front.NamedClient.{NamedClient}
 use Rattle.live_core.specs.Front.{Opening}
 use Rattle.guest_core.specs.declared.guest.Guest.{Guest}
-use Rattle.guest_core.specs.declared.kept.Kept.{Kept}
+use Rattle.guest_core.specs.declared.kept.RememberedCall.{RememberedCall}
 use Rattle.guest_core.specs.Guests.{Guests, IsSound, IsUnknown, guest_of}
 use Rattle.guest_core.specs.Keys.{Keys, HasKey, fresh_keys, remembered}
 use Rattle.guest_core.proofs.Items.{get_set}
@@ -56,23 +56,23 @@ keys_alike f told v new h sound like = record {
   kept = λ q x key k c at has.
       let l = like q x at in
       subst (λ n. IsRemembered told f n key c) l.named
-      (h.kept l.place l.guest key k c l.there (record { there = ap (λ (ks : List Kept). slice_get ks k) l.kept ∙ has.there; key_is = has.key_is ∙ sym l.next }));
+      (h.kept l.place l.guest key k c l.there (record { there = ap (λ (ks : List RememberedCall). slice_get ks k) l.kept ∙ has.there; key_is = has.key_is ∙ sym l.next }));
 }
 
 -- what is kept, where one event more is told
-still_kept : (f : Opening) (x : KeyEvent) (told : Events) (name : List ℕ) (key : ℕ) (c : Kept) → ((newer : Events) → StaysKnown name newer → StaysKnown name (x ∷ newer)) → IsRemembered told f name key c →
+still_kept : (f : Opening) (x : KeyEvent) (told : Events) (name : List ℕ) (key : ℕ) (c : RememberedCall) → ((newer : Events) → StaysKnown name newer → StaysKnown name (x ∷ newer)) → IsRemembered told f name key c →
     IsRemembered (x ∷ told) f name key c
 still_kept f x told name key c more (inl is) = inl (record { newer = x ∷ is.newer; older = is.older; told_is = ap (λ (l : Events). x ∷ l) is.told_is; stays = more is.newer is.stays })
 still_kept f x told name key c more (inr line) = inr line
 
-get_taken : (n k : ℕ) (xs : List Kept) (x : Kept) → slice_get (take n xs) k ≡ Some x → slice_get xs k ≡ Some x
+get_taken : (n k : ℕ) (xs : List RememberedCall) (x : RememberedCall) → slice_get (take n xs) k ≡ Some x → slice_get xs k ≡ Some x
 get_taken zero k xs x is = absurd cc
 get_taken (suc n) k [] x is = absurd cc
 get_taken (suc n) zero (y ∷ xs) x is = is
 get_taken (suc n) (suc k) (y ∷ xs) x is = get_taken n k xs x is
 
 -- one of the last calls with one call more: that one, or one of those before
-one_more : (w : Keys) (d : Kept) (key k : ℕ) (c : Kept) → HasKey (remembered w d) key k c → ((key ≡ w.next) × (d ≡ c)) ⊎ ((j : ℕ) × HasKey w key j c)
+one_more : (w : Keys) (d : RememberedCall) (key k : ℕ) (c : RememberedCall) → HasKey (remembered w d) key k c → ((key ≡ w.next) × (d ≡ c)) ⊎ ((j : ℕ) × HasKey w key j c)
 one_more w d key zero c has = let is : key + 0 + 1 ≡ w.next + 1 = has.key_is in inl (omega (arith, is), ap (λ o. unwrap_or o d) has.there)
 one_more w d key (suc k) c has = let is : key + suc k + 1 ≡ w.next + 1 = has.key_is in inr (k, record { there = get_taken 15 k w.kept c has.there; key_is = omega (arith, is) })
 
@@ -86,7 +86,7 @@ no_began : (clients : List NamedClient) (c : KeyedCall) → epoch_began clients 
 no_began clients c is = cc
 
 -- a call of a client ended
-pub keys_call : (f : Opening) (told : Events) (v : Guests) (p : ℕ) (g : Guest) (c : Kept) → HaveKeys f told v → slice_get v.guests p ≡ Some g →
+pub keys_call : (f : Opening) (told : Events) (v : Guests) (p : ℕ) (g : Guest) (c : RememberedCall) → HaveKeys f told v → slice_get v.guests p ≡ Some g →
     HaveKeys f (call_ended (record { name = g.name; key = g.keys.next; call = c }) ∷ told) (record v { guests = slice_set v.guests p (record g { keys = remembered g.keys c }) })
 keys_call f told v p g c h there =
     let call : KeyedCall = record { name = g.name; key = g.keys.next; call = c } in
@@ -110,7 +110,7 @@ keys_call f told v p g c h there =
       ];
     }
   where
-    own_kept : (f : Opening) (told : Events) (g : Guest) (c : Kept) → HaveKeys f told v → (p : ℕ) → slice_get v.guests p ≡ Some g → (key k : ℕ) (d : Kept) → HasKey (remembered g.keys c) key k d →
+    own_kept : (f : Opening) (told : Events) (g : Guest) (c : RememberedCall) → HaveKeys f told v → (p : ℕ) → slice_get v.guests p ≡ Some g → (key k : ℕ) (d : RememberedCall) → HasKey (remembered g.keys c) key k d →
         IsRemembered (call_ended (record { name = g.name; key = g.keys.next; call = c }) ∷ told) f g.name key d
     own_kept f told g c h p there key k d own = elim (one_more g.keys c key k d own) [
       | inl newest ↦ inl (record {
@@ -143,7 +143,7 @@ keys_came f told v new name session away h sound unknown each =
       ];
     }
   where
-    none : (key k : ℕ) (c : Kept) → HasKey (fresh_keys 1) key k c → ⊥
+    none : (key k : ℕ) (c : RememberedCall) → HasKey (fresh_keys 1) key k c → ⊥
     none key k c has = let is = has.there in cc
 
 -- the next key of a client is one behind another

@@ -14,9 +14,9 @@ use Rattle.live_core.specs.declared.live.Taken.{Taken}
 use Rattle.live_core.specs.Answers.{asked}
 use Rattle.live_core.specs.Hall.{Every}
 use Rattle.live_core.specs.Lines.{all_lines}
-use Rattle.guest_core.specs.declared.seats.Seat.{Seat}
+use Rattle.guest_core.specs.declared.seats.SeatHolder.{SeatHolder}
 use Rattle.guest_core.specs.declared.guest.Guest.{Guest}
-use Rattle.guest_core.specs.declared.seats.Seat.TheVariants.{Void, Free, Nameless, Named}
+use Rattle.guest_core.specs.declared.seats.SeatHolder.TheVariants.{Void, Free, Nameless, Named}
 use Rattle.guest_core.specs.Guests.{Guests, IsNamed, SomebodyHas, with_seat}
 use Rattle.guest_core.specs.Keys.{asks as asks_for}
 use Rattle.guest_core.proofs.Items.{get_here}
@@ -235,7 +235,7 @@ module _ (claims : Claims) where
       (opens_asked claims old.objects old.peers place now is.object is.there (λ some. absurd (some refl)) (λ q u by some same session. absurd (some refl))
       (λ c wait same nameless. absurd (void_is (sym (a.asked is.at is.object is.there).seated.nobody ∙ nameless))) a))
     where
-      void_is : ◌≡◌ {A = Option Seat} (Some Void) (Some Nameless) → ⊥
+      void_is : ◌≡◌ {A = Option SeatHolder} (Some Void) (Some Nameless) → ⊥
       void_is e = cc
 
   opens_as : (place : ℕ) (name client : List ℕ) (old new : State) (said added : Texts) → AllAsked claims old.objects old.peers → TellsOpen place old name client → OpensAs place name client old said added new → Done old said added new
@@ -339,7 +339,7 @@ module _ (claims : Claims) where
       runs_done old (with_object old at is.after) is.mid new at session operation arguments is.before is.after is.taken is.there is.does made refl
       (scene_asked claims old.objects old.peers at is.before is.after is.there made.asked_of (λ Is place o by at_o some has. here_alike Is is.before.guests is.after.guests o.session made.alike has)
       (λ place o c by at_o wait same nameless. elim (made.waits c wait) [
-        | inl was ↦ a.waits place o is.before c by (ap (slice_get old.objects) at_o ∙ is.there) was same (ap (λ (l : List Seat). slice_get l o.session) (sym made.alike.seats) ∙ nameless)
+        | inl was ↦ a.waits place o is.before c by (ap (slice_get old.objects) at_o ∙ is.there) was same (ap (λ (l : List SeatHolder). slice_get l o.session) (sym made.alike.seats) ∙ nameless)
         | inr own ↦ absurd (is.apart place o by at_o (sym same ∙ sym (ap (λ (x : Called). x.session) own)))
       ]) a)
       said is.ends (ap (λ (s : State). s.objects) is.follows.left) (ap (λ (s : State). s.peers) is.follows.left) [] said added tt refl is.lines
@@ -365,7 +365,7 @@ module _ (claims : Claims) where
       runs_done old (changed (with_object old at is.after) place (opening now)) is.mid new at session operation arguments is.before is.after is.taken is.there is.does made refl
       (scene_asked claims old.objects peers at is.before is.after is.there made.asked_of (λ Is q o by_o at_o x has. here_alike Is is.before.guests is.after.guests o.session made.alike has)
       (λ q o c by_o at_o wait same nameless. elim (made.waits c wait) [
-        | inl was ↦ waits.waits q o is.before c by_o (ap (slice_get old.objects) at_o ∙ is.there) was same (ap (λ (l : List Seat). slice_get l o.session) (sym made.alike.seats) ∙ nameless)
+        | inl was ↦ waits.waits q o is.before c by_o (ap (slice_get old.objects) at_o ∙ is.there) was same (ap (λ (l : List SeatHolder). slice_get l o.session) (sym made.alike.seats) ∙ nameless)
         | inr mine ↦
             let session_is : o.session ≡ session = sym same ∙ sym (ap (λ (x : Called). x.session) mine) in
             let here : q ≡ place = waits.alone q place o now by_o own (λ none. some (sym session_is ∙ none)) at_o session_is in
@@ -518,7 +518,7 @@ module _ (claims : Claims) where
       (λ s c at_s wait. (go.waits c (subst (λ (y : Scene). IsIn c y.hall.waiting) (same_Some s is.after (sym at_s ∙ stands)) wait)).1)
       (scene_asked claims old.objects old.peers at is.object is.after is.there go.asked_of (λ Is place o by at_o some has. here_alike Is is.object.guests is.after.guests o.session go.alike has)
       (λ place o c by at_o wait same_session nameless.
-      a.waits place o is.object c by (ap (slice_get old.objects) at_o ∙ is.there) (go.waits c wait).0 same_session (ap (λ (l : List Seat). slice_get l o.session) (sym go.alike.seats) ∙ nameless)) a))
+      a.waits place o is.object c by (ap (slice_get old.objects) at_o ∙ is.there) (go.waits c wait).0 same_session (ap (λ (l : List SeatHolder). slice_get l o.session) (sym go.alike.seats) ∙ nameless)) a))
 
   pub cancel : (place told : ℕ) → DoneBy (AnswersCancel place told)
   cancel place told old new said added a (inl is) =

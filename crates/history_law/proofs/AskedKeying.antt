@@ -7,7 +7,7 @@ use Rattle.decl_core.specs.ObjectMap.{object_of}
 use Rattle.apply_core.specs.declared.reply.Reply.{Reply}
 use Rattle.live_core.specs.Front.{Opening}
 use Rattle.guest_core.specs.declared.guest.Guest.{Guest}
-use Rattle.guest_core.specs.declared.kept.Kept.{Kept}
+use Rattle.guest_core.specs.declared.kept.RememberedCall.{RememberedCall}
 use Rattle.guest_core.specs.Guests.{Guests, IsSound}
 use Rattle.guest_core.proofs.Sound.{sound_renewed}
 use Rattle.audit_core.specs.Steps.{Step}
@@ -187,7 +187,7 @@ replied_so claims first last turns h j told events k reply each was is = elim (e
 ]
 
 -- a call that is remembered
-pub remembered_so : (claims : Claims) (first last : Table) (turns : List Turn) (h : HaveOneHistory first last turns) (j : ℕ) (told events : List KeyEvent) (f : Opening) (g : Guest) (key : ℕ) (c : Kept) (reply : Reply) →
+pub remembered_so : (claims : Claims) (first last : Table) (turns : List Turn) (h : HaveOneHistory first last turns) (j : ℕ) (told events : List KeyEvent) (f : Opening) (g : Guest) (key : ℕ) (c : RememberedCall) (reply : Reply) →
     Each (RanOrTold claims first last turns h j told) events → IsRemembered events f g.name key c → c.reply ≡ Some reply →
     IsItsCall claims first last turns h j (under g key c) reply ⊎ (WasTold told (under g key c) ⊎ IsKeptLine f.clients f.kept g.name key c)
 remembered_so claims first last turns h j told events f g key c reply each (inl is) reply_is =

@@ -7,7 +7,7 @@ use Rattle.std.proofs.lemmas.Option.{same_Some}
 use Rattle.value_core.specs.declared.datum.Datum.{Datum}
 use Rattle.word_core.specs.Events.{Called}
 use Rattle.guest_core.specs.declared.answer.SubmitFault.TheVariants as faults
-use Rattle.guest_core.specs.declared.seats.Seat.{Seat}
+use Rattle.guest_core.specs.declared.seats.SeatHolder.{SeatHolder}
 use Rattle.guest_core.specs.Keys.{asks as asks_for}
 use Rattle.hosted_core.specs.Scene.{Scene}
 use Rattle.session_text.specs.declared.line.ReplyLine.TheVariants as lines
@@ -79,7 +79,7 @@ idle_less place old new less idle o object c by there wait nameless same =
     let p = less.peers place o by in
     let s = less.objects o.object object there in
     idle p.0 s.0 c p.1 (ap (slice_get old.objects) p.2 ∙ s.1) (s.3 c wait)
-    (ap (λ (l : List Seat). slice_get l p.0.session) (sym s.2) ∙ ap (slice_get object.guests.seats) p.3 ∙ nameless) (same ∙ sym p.3)
+    (ap (λ (l : List SeatHolder). slice_get l p.0.session) (sym s.2) ∙ ap (slice_get object.guests.seats) p.3 ∙ nameless) (same ∙ sym p.3)
 
 ends_peers : (object session number : ℕ) (text : List ℕ) (old new : State) (said added : Texts) → Ends object session number text old said added new → (q : ℕ) (now : OpenObject) → opened_at new q ≡ Some now →
     (was : OpenObject) × (opened_at old q ≡ Some was) × (was.object ≡ now.object) × (was.session ≡ now.session)

@@ -4,8 +4,8 @@ use Rattle.std.specs.Prelude.{Bool, true, false, Option, Some, nat_lt, slice_get
 use Rattle.std.proofs.lemmas.Bool.{cases_eq}
 use Rattle.std.proofs.lemmas.Bool.Decides.{nat_tests}
 use Rattle.guest_core.specs.declared.guest.Guest.{Guest}
-use Rattle.guest_core.specs.declared.seats.Seat.{Seat}
-use Rattle.guest_core.specs.declared.seats.Seat.TheVariants.{Void, Free, Nameless, Named, Retired}
+use Rattle.guest_core.specs.declared.seats.SeatHolder.{SeatHolder}
+use Rattle.guest_core.specs.declared.seats.SeatHolder.TheVariants.{Void, Free, Nameless, Named, Retired}
 use Rattle.guest_core.specs.Guests.{Guests, IsNamed, IsSound, with_guest, with_other, with_seat}
 use Rattle.guest_core.proofs.Items.{get_front, get_here, get_there, get_within, one_item}
 use Rattle.guest_core.proofs.Sound.{one_place}
@@ -13,19 +13,19 @@ use Rattle.hosted_core.specs.Calls.{seat_of}
 use Rattle.history_law.specs.Stands.{AreSeated}
 use Rattle.history_law.specs.Asked.{ClientHas}
 
-pub nameless_is : (p : ℕ) → ◌≡◌ {A = Option Seat} (Some Nameless) (Some (Named p)) → ⊥
+pub nameless_is : (p : ℕ) → ◌≡◌ {A = Option SeatHolder} (Some Nameless) (Some (Named p)) → ⊥
 nameless_is p is = cc
 
-pub free_is : (p : ℕ) → ◌≡◌ {A = Option Seat} (Some Free) (Some (Named p)) → ⊥
+pub free_is : (p : ℕ) → ◌≡◌ {A = Option SeatHolder} (Some Free) (Some (Named p)) → ⊥
 free_is p is = cc
 
-pub free_nameless : ◌≡◌ {A = Option Seat} (Some Free) (Some Nameless) → ⊥
+pub free_nameless : ◌≡◌ {A = Option SeatHolder} (Some Free) (Some Nameless) → ⊥
 free_nameless is = cc
 
-pub void_nameless : ◌≡◌ {A = Option Seat} (Some Void) (Some Nameless) → ⊥
+pub void_nameless : ◌≡◌ {A = Option SeatHolder} (Some Void) (Some Nameless) → ⊥
 void_nameless is = cc
 
-pub void_is : (p : ℕ) → ◌≡◌ {A = Option Seat} (Some Void) (Some (Named p)) → ⊥
+pub void_is : (p : ℕ) → ◌≡◌ {A = Option SeatHolder} (Some Void) (Some (Named p)) → ⊥
 void_is p is = cc
 
 -- the client at a place has one session
@@ -48,7 +48,7 @@ small n less = by (nat_lt n 65536) refl
     by true is = ap (λ (b : Bool). if b then n else 0) is
     by false is = absurd (grind (arith, nat_tests, is, less))
 
-pub seat_small : (v : Guests) (s : ℕ) (seat : Seat) → AreSeated v → slice_get v.seats s ≡ Some seat → seat_of s ≡ s
+pub seat_small : (v : Guests) (s : ℕ) (seat : SeatHolder) → AreSeated v → slice_get v.seats s ≡ Some seat → seat_of s ≡ s
 seat_small v s seat seated is = small s (omega (arith, get_within v.seats s seat is, seated.few))
 
 pub has_small : (Is : Guest → Type 0) (v : Guests) (s : ℕ) → AreSeated v → ClientHas Is v s → seat_of s ≡ s
@@ -84,7 +84,7 @@ has_set Is v p g h s sound there f (inr (q, x, is, ok)) = elim (cases_eq q p) [
 ]
 
 -- another seat changes
-pub has_seat : (Is : Guest → Type 0) (v : Guests) (k : ℕ) (seat : Seat) (s : ℕ) → s ≢ k → ClientHas Is v s → ClientHas Is (with_seat v k seat) s
+pub has_seat : (Is : Guest → Type 0) (v : Guests) (k : ℕ) (seat : SeatHolder) (s : ℕ) → s ≢ k → ClientHas Is v s → ClientHas Is (with_seat v k seat) s
 has_seat Is v k seat s other (inl is) = inl (get_there v.seats k seat s other ∙ is)
 has_seat Is v k seat s other (inr (p, g, is, ok)) = inr (p, g, record { seat = get_there v.seats k seat s other ∙ is.seat; there = is.there }, ok)
 

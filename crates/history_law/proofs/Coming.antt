@@ -8,8 +8,8 @@ use Rattle.live_core.specs.Hall.{Every}
 use Rattle.guest_core.specs.declared.guest.Guest.{Guest}
 use Rattle.guest_core.specs.declared.guests.Entered.{Entered}
 use Rattle.guest_core.specs.declared.kept.Asked.{Asked}
-use Rattle.guest_core.specs.declared.seats.Seat.{Seat}
-use Rattle.guest_core.specs.declared.seats.Seat.TheVariants.{Void, Free, Nameless, Named, Retired}
+use Rattle.guest_core.specs.declared.seats.SeatHolder.{SeatHolder}
+use Rattle.guest_core.specs.declared.seats.SeatHolder.TheVariants.{Void, Free, Nameless, Named, Retired}
 use Rattle.guest_core.specs.Entering.{Enters, Leaves}
 use Rattle.guest_core.specs.Guests.{Guests, guest_of, with_seat}
 use Rattle.guest_core.specs.Seats.{IsLeastFree, renewed}
@@ -38,16 +38,16 @@ free_not : Free ≡ Nameless → ⊥
 free_not is = cc
 
 -- an epoch begins
-get_renewed : (seats : List Seat) (s : ℕ) (x : Seat) → slice_get seats s ≡ Some x → slice_get (map renewed seats) s ≡ Some (renewed x)
+get_renewed : (seats : List SeatHolder) (s : ℕ) (x : SeatHolder) → slice_get seats s ≡ Some x → slice_get (map renewed seats) s ≡ Some (renewed x)
 get_renewed [] s x is = absurd cc
-get_renewed (y ∷ seats) zero x is = ap (λ (o : Option Seat). Some (renewed (unwrap_or o y))) is
+get_renewed (y ∷ seats) zero x is = ap (λ (o : Option SeatHolder). Some (renewed (unwrap_or o y))) is
 get_renewed (y ∷ seats) (suc s) x is = get_renewed seats s x is
 
-nameless_before : (seats : List Seat) (s : ℕ) → slice_get (map renewed seats) s ≡ Some Nameless → slice_get seats s ≡ Some Nameless
+nameless_before : (seats : List SeatHolder) (s : ℕ) → slice_get (map renewed seats) s ≡ Some Nameless → slice_get seats s ≡ Some Nameless
 nameless_before [] s is = absurd cc
-nameless_before (x ∷ seats) zero is = ap Some (by x (ap (λ (o : Option Seat). unwrap_or o (renewed x)) is))
+nameless_before (x ∷ seats) zero is = ap Some (by x (ap (λ (o : Option SeatHolder). unwrap_or o (renewed x)) is))
   where
-    by : (y : Seat) → renewed y ≡ Nameless → y ≡ Nameless
+    by : (y : SeatHolder) → renewed y ≡ Nameless → y ≡ Nameless
     by Void is = absurd cc
     by Free is = absurd cc
     by Nameless is = refl

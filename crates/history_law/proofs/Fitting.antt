@@ -4,7 +4,7 @@ use Rattle.std.specs.Prelude.{IfSome, Option, true, false, Some, None, slice_get
 use Rattle.std.proofs.lemmas.Option.{same_Some}
 use Rattle.word_core.specs.Events.{Called}
 use Rattle.live_core.specs.declared.call.Ran.{Ran}
-use Rattle.guest_core.specs.declared.seats.Seat.TheVariants.{Nameless}
+use Rattle.guest_core.specs.declared.seats.SeatHolder.TheVariants.{Nameless}
 use Rattle.guest_core.specs.Guests.{Guests}
 use Rattle.hosted_core.specs.Scene.{Scene, with_guests, told_of}
 use Rattle.session_text.specs.Lines.{ended_text}

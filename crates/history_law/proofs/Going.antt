@@ -10,8 +10,8 @@ use Rattle.live_core.specs.declared.call.Ran.{Ran}
 use Rattle.live_core.specs.Hall.{Every}
 use Rattle.guest_core.specs.declared.guests.Entered.{Entered}
 use Rattle.guest_core.specs.declared.guests.EnterFault.{EnterFault}
-use Rattle.guest_core.specs.declared.seats.Seat.{Seat}
-use Rattle.guest_core.specs.declared.seats.Seat.TheVariants.{Void, Free, Nameless, Named, Retired}
+use Rattle.guest_core.specs.declared.seats.SeatHolder.{SeatHolder}
+use Rattle.guest_core.specs.declared.seats.SeatHolder.TheVariants.{Void, Free, Nameless, Named, Retired}
 use Rattle.audit_core.specs.Steps.{Step, ran, named}
 use Rattle.hosted_core.specs.Scene.{Scene, told_of}
 use Rattle.hosted_core.specs.Steps as hosted
@@ -38,7 +38,7 @@ entered_more name (Ok a) steps = by a.is_new
     by false = refl
 entered_more name (Err fault) steps = refl
 
-cancelled_more : (seat : Option Seat) (c : Called) (steps : List Step) → with_cancelled seat c steps ≡ with_cancelled seat c [] ++ steps
+cancelled_more : (seat : Option SeatHolder) (c : Called) (steps : List Step) → with_cancelled seat c steps ≡ with_cancelled seat c [] ++ steps
 cancelled_more (Some (Named place)) c steps = refl
 cancelled_more (Some Void) c steps = refl
 cancelled_more (Some Free) c steps = refl

@@ -10,9 +10,9 @@ use Rattle.guest_core.specs.declared.guests.Entered.{Entered}
 use Rattle.guest_core.specs.declared.guests.EnterFault.{EnterFault}
 use Rattle.guest_core.specs.declared.guests.EnterFault.TheVariants.{InUse, Full, Memory}
 use Rattle.guest_core.specs.declared.kept.Asked.{Asked}
-use Rattle.guest_core.specs.declared.kept.Kept.{Kept}
-use Rattle.guest_core.specs.declared.seats.Seat.{Seat}
-use Rattle.guest_core.specs.declared.seats.Seat.TheVariants.{Free, Nameless, Named}
+use Rattle.guest_core.specs.declared.kept.RememberedCall.{RememberedCall}
+use Rattle.guest_core.specs.declared.seats.SeatHolder.{SeatHolder}
+use Rattle.guest_core.specs.declared.seats.SeatHolder.TheVariants.{Free, Nameless, Named}
 use Rattle.guest_core.specs.Entering.{Enters, Leaves}
 use Rattle.guest_core.specs.Guests.{Guests, IsNamed, with_away, with_guest, with_other, with_keys, with_seat, guest_of}
 use Rattle.guest_core.specs.Keys.{Keys, Ends}
@@ -44,7 +44,7 @@ away_set f told v new p g away h there is =
     subst (HaveKeys f told) (sym is)
     (keys_alike f told v (with_away v p g away) h (sound_changed v p g now h.sound there refl refl) (like_set v p g now (slice_set v.guests p now) there refl refl refl refl))
 
-seat_set : (f : Opening) (told : Events) (v new : Guests) (session : ℕ) (seat : Seat) → HaveKeys f told v → ((p : ℕ) → slice_get v.seats session ≢ Some (Named p)) → ((p : ℕ) → seat ≢ Named p) →
+seat_set : (f : Opening) (told : Events) (v new : Guests) (session : ℕ) (seat : SeatHolder) → HaveKeys f told v → ((p : ℕ) → slice_get v.seats session ≢ Some (Named p)) → ((p : ℕ) → seat ≢ Named p) →
     new ≡ with_seat v session seat → HaveKeys f told new
 seat_set f told v new session seat h unnamed other is =
     subst (HaveKeys f told) (sym is) (keys_alike f told v (with_seat v session seat) h (sound_seat v session seat h.sound unnamed other) (like_same v (with_seat v session seat) refl))
@@ -59,7 +59,7 @@ not_nameless p is = cc
 ends_keeps : (f : Opening) (told : Events) (v new : Guests) (p number : ℕ) (g : Guest) (reply : Option Reply) (so : Bool) (keys : Keys) → HaveKeys f told v → slice_get v.guests p ≡ Some g →
     Ends g.keys number reply so keys → new ≡ with_keys v p g keys → HaveKeys f (ended_as g g.keys.asked number reply ++ told) new
 ends_keeps f told v new p number g reply true keys h there (a, waits, end) is =
-    let c : Kept = record { asked = a; told = number; reply = reply } in
+    let c : RememberedCall = record { asked = a; told = number; reply = reply } in
     subst (λ (x : Option Asked). HaveKeys f (ended_as g x number reply ++ told) new) (sym waits)
     (subst (HaveKeys f (call_ended (record { name = g.name; key = g.keys.next; call = c }) ∷ told)) (sym (is ∙ ap (with_keys v p g) end)) (keys_call f told v p g c h there))
 ends_keeps f told v new p number g reply false keys h there (none, same) is =
@@ -171,7 +171,7 @@ read_have_keys o e earlier v are same sound =
       kept = λ p g key k c is has.
           let stands = repeats_stand o e earlier are p g key k c.asked (there p g is) (c, has, refl) in
           let one : stands.0 ≡ c = ap (λ x. unwrap_or x c) (sym stands.1 ∙ has.there) in
-          subst (λ (x : Kept). IsKnown (all_told o e earlier) (oldest o e earlier).is.front g.name key x) one stands.3;
+          subst (λ (x : RememberedCall). IsKnown (all_told o e earlier) (oldest o e earlier).is.front g.name key x) one stands.3;
     }
 
 pub repeat_is_the_call : RepeatIsTheCall

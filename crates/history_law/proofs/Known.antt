@@ -12,7 +12,7 @@ use Rattle.live_core.specs.Hall.{Every, Hall, Told, IsHeld}
 use Rattle.live_core.specs.Settles.{Settles, with_all}
 use Rattle.live_core.specs.Settles.Settles.{rests, runs}
 use Rattle.guest_core.specs.declared.guest.Guest.{Guest}
-use Rattle.guest_core.specs.declared.seats.Seat.{Seat}
+use Rattle.guest_core.specs.declared.seats.SeatHolder.{SeatHolder}
 use Rattle.guest_core.specs.Guests.{Guests, IsNamed, IsSound, SomebodyHas, with_keys}
 use Rattle.guest_core.specs.Keys.{Keys, asks}
 use Rattle.guest_core.specs.Steps.{AtName}
@@ -74,10 +74,10 @@ alike_at v w session K new sound at a = elim (whose w session sound) [
 
 -- who is here is here still
 pub here_alike : (Is : List ℕ → Type 0) (old new : Guests) (s : ℕ) → Alike old new → ClientHas (IsHere Is) old s → ClientHas (IsHere Is) new s
-here_alike Is old new s a (inl is) = inl (ap (λ (l : List Seat). slice_get l s) a.seats ∙ is)
+here_alike Is old new s a (inl is) = inl (ap (λ (l : List SeatHolder). slice_get l s) a.seats ∙ is)
 here_alike Is old new s a (inr (p, g, is, here)) =
     let now = a.forth p g is.there in
-    inr (p, now.0, record { seat = ap (λ (l : List Seat). slice_get l s) a.seats ∙ is.seat; there = now.1 }, (now.2 ∙ here.0, subst Is (sym now.3) here.1))
+    inr (p, now.0, record { seat = ap (λ (l : List SeatHolder). slice_get l s) a.seats ∙ is.seat; there = now.1 }, (now.2 ∙ here.0, subst Is (sym now.3) here.1))
 
 -- calls stand apart without one of them
 apart_without : (front behind : List Called) (x : Called) → Apart (front ++ x ∷ behind) → Apart (front ++ behind) × ((c : Called) → IsIn c (front ++ behind) → c.session ≢ x.session)
@@ -147,7 +147,7 @@ module _ (claim : Claim) where
       named : (p : ℕ) (g : Guest) → IsNamed v c.session p g → (h : Guest) × IsNamed began c.session p h × (h.name ≡ g.name)
       named p g is =
           let was = a.back p g is.there in
-          (was.0, record { seat = ap (λ (l : List Seat). slice_get l c.session) (sym a.seats) ∙ is.seat; there = was.1 }, was.2)
+          (was.0, record { seat = ap (λ (l : List SeatHolder). slice_get l c.session) (sym a.seats) ∙ is.seat; there = was.1 }, was.2)
 
   -- calls ran, and these are left
   pub record HaveSettled (began : Guests) (s : Scene) (v : Guests) (all : List Ran) (new : Guests) (are : AreRemembered s v all new) (left : List Called) : Type 0 where

@@ -7,9 +7,9 @@ use Rattle.live_core.specs.declared.front.NamedClient.{NamedClient}
 use Rattle.live_core.specs.declared.front.KeptCall.{KeptCall}
 use Rattle.live_core.specs.Front.{Opening}
 use Rattle.guest_core.specs.declared.guest.Guest.{Guest}
-use Rattle.guest_core.specs.declared.kept.Kept.{Kept}
-use Rattle.guest_core.specs.declared.seats.Seat.{Seat}
-use Rattle.guest_core.specs.declared.seats.Seat.TheVariants.{Free, Named}
+use Rattle.guest_core.specs.declared.kept.RememberedCall.{RememberedCall}
+use Rattle.guest_core.specs.declared.seats.SeatHolder.{SeatHolder}
+use Rattle.guest_core.specs.declared.seats.SeatHolder.TheVariants.{Free, Named}
 use Rattle.guest_core.specs.Guests.{Guests, IsSound}
 use Rattle.guest_core.proofs.Items.{get_front, get_last}
 use Rattle.guest_core.proofs.Sound.{sound_new}
@@ -40,7 +40,7 @@ AreFrom (c ∷ clients) kept [] = ⊥
 AreFrom (c ∷ clients) kept (g ∷ guests) =
     (mine : List KeptCall) × (more : List KeptCall) × (kept ≡ mine ++ more) × IsFrom g c mine × AreApart c.session clients × AreFrom clients more guests
 
-free_named : (p : ℕ) → ◌≡◌ {A = Option Seat} (Some Free) (Some (Named p)) → ⊥
+free_named : (p : ℕ) → ◌≡◌ {A = Option SeatHolder} (Some Free) (Some (Named p)) → ⊥
 free_named p is = cc
 
 -- a session that a client has is given to none that comes
@@ -68,19 +68,19 @@ are_from now old (c ∷ clients) kept new sound (mine, more, mid, cut, opens, re
 
 -- lines that are the same calls
 
-same_call : (k : KeptCall) (c : Kept) → IsSameCall k c → c ≡ call_from k
+same_call : (k : KeptCall) (c : RememberedCall) → IsSameCall k c → c ≡ call_from k
 same_call k c is =
     sym
     (ap (λ a. kept_of a k.told (reply_in k.answer)) is.asked
     ∙ ap (λ n. kept_of c.asked n (reply_in k.answer)) is.told
     ∙ ap (λ r. kept_of c.asked c.told r) is.reply)
 
-same_calls : (client : NamedClient) (mine : List KeptCall) (calls : List Kept) → AreLinesFor client mine calls → calls ≡ kept_from mine
+same_calls : (client : NamedClient) (mine : List KeptCall) (calls : List RememberedCall) → AreLinesFor client mine calls → calls ≡ kept_from mine
 same_calls client [] calls same = same
 same_calls client (k ∷ mine) calls (others, last, cut, one, same) =
     cut ∙ ap (λ l. l ++ last ∷ []) (same_calls client mine others same) ∙ ap (λ c. kept_from mine ++ c ∷ []) (same_call k last one.same)
 
-lines_of_session : (client : NamedClient) (mine : List KeptCall) (calls : List Kept) → AreLinesFor client mine calls → AreOfSession client.session mine
+lines_of_session : (client : NamedClient) (mine : List KeptCall) (calls : List RememberedCall) → AreLinesFor client mine calls → AreOfSession client.session mine
 lines_of_session client [] calls same = tt
 lines_of_session client (k ∷ mine) calls (others, last, cut, one, same) = (one.session, lines_of_session client mine others same)
 
@@ -144,7 +144,7 @@ was_more v c clients g is = record {
   among = record { place = suc is.among.place; there = is.among.there; is_named = is.among.is_named };
 }
 
-was_first : (v : Guests) (x : Guest) (c : NamedClient) (clients : List NamedClient) (mine own : List KeptCall) (calls : List Kept) → IsKnown v c calls → AreLinesFor c mine calls → IsFrom x c own → own ≡ mine → WasSo v (c ∷ clients) x
+was_first : (v : Guests) (x : Guest) (c : NamedClient) (clients : List NamedClient) (mine own : List KeptCall) (calls : List RememberedCall) → IsKnown v c calls → AreLinesFor c mine calls → IsFrom x c own → own ≡ mine → WasSo v (c ∷ clients) x
 was_first v x c clients mine own calls known same from is = record {
   place = known.place;
   guest = known.guest;
@@ -157,7 +157,7 @@ was_first v x c clients mine own calls known same from is = record {
 }
 
 -- the lines of the first client, and the others
-parts_of : (v : Guests) (x : Guest) (c : NamedClient) (clients : List NamedClient) (mine more own others : List KeptCall) (calls : List Kept) (guests : List Guest) → AreLinesFor c mine calls → AreKnown v clients more
+parts_of : (v : Guests) (x : Guest) (c : NamedClient) (clients : List NamedClient) (mine more own others : List KeptCall) (calls : List RememberedCall) (guests : List Guest) → AreLinesFor c mine calls → AreKnown v clients more
     → IsFrom x c own → AreApart c.session clients → AreFrom clients others guests → own ++ others ≡ mine ++ more → (own ≡ mine) × (others ≡ more)
 parts_of v x c clients mine more own others calls guests same rest from apart rest_own is =
     split_same c.session own mine others more is from.of (lines_of_session c mine calls same) (others_from c.session clients others guests apart rest_own)

@@ -20,7 +20,7 @@ use Rattle.session_text.specs.declared.line.ReplyLine.{ReplyLine as Answer}
 use Rattle.session_text.specs.Lines.{accepted_text, bye_text, line_text, opened_text, repeated_text}
 use Rattle.live_core.specs.Answers.{asked as asked_call}
 use Rattle.live_core.specs.Lines.{all_lines}
-use Rattle.guest_core.specs.declared.seats.Seat.TheVariants.{Nameless}
+use Rattle.guest_core.specs.declared.seats.SeatHolder.TheVariants.{Nameless}
 use Rattle.guest_core.specs.Guests.{Guests, with_seat}
 use Rattle.hosted_core.specs.declared.hosted.KeyState.{KeyState}
 use Rattle.hosted_core.specs.declared.hosted.KeyState.TheVariants as keys

@@ -11,7 +11,7 @@ use Rattle.decl_core.specs.ObjectMap.{object_of}
 use Rattle.live_core.specs.declared.call.Ran.{Ran}
 use Rattle.live_core.specs.declared.live.Taken.{Taken}
 use Rattle.live_core.specs.Lines.{all_lines}
-use Rattle.guest_core.specs.declared.seats.Seat.TheVariants.{Nameless}
+use Rattle.guest_core.specs.declared.seats.SeatHolder.TheVariants.{Nameless}
 use Rattle.guest_core.specs.Guests.{with_seat}
 use Rattle.hosted_core.specs.Calls.{Does}
 use Rattle.hosted_core.specs.Lines.{entered_lines}

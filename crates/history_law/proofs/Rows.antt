@@ -15,8 +15,8 @@ use Rattle.live_core.specs.declared.past.PastRun.{PastRun}
 use Rattle.live_core.specs.declared.past.PastRun.TheVariants.{Calls, Begins, Ends}
 use Rattle.live_core.specs.Front.{Every, HasRows, IsAnswer, IsCarried, IsClient, IsKept, IsLong, IsOperation, IsRun, IsSession}
 use Rattle.guest_core.specs.declared.guest.Guest.{Guest}
-use Rattle.guest_core.specs.declared.kept.Kept.{Kept}
-use Rattle.guest_core.specs.declared.seats.Seat.TheVariants.{Named, Void}
+use Rattle.guest_core.specs.declared.kept.RememberedCall.{RememberedCall}
+use Rattle.guest_core.specs.declared.seats.SeatHolder.TheVariants.{Named, Void}
 use Rattle.guest_core.specs.Guests.{Guests}
 use Rattle.audit_core.specs.Steps.{Begun, Heard, Step}
 use Rattle.hosted_core.specs.Fits.{CallFits, GuestFits, ReplyFits, RunFits}
@@ -91,7 +91,7 @@ answer_says (Some (Done (Some d))) fits worded = fits
 answer_says (Some (Refused word)) fits worded = worded word refl
 answer_says (Some (Failed failure)) fits worded = tt
 
-kept_below_say : (o : ObjectForm) (session next : ℕ) (ks : List Kept) → IsNamed o → IsSession session → IsLong next → length ks < next → Every (KeptWell o) ks → Every CallFits ks →
+kept_below_say : (o : ObjectForm) (session next : ℕ) (ks : List RememberedCall) → IsNamed o → IsSession session → IsLong next → length ks < next → Every (KeptWell o) ks → Every CallFits ks →
     Every (IsKept o) (kept_below session next ks)
 kept_below_say o session next [] names is long counted well fit = tt
 kept_below_say o session next (k ∷ ks) names is long counted well fit =

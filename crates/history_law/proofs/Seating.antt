@@ -5,8 +5,8 @@ use Rattle.guest_core.specs.declared.guest.Guest.{Guest}
 use Rattle.guest_core.specs.declared.guests.Entered.{Entered}
 use Rattle.guest_core.specs.declared.guests.EnterFault.{EnterFault}
 use Rattle.guest_core.specs.declared.guests.EnterFault.TheVariants.{InUse, Full, Memory}
-use Rattle.guest_core.specs.declared.seats.Seat.{Seat}
-use Rattle.guest_core.specs.declared.seats.Seat.TheVariants.{Void, Free, Nameless, Named, Retired}
+use Rattle.guest_core.specs.declared.seats.SeatHolder.{SeatHolder}
+use Rattle.guest_core.specs.declared.seats.SeatHolder.TheVariants.{Void, Free, Nameless, Named, Retired}
 use Rattle.guest_core.specs.Entering.{Enters, Admits, Leaves}
 use Rattle.guest_core.specs.Guests.{Guests, IsNamed, IsSound, IsUnknown, HasNoName, guest_of, with_seat, with_guest, with_other}
 use Rattle.guest_core.specs.Keys.{Keys}
@@ -22,11 +22,11 @@ use Rattle.hosted_core.specs.Scene.{Scene}
 use Rattle.history_law.specs.Stands.{AreSeated}
 
 -- a number other than 0 changes
-nobody_set : (seats : List Seat) (k : ℕ) (x : Seat) → slice_get seats 0 ≡ Some Void → (k ≡ 0 → ⊥) → slice_get (slice_set seats k x) 0 ≡ Some Void
+nobody_set : (seats : List SeatHolder) (k : ℕ) (x : SeatHolder) → slice_get seats 0 ≡ Some Void → (k ≡ 0 → ⊥) → slice_get (slice_set seats k x) 0 ≡ Some Void
 nobody_set seats k x nobody some = get_there seats k x 0 (λ same. some (sym same)) ∙ nobody
 
 -- what is another seat than that of 0 has another number
-pub not_0 : (seats : List Seat) (k : ℕ) (seat : Seat) → slice_get seats 0 ≡ Some Void → slice_get seats k ≡ Some seat → (seat ≡ Void → ⊥) → k ≡ 0 → ⊥
+pub not_0 : (seats : List SeatHolder) (k : ℕ) (seat : SeatHolder) → slice_get seats 0 ≡ Some Void → slice_get seats k ≡ Some seat → (seat ≡ Void → ⊥) → k ≡ 0 → ⊥
 not_0 seats k seat nobody is other none = other (one_item seats 0 seat Void (subst (λ n. slice_get seats n ≡ Some seat) none is) nobody)
 
 length_set : {X : Type 0} (xs : List X) (k : ℕ) (x : X) → length (slice_set xs k x) ≡ length xs
@@ -50,7 +50,7 @@ pub nameless_named : (p : ℕ) → Nameless ≡ Named p → ⊥
 nameless_named p is = cc
 
 -- a session that nobody with a name has, and that is not 0, changes
-seat_changed : (v : Guests) (s : ℕ) (seat : Seat) → AreSeated v → ((p : ℕ) → slice_get v.seats s ≢ Some (Named p)) → ((p : ℕ) → seat ≢ Named p) → (s ≡ 0 → ⊥) → AreSeated (with_seat v s seat)
+seat_changed : (v : Guests) (s : ℕ) (seat : SeatHolder) → AreSeated v → ((p : ℕ) → slice_get v.seats s ≢ Some (Named p)) → ((p : ℕ) → seat ≢ Named p) → (s ≡ 0 → ⊥) → AreSeated (with_seat v s seat)
 seat_changed v s seat seated unnamed other some = record {
   sound = sound_seat v s seat seated.sound unnamed other;
   nobody = nobody_set v.seats s seat seated.nobody some;
@@ -115,19 +115,19 @@ void_named p is = cc
 pub retired_named : (p : ℕ) → Retired ≡ Named p → ⊥
 retired_named p is = cc
 
-some_seat : (x y : Seat) → ◌≡◌ {A = Option Seat} (Some x) (Some y) → x ≡ y
+some_seat : (x y : SeatHolder) → ◌≡◌ {A = Option SeatHolder} (Some x) (Some y) → x ≡ y
 some_seat x y is = cc
 
-pub no_seat : (x : Seat) → ◌≡◌ {A = Option Seat} None (Some x) → ⊥
+pub no_seat : (x : SeatHolder) → ◌≡◌ {A = Option SeatHolder} None (Some x) → ⊥
 no_seat x is = cc
 
-pub unnamed_by : (v : Guests) (session : ℕ) (seat : Seat) → slice_get v.seats session ≡ Some seat → ((p : ℕ) → seat ≡ Named p → ⊥) → HasNoName v session
+pub unnamed_by : (v : Guests) (session : ℕ) (seat : SeatHolder) → slice_get v.seats session ≡ Some seat → ((p : ℕ) → seat ≡ Named p → ⊥) → HasNoName v session
 unnamed_by v session seat is other p same = other p (some_seat seat (Named p) (sym is ∙ same))
 
 pub named_at : (v : Guests) (session p : ℕ) → IsSound v → slice_get v.seats session ≡ Some (Named p) → (g : Guest) × IsNamed v session p g
 named_at v session p sound is = let h = sound.named session p is in (h.0, record { seat = is; there = h.1 })
 
-pub named_or : (v : Guests) (session : ℕ) (seat : Option Seat) → slice_get v.seats session ≡ seat → IsSound v → ((p : ℕ) × (g : Guest) × IsNamed v session p g) ⊎ HasNoName v session
+pub named_or : (v : Guests) (session : ℕ) (seat : Option SeatHolder) → slice_get v.seats session ≡ seat → IsSound v → ((p : ℕ) × (g : Guest) × IsNamed v session p g) ⊎ HasNoName v session
 named_or v session (Some (Named p)) is sound = let h = named_at v session p sound is in inl (p, h.0, h.1)
 named_or v session (Some Void) is sound = inr (unnamed_by v session Void is void_named)
 named_or v session (Some Free) is sound = inr (unnamed_by v session Free is free_named)
@@ -150,11 +150,11 @@ seated_remembered s old (r ∷ all) new (mid, one, more) seated = seated_remembe
 
 -- in the next epoch the numbers of forgotten names are free
 
-void_renewed : (seats : List Seat) → slice_get seats 0 ≡ Some Void → slice_get (map renewed seats) 0 ≡ Some Void
+void_renewed : (seats : List SeatHolder) → slice_get seats 0 ≡ Some Void → slice_get (map renewed seats) 0 ≡ Some Void
 void_renewed [] is = absurd cc
 void_renewed (x ∷ seats) is = ap (λ o. Some (renewed (unwrap_or o x))) is
 
-length_renewed : (seats : List Seat) → length (map renewed seats) ≡ length seats
+length_renewed : (seats : List SeatHolder) → length (map renewed seats) ≡ length seats
 length_renewed [] = refl
 length_renewed (x ∷ seats) = ap suc (length_renewed seats)
 

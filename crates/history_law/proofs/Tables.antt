@@ -8,9 +8,9 @@ use Rattle.live_core.specs.declared.front.KeptCall.{KeptCall}
 use Rattle.live_core.specs.Front.{Opening}
 use Rattle.guest_core.specs.declared.guest.Guest.{Guest}
 use Rattle.guest_core.specs.declared.kept.Asked.{Asked}
-use Rattle.guest_core.specs.declared.kept.Kept.{Kept}
-use Rattle.guest_core.specs.declared.seats.Seat.{Seat}
-use Rattle.guest_core.specs.declared.seats.Seat.TheVariants.{Void, Free, Nameless, Named, Retired}
+use Rattle.guest_core.specs.declared.kept.RememberedCall.{RememberedCall}
+use Rattle.guest_core.specs.declared.seats.SeatHolder.{SeatHolder}
+use Rattle.guest_core.specs.declared.seats.SeatHolder.TheVariants.{Void, Free, Nameless, Named, Retired}
 use Rattle.guest_core.specs.Guests.{Guests, IsNamed, IsSound, HasNoName, with_keys, with_guest, guest_of}
 use Rattle.guest_core.specs.Keys.{Keys, HasKey, Asks, Ends, fresh_keys, remembered, asks}
 use Rattle.guest_core.specs.Entering.{Admits}
@@ -43,7 +43,7 @@ set_last (z ∷ xs) x y = ap (λ l. z ∷ l) (set_last xs x y)
 
 -- what is kept of the calls of a client
 abbrev pub Keeps : Opening → Events → List ℕ → Keys → Type 0
-Keeps f told name w = (key k : ℕ) (c : Kept) → HasKey w key k c → IsRemembered told f name key c
+Keeps f told name w = (key k : ℕ) (c : RememberedCall) → HasKey w key k c → IsRemembered told f name key c
 
 -- Behind a front: what was told so far, and the clients now: each call had the next key of its name, and so has the next
 -- call of each; and what is kept was told.
@@ -68,14 +68,14 @@ get_taken (suc n) zero (y ∷ xs) x is = is
 get_taken (suc n) (suc k) (y ∷ xs) x is = get_taken n k xs x is
 
 -- one of the last calls with one call more: that one, or one of those before
-abbrev OneMore : Keys → Kept → ℕ → Kept → Type 0
+abbrev OneMore : Keys → RememberedCall → ℕ → RememberedCall → Type 0
 OneMore w d key c = ((key ≡ w.next) × (d ≡ c)) ⊎ ((k : ℕ) × HasKey w key k c)
 
-one_more : (w : Keys) (d : Kept) (key k : ℕ) (c : Kept) → HasKey (remembered w d) key k c → OneMore w d key c
+one_more : (w : Keys) (d : RememberedCall) (key k : ℕ) (c : RememberedCall) → HasKey (remembered w d) key k c → OneMore w d key c
 one_more w d key zero c has = let is : key + 0 + 1 ≡ w.next + 1 = has.key_is in inl (omega (arith, is), ap (λ o. unwrap_or o d) has.there)
 one_more w d key (suc k) c has = let is : key + suc k + 1 ≡ w.next + 1 = has.key_is in inr (k, record { there = get_taken 15 k w.kept c has.there; key_is = omega (arith, is) })
 
-keeps_call : (f : Opening) (told : Events) (g : Guest) (d : Kept) → Keeps f told g.name g.keys → Keeps f (call_ended (record { name = g.name; key = g.keys.next; call = d }) ∷ told) g.name (remembered g.keys d)
+keeps_call : (f : Opening) (told : Events) (g : Guest) (d : RememberedCall) → Keeps f told g.name g.keys → Keeps f (call_ended (record { name = g.name; key = g.keys.next; call = d }) ∷ told) g.name (remembered g.keys d)
 keeps_call f told g d keeps key k c has = elim (one_more g.keys d key k c has) [
   | inl own ↦ inl (record {
     newer = [];
@@ -86,7 +86,7 @@ keeps_call f told g d keeps key k c has = elim (one_more g.keys d key k c has) [
   | inr old ↦ keeps_on f (call_ended (record { name = g.name; key = g.keys.next; call = d })) told g.name g.keys (λ newer stays. stays) keeps key old.0 c old.1
 ]
 
-no_kept : (first key k : ℕ) (c : Kept) → HasKey (fresh_keys first) key k c → ⊥
+no_kept : (first key k : ℕ) (c : RememberedCall) → HasKey (fresh_keys first) key k c → ⊥
 no_kept first key k c has = let is = has.there in cc
 
 -- a session is that of a client with a name, or of none
@@ -96,7 +96,7 @@ Whose v session = ((p : ℕ) × (g : Guest) × IsNamed v session p g × (client_
 pub whose : (v : Guests) (session : ℕ) → IsSound v → Whose v session
 whose v session sound = by (slice_get v.seats session) refl
   where
-    by : (seat : Option Seat) → slice_get v.seats session ≡ seat → Whose v session
+    by : (seat : Option SeatHolder) → slice_get v.seats session ≡ seat → Whose v session
     by (Some (Named p)) is = let known = sound.named session p is in inl (p, known.0, record { seat = is; there = known.1 }, ap (client_at v) is ∙ known.1)
     by None is = inr (λ p at. let e : None ≡ Some (Named p) = sym is ∙ at in cc, ap (client_at v) is)
     by (Some Void) is = inr (λ p at. let e : Some Void ≡ Some (Named p) = sym is ∙ at in cc, ap (client_at v) is)
@@ -106,7 +106,7 @@ whose v session sound = by (slice_get v.seats session) refl
 
 -- a call that was asked and ended
 
-abbrev pub kept_of : Asked → ℕ → Option Reply → Kept
+abbrev pub kept_of : Asked → ℕ → Option Reply → RememberedCall
 kept_of a told reply = record { asked = a; told = told; reply = reply }
 
 ends_so : (old keys new : Keys) (a : Asked) (told : ℕ) (reply : Option Reply) (so : Bool) → Asks old a (Ok tt) keys → Ends keys told reply so new → new ≡ remembered old (kept_of a told reply)
@@ -137,7 +137,7 @@ one_call : (c d : KeyedCall) → call_ended c ≡ call_ended d → c ≡ d
 one_call c d is = cc
 
 -- a call of a client ended
-holds_call : (f : Opening) (told : Events) (v new : Guests) (session p : ℕ) (g : Guest) (c : Kept) → Holds f told v → IsNamed v session p g → new ≡ with_keys v p g (remembered g.keys c)
+holds_call : (f : Opening) (told : Events) (v new : Guests) (session p : ℕ) (g : Guest) (c : RememberedCall) → Holds f told v → IsNamed v session p g → new ≡ with_keys v p g (remembered g.keys c)
     → Holds f (call_ended (record { name = g.name; key = g.keys.next; call = c }) ∷ told) new
 holds_call f told v new session p g c holds by is =
     let call : KeyedCall = record { name = g.name; key = g.keys.next; call = c } in
@@ -269,7 +269,7 @@ client_by (g ∷ guests) (d ∷ clients) (suc p) c all is = client_by guests cli
 
 -- what is kept of a client stands in lines
 abbrev HasLines : List NamedClient → List KeptCall → Guest → Type 0
-HasLines clients kept g = (key k : ℕ) (c : Kept) → HasKey g.keys key k c → IsKeptLine clients kept g.name key c
+HasLines clients kept g = (key k : ℕ) (c : RememberedCall) → HasKey g.keys key k c → IsKeptLine clients kept g.name key c
 
 -- the clients are those of these lines, in their order, each with its kept calls
 record AreOpened (clients : List NamedClient) (kept : List KeptCall) (v : Guests) : Type 0 where
@@ -297,7 +297,7 @@ lines_more clients more kept others g lines key k c has =
 
 -- the kept calls of one client
 
-pub record InLines (session : ℕ) (kept : List KeptCall) (key : ℕ) (c : Kept) : Type 0 where
+pub record InLines (session : ℕ) (kept : List KeptCall) (key : ℕ) (c : RememberedCall) : Type 0 where
   pub line : KeptCall
   pub place : ℕ
   pub there : slice_get kept place ≡ Some line
@@ -306,10 +306,10 @@ pub record InLines (session : ℕ) (kept : List KeptCall) (key : ℕ) (c : Kept)
   pub same : IsSameCall line c
 
 -- what lines say of calls, the newest first
-abbrev pub call_from : KeptCall → Kept
+abbrev pub call_from : KeptCall → RememberedCall
 call_from line = kept_of (asks line.operation line.arguments) line.told (reply_in line.answer)
 
-abbrev pub kept_from : List KeptCall → List Kept
+abbrev pub kept_from : List KeptCall → List RememberedCall
 kept_from [] = []
 kept_from (line ∷ kept) = kept_from kept ++ call_from line ∷ []
 
@@ -325,7 +325,7 @@ record Recalled (session : ℕ) (v : Guests) (p : ℕ) (g : Guest) (kept : List 
   pub same_name : guest.name ≡ g.name
   pub same_session : guest.session ≡ g.session
   pub counted : guest.keys.next ≡ g.keys.next + length kept
-  pub lines : (key k : ℕ) (c : Kept) → HasKey guest.keys key k c → ((j : ℕ) × HasKey g.keys key j c) ⊎ InLines session kept key c
+  pub lines : (key k : ℕ) (c : RememberedCall) → HasKey guest.keys key k c → ((j : ℕ) × HasKey g.keys key j c) ⊎ InLines session kept key c
   pub all_kept : length g.keys.kept + length kept ≤ 16 → guest.keys.kept ≡ kept_from kept ++ g.keys.kept
 
 -- the next key of a client is that of the line
@@ -398,7 +398,7 @@ pub record CameWith (old : Guests) (c : NamedClient) (mine : List KeptCall) (new
   pub same_session : guest.session ≡ c.session
   pub free : slice_get old.seats c.session ≡ Some Free
   pub next_is : guest.keys.next ≡ c.keys + 1
-  pub lines : (key k : ℕ) (d : Kept) → HasKey guest.keys key k d → InLines c.session mine key d
+  pub lines : (key k : ℕ) (d : RememberedCall) → HasKey guest.keys key k d → InLines c.session mine key d
   pub kept_is : guest.keys.kept ≡ kept_from mine
   pub of : AreOfSession c.session mine
 
@@ -508,7 +508,7 @@ pub keeps_lines : (f : Opening) (told : Events) (h : House) (v : Guests) → Ope
 keeps_lines f told h v opens p g there key k c has = inr ((opens_all h.now (nobody h) f.clients f.kept v [] [] (nobody_yet h) opens).lines p g there key k c has)
 
 -- a client of a front was known
-pub was_known : (v : Guests) (clients : List NamedClient) (kept : List KeptCall) (p : ℕ) (c : NamedClient) → AreKnown v clients kept → slice_get clients p ≡ Some c → (calls : List Kept) × IsKnown v c calls
+pub was_known : (v : Guests) (clients : List NamedClient) (kept : List KeptCall) (p : ℕ) (c : NamedClient) → AreKnown v clients kept → slice_get clients p ≡ Some c → (calls : List RememberedCall) × IsKnown v c calls
 was_known v [] kept p c are is = absurd cc
 was_known v (d ∷ clients) kept zero c (mine, more, calls, cut, known, same, rest) is = (calls, subst (λ x. IsKnown v x calls) (ap (λ o. unwrap_or o d) is) known)
 was_known v (d ∷ clients) kept (suc p) c (mine, more, calls, cut, known, same, rest) is = was_known v clients more p c rest is

@@ -7,8 +7,8 @@ use Rattle.guest_core.specs.declared.guest.Guest.{Guest}
 use Rattle.guest_core.specs.declared.guests.Entered.{Entered}
 use Rattle.guest_core.specs.declared.guests.EnterFault.{EnterFault}
 use Rattle.guest_core.specs.declared.kept.Asked.{Asked as Call}
-use Rattle.guest_core.specs.declared.seats.Seat.{Seat}
-use Rattle.guest_core.specs.declared.seats.Seat.TheVariants.{Void, Free, Nameless, Named, Retired}
+use Rattle.guest_core.specs.declared.seats.SeatHolder.{SeatHolder}
+use Rattle.guest_core.specs.declared.seats.SeatHolder.TheVariants.{Void, Free, Nameless, Named, Retired}
 use Rattle.guest_core.specs.Guests.{Guests, IsNamed}
 use Rattle.guest_core.specs.Keys.{asks}
 use Rattle.audit_core.specs.Steps.{Step, ran}
@@ -56,7 +56,7 @@ each_map P Q (name_came name ∷ told) f each = each_map P Q told f each
 each_map P Q (call_ended k ∷ told) f each = (f k each.0, each_map P Q told f each.1)
 
 -- the client of a session
-named_by : (v : Guests) (session : ℕ) (seat : Option Seat) (g : Guest) → slice_get v.seats session ≡ seat → client_at v seat ≡ Some g → (p : ℕ) × IsNamed v session p g
+named_by : (v : Guests) (session : ℕ) (seat : Option SeatHolder) (g : Guest) → slice_get v.seats session ≡ seat → client_at v seat ≡ Some g → (p : ℕ) × IsNamed v session p g
 named_by v session (Some (Named p)) g at is = (p, record { seat = at; there = is })
 named_by v session (Some Void) g at is = absurd cc
 named_by v session (Some Free) g at is = absurd cc

@@ -8,8 +8,8 @@ use Rattle.word_core.specs.Events.{Called, Happened, ended, end_of, history_of}
 use Rattle.live_core.specs.declared.call.Ran.{Ran}
 use Rattle.guest_core.specs.declared.guests.Entered.{Entered}
 use Rattle.guest_core.specs.declared.guests.EnterFault.{EnterFault}
-use Rattle.guest_core.specs.declared.seats.Seat.{Seat}
-use Rattle.guest_core.specs.declared.seats.Seat.TheVariants.{Void, Free, Nameless, Named, Retired}
+use Rattle.guest_core.specs.declared.seats.SeatHolder.{SeatHolder}
+use Rattle.guest_core.specs.declared.seats.SeatHolder.TheVariants.{Void, Free, Nameless, Named, Retired}
 use Rattle.decl_core.specs.HoldForm.{HoldForm, RulesForm}
 use Rattle.guest_core.specs.Held.{HeldCall, AreHeld}
 use Rattle.guest_core.specs.Held.AreHeld.{at_end}
@@ -64,7 +64,7 @@ entered_none s name (Ok a) = by a.is_new
     by false = refl
 entered_none s name (Err fault) = refl
 
-cancelled_none : (s : Scene) (seat : Option Seat) (c : Called) → ends_of s (with_cancelled seat c []) ≡ []
+cancelled_none : (s : Scene) (seat : Option SeatHolder) (c : Called) → ends_of s (with_cancelled seat c []) ≡ []
 cancelled_none s (Some (Named place)) c = refl
 cancelled_none s (Some Void) c = refl
 cancelled_none s (Some Free) c = refl

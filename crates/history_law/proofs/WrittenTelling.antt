@@ -23,8 +23,8 @@ use Rattle.live_core.proofs.Joining.{joined_kept}
 use Rattle.live_core.proofs.Listing.{every_map, every_both, every_at, every_snoc, every_without}
 use Rattle.guest_core.specs.declared.guests.Entered.{Entered}
 use Rattle.guest_core.specs.declared.guests.EnterFault.{EnterFault}
-use Rattle.guest_core.specs.declared.seats.Seat.{Seat}
-use Rattle.guest_core.specs.declared.seats.Seat.TheVariants.{Void, Free, Nameless, Named, Retired}
+use Rattle.guest_core.specs.declared.seats.SeatHolder.{SeatHolder}
+use Rattle.guest_core.specs.declared.seats.SeatHolder.TheVariants.{Void, Free, Nameless, Named, Retired}
 use Rattle.guest_core.specs.Entering.{Enters}
 use Rattle.guest_core.specs.Guests.{Guests}
 use Rattle.guest_core.specs.Seats.{IsLeastFree}
@@ -289,7 +289,7 @@ module _ (o : ObjectForm) (e : Begun) where
       };
     }
 
-    by_seat : (seat : Option Seat) → slice_get old.guests.seats session ≡ seat → AreTold o e (heard_of steps) text (with_cancelled seat call steps) new
+    by_seat : (seat : Option SeatHolder) → slice_get old.guests.seats session ≡ seat → AreTold o e (heard_of steps) text (with_cancelled seat call steps) new
     by_seat (Some (Named p)) is = let h = named_at old.guests session p s.seated.sound is in told_cancel (line_is.named p h.0 h.1)
     by_seat (Some Void) is = untold_cancel (line_is.nameless (unnamed_by old.guests session Void is void_named))
     by_seat (Some Free) is = untold_cancel (line_is.nameless (unnamed_by old.guests session Free is free_named))

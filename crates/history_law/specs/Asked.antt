@@ -6,7 +6,7 @@ use Rattle.live_core.specs.declared.call.Ran.{Ran}
 use Rattle.live_core.specs.Hall.{Every, Told, IsHeld}
 use Rattle.guest_core.specs.declared.guest.Guest.{Guest}
 use Rattle.guest_core.specs.declared.kept.Asked.{Asked}
-use Rattle.guest_core.specs.declared.seats.Seat.TheVariants.{Nameless}
+use Rattle.guest_core.specs.declared.seats.SeatHolder.TheVariants.{Nameless}
 use Rattle.guest_core.specs.Guests.{Guests, IsNamed}
 use Rattle.guest_core.specs.Keys.{asks}
 use Rattle.audit_core.specs.Steps.{Step, ran}

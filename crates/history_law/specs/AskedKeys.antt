@@ -4,7 +4,7 @@ use Rattle.decl_core.specs.ObjectForm.{ObjectForm}
 use Rattle.apply_core.specs.declared.reply.Reply.{Reply}
 use Rattle.live_core.specs.Front.{Opening}
 use Rattle.guest_core.specs.declared.guest.Guest.{Guest}
-use Rattle.guest_core.specs.declared.kept.Kept.{Kept}
+use Rattle.guest_core.specs.declared.kept.RememberedCall.{RememberedCall}
 use Rattle.guest_core.specs.Keys.{HasKey}
 use Rattle.audit_core.specs.Steps.{Begun}
 use Rattle.hosted_core.specs.Scene.{Scene}
@@ -45,7 +45,7 @@ pub record IsItsCall (claims : Claims) (first last : Table) (turns : List Turn) 
       StandsIn o (all_ends o (epoch_in (h.lives j o begun earlier l).0.lived) (h.lives j o begun earlier l).0.earlier) (first_opening (epoch_in l) earlier) run.call reply
 
 -- a call of a client, under this key
-abbrev pub under : Guest → ℕ → Kept → KeyedCall
+abbrev pub under : Guest → ℕ → RememberedCall → KeyedCall
 under g key c = record { name = g.name; key = key; call = c }
 
 -- Behind turns an object has the keys of what was told of names. Each call of which these turns told that it ended under a key
@@ -55,7 +55,7 @@ pub record HasAskedKeys (claims : Claims) (first last : Table) (turns : List Tur
   pub at : HasKeysAt first last j f turns h.accounts told
   pub each : (k : KeyedCall) (reply : Reply) → WasTold at.events k → k.call.reply ≡ Some reply → IsItsCall claims first last turns h j k reply ⊎ WasTold told k
   pub known : (k : KeyedCall) → WasTold at.events k → claims.called j k.call.asked k.name k.key ⊎ WasTold told k
-  pub remembered : (place : ℕ) (g : Guest) (key n : ℕ) (c : Kept) (reply : Reply) → slice_get at.scene.guests.guests place ≡ Some g → HasKey g.keys key n c → c.reply ≡ Some reply →
+  pub remembered : (place : ℕ) (g : Guest) (key n : ℕ) (c : RememberedCall) (reply : Reply) → slice_get at.scene.guests.guests place ≡ Some g → HasKey g.keys key n c → c.reply ≡ Some reply →
       IsItsCall claims first last turns h j (under g key c) reply ⊎ (WasTold told (under g key c) ⊎ IsKeptLine f.clients f.kept g.name key c)
 
 -- So it is over all turns.

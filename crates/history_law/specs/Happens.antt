@@ -4,8 +4,8 @@ use Rattle.word_core.specs.Events.{Called}
 use Rattle.live_core.specs.declared.call.Ran.{Ran}
 use Rattle.guest_core.specs.declared.guests.Entered.{Entered}
 use Rattle.guest_core.specs.declared.guests.EnterFault.{EnterFault}
-use Rattle.guest_core.specs.declared.seats.Seat.{Seat}
-use Rattle.guest_core.specs.declared.seats.Seat.TheVariants.{Void, Free, Nameless, Named, Retired}
+use Rattle.guest_core.specs.declared.seats.SeatHolder.{SeatHolder}
+use Rattle.guest_core.specs.declared.seats.SeatHolder.TheVariants.{Void, Free, Nameless, Named, Retired}
 use Rattle.audit_core.specs.Steps.{Step, ran, cancelled, named}
 use Rattle.hosted_core.specs.Scene.{Scene}
 use Rattle.hosted_core.specs.Steps as hosted
@@ -21,7 +21,7 @@ with_entered name (Ok a) steps = if a.is_new then named a.session name ∷ steps
 with_entered name (Err fault) steps = steps
 
 -- a call that waited is cancelled: a line tells of it where its session has a name
-abbrev pub with_cancelled : Option Seat → Called → List Step → List Step
+abbrev pub with_cancelled : Option SeatHolder → Called → List Step → List Step
 with_cancelled (Some (Named place)) c steps = cancelled c ∷ steps
 with_cancelled (Some Void) c steps = steps
 with_cancelled (Some Free) c steps = steps

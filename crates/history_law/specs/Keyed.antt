@@ -8,7 +8,7 @@ use Rattle.guest_core.specs.declared.guest.Guest.{Guest}
 use Rattle.guest_core.specs.declared.guests.Entered.{Entered}
 use Rattle.guest_core.specs.declared.guests.EnterFault.{EnterFault}
 use Rattle.guest_core.specs.declared.kept.Asked.{Asked}
-use Rattle.guest_core.specs.declared.kept.Kept.{Kept}
+use Rattle.guest_core.specs.declared.kept.RememberedCall.{RememberedCall}
 use Rattle.guest_core.specs.Guests.{Guests, IsNamed, IsSound}
 use Rattle.guest_core.specs.Keys.{HasKey}
 use Rattle.hosted_core.specs.Calls.{AreRemembered, seat_of}
@@ -61,7 +61,7 @@ with_steps (hosted.goes_on first more) told = with_steps more (with_steps first 
 pub record HaveKeys (f : Opening) (told : List KeyEvent) (v : Guests) : Type 0 where
   pub sound : IsSound v
   pub keyed : AreKeyed told v
-  pub kept : (place : ℕ) (g : Guest) (key k : ℕ) (c : Kept) → slice_get v.guests place ≡ Some g → HasKey g.keys key k c →
+  pub kept : (place : ℕ) (g : Guest) (key k : ℕ) (c : RememberedCall) → slice_get v.guests place ≡ Some g → HasKey g.keys key k c →
       IsRemembered told f g.name key c
 
 -- So it is at each moment of what happens to an object with its clients.
@@ -88,7 +88,7 @@ pub record IsTheCall (f : Opening) (told : List KeyEvent) (s : Scene) (session k
   pub place : ℕ
   pub guest : Guest
   pub by : IsNamed s.guests session place guest
-  pub call : Kept
+  pub call : RememberedCall
   pub remembered : IsRemembered told f guest.name key call
   pub asked : call.asked ≡ a
   pub told_is : call.told ≡ number

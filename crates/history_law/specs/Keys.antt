@@ -11,10 +11,10 @@ use Rattle.live_core.specs.declared.front.KeptCall.{KeptCall}
 use Rattle.live_core.specs.Front.{Opening}
 use Rattle.guest_core.specs.declared.guest.Guest.{Guest}
 use Rattle.guest_core.specs.declared.kept.Asked.{Asked}
-use Rattle.guest_core.specs.declared.kept.Kept.{Kept}
+use Rattle.guest_core.specs.declared.kept.RememberedCall.{RememberedCall}
 use Rattle.guest_core.specs.declared.keys.Judged.TheVariants.{Repeat}
-use Rattle.guest_core.specs.declared.seats.Seat.{Seat}
-use Rattle.guest_core.specs.declared.seats.Seat.TheVariants.{Void, Free, Nameless, Named, Retired}
+use Rattle.guest_core.specs.declared.seats.SeatHolder.{SeatHolder}
+use Rattle.guest_core.specs.declared.seats.SeatHolder.TheVariants.{Void, Free, Nameless, Named, Retired}
 use Rattle.guest_core.specs.Guests.{Guests}
 use Rattle.guest_core.specs.Keys.{Judges, asks}
 use Rattle.audit_core.specs.Steps.{Step, ran, cancelled, named}
@@ -32,7 +32,7 @@ use Rattle.history_law.specs.Read.{IsReadOf}
 pub record KeyedCall : Type 0 where
   pub name : List ℕ
   pub key : ℕ
-  pub call : Kept
+  pub call : RememberedCall
 
 -- What is told of names: an epoch began with these clients; a session got a name; a call of a client with a name ended
 -- or was cancelled. The calls that a front keeps are told by none of these: they ended before.
@@ -42,7 +42,7 @@ pub data KeyEvent : Type 0 where
   call_ended : KeyedCall → KeyEvent
 
 -- the client of a session, where it has a name
-abbrev pub client_at : Guests → Option Seat → Option Guest
+abbrev pub client_at : Guests → Option SeatHolder → Option Guest
 client_at v (Some (Named place)) = slice_get v.guests place
 client_at v (Some Void) = None
 client_at v (Some Free) = None
@@ -54,7 +54,7 @@ abbrev pub client_of : Guests → ℕ → Option Guest
 client_of v session = client_at v (slice_get v.seats session)
 
 -- a call that ends has the next key of its client; of a session without a name nothing is told
-abbrev pub under_key : Option Guest → Kept → List KeyEvent
+abbrev pub under_key : Option Guest → RememberedCall → List KeyEvent
 under_key None call = []
 under_key (Some g) call = call_ended (record { name = g.name; key = g.keys.next; call = call }) ∷ []
 
@@ -166,14 +166,14 @@ KeysStandOnce = (o : ObjectForm) (e : ReadEpoch o) (earlier : List (ReadEpoch o)
     AreKeyed (all_told o e earlier) e.came.guests
 
 -- the call of a name that has this key stands in what was told, and the name stayed known since
-pub record IsTold (told : List KeyEvent) (name : List ℕ) (key : ℕ) (call : Kept) : Type 0 where
+pub record IsTold (told : List KeyEvent) (name : List ℕ) (key : ℕ) (call : RememberedCall) : Type 0 where
   pub newer : List KeyEvent
   pub older : List KeyEvent
   pub told_is : told ≡ newer ++ call_ended (record { name = name; key = key; call = call }) ∷ older
   pub stays : StaysKnown name newer
 
 -- a front has the line of this call of a name under this key
-pub record IsKeptLine (clients : List NamedClient) (kept : List KeptCall) (name : List ℕ) (key : ℕ) (c : Kept) : Type 0 where
+pub record IsKeptLine (clients : List NamedClient) (kept : List KeptCall) (name : List ℕ) (key : ℕ) (c : RememberedCall) : Type 0 where
   pub client : NamedClient
   pub among : IsAmong clients name client
   pub line : KeptCall
@@ -185,7 +185,7 @@ pub record IsKeptLine (clients : List NamedClient) (kept : List KeptCall) (name 
 
 -- what a client is told of a call that it repeats: the call of the history that has its key; or, where that ended
 -- before, what this front has of it
-abbrev pub IsRemembered : List KeyEvent → Opening → List ℕ → ℕ → Kept → Type 0
+abbrev pub IsRemembered : List KeyEvent → Opening → List ℕ → ℕ → RememberedCall → Type 0
 IsRemembered told f name key call = IsTold told name key call ⊎ IsKeptLine f.clients f.kept name key call
 
 -- Of each key that a client of now repeats so it is, by the front of the newest epoch.
@@ -193,7 +193,7 @@ abbrev pub RepeatsAreTold : Type 0
 RepeatsAreTold =
     (o : ObjectForm) (e : ReadEpoch o) (earlier : List (ReadEpoch o)) → AreKnownOn o e earlier →
     (place : ℕ) (g : Guest) (key k : ℕ) (a : Asked) → slice_get e.came.guests.guests place ≡ Some g →
-    Judges g.keys key a (Repeat k) → (call : Kept) × (slice_get g.keys.kept k ≡ Some call) × (call.asked ≡ a)
+    Judges g.keys key a (Repeat k) → (call : RememberedCall) × (slice_get g.keys.kept k ≡ Some call) × (call.asked ≡ a)
     × IsRemembered (all_told o e earlier) e.is.front g.name key call
 
 -- the first of these epochs, which have the newest first
@@ -206,7 +206,7 @@ abbrev pub RepeatsStand : Type 0
 RepeatsStand =
     (o : ObjectForm) (e : ReadEpoch o) (earlier : List (ReadEpoch o)) → AreKnownOn o e earlier →
     (place : ℕ) (g : Guest) (key k : ℕ) (a : Asked) → slice_get e.came.guests.guests place ≡ Some g →
-    Judges g.keys key a (Repeat k) → (call : Kept) × (slice_get g.keys.kept k ≡ Some call) × (call.asked ≡ a)
+    Judges g.keys key a (Repeat k) → (call : RememberedCall) × (slice_get g.keys.kept k ≡ Some call) × (call.asked ≡ a)
     × IsRemembered (all_told o e earlier) (oldest o e earlier).is.front g.name key call
 
 -- the end of a call under a key, where it was not cancelled

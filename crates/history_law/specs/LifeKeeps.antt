@@ -9,7 +9,7 @@ use Rattle.word_core.specs.Events.{body_at}
 use Rattle.live_core.specs.Front.{Every, IsLong}
 use Rattle.guest_core.specs.declared.guest.Guest.{Guest}
 use Rattle.guest_core.specs.declared.kept.Asked.{Asked}
-use Rattle.guest_core.specs.declared.kept.Kept.{Kept}
+use Rattle.guest_core.specs.declared.kept.RememberedCall.{RememberedCall}
 use Rattle.guest_core.specs.Guests.{Guests}
 use Rattle.guest_core.specs.Keys.{Keys}
 use Rattle.hosted_core.specs.Scene.{Scene}
@@ -28,7 +28,7 @@ abbrev pub IsWorded : Option Reply → Type 0
 IsWorded reply = (word : List ℕ) → reply ≡ Some (Refused word) → IsRefusalWord word
 
 -- a call that is remembered was asked so, and ended so
-pub record KeptWell (o : ObjectForm) (k : Kept) : Type 0 where
+pub record KeptWell (o : ObjectForm) (k : RememberedCall) : Type 0 where
   pub asked : AskedFits o k.asked
   pub worded : IsWorded k.reply
 

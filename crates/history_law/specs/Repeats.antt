@@ -4,7 +4,7 @@ use Rattle.apply_core.specs.declared.reply.Reply.{Reply}
 use Rattle.session_text.specs.Lines.{repeated_text}
 use Rattle.live_core.specs.Front.{Opening}
 use Rattle.guest_core.specs.declared.guest.Guest.{Guest}
-use Rattle.guest_core.specs.declared.kept.Kept.{Kept}
+use Rattle.guest_core.specs.declared.kept.RememberedCall.{RememberedCall}
 use Rattle.guest_core.specs.Guests.{IsNamed}
 use Rattle.hosted_core.specs.Scene.{Scene}
 use Rattle.history_law.specs.Keys.{KeyEvent, IsKeptLine}
@@ -35,7 +35,7 @@ pub record IsAskedRepeat (claims : Claims) (first last : Table) (turns before : 
   pub place : ℕ
   pub guest : Guest
   pub by : IsNamed own.is.now.guests own.is.session place guest
-  pub call : Kept
+  pub call : RememberedCall
   pub asked : call.asked ≡ own.is.asked
   pub told_is : call.told ≡ number
   pub reply_is : call.reply ≡ Some reply

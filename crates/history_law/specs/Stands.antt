@@ -5,7 +5,7 @@ use Rattle.decl_core.specs.ObjectForm.{ObjectForm}
 use Rattle.decl_core.specs.ObjectMap.{object_of}
 use Rattle.word_core.specs.Events.{Called}
 use Rattle.live_core.specs.Hall.{Every, IsHeld}
-use Rattle.guest_core.specs.declared.seats.Seat.TheVariants.{Void}
+use Rattle.guest_core.specs.declared.seats.SeatHolder.TheVariants.{Void}
 use Rattle.guest_core.specs.Guests.{Guests, IsSound}
 use Rattle.audit_core.specs.Carried.{IsTheOne}
 use Rattle.audit_core.specs.Steps.{Step, Begun, Heard, IsUnused, told_by}

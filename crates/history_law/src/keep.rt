@@ -12,12 +12,12 @@ ghost use Rattle.history_law.specs.CrashLaws.{TellsParts, IsLeft};
 use crate::crash_laws::crash_leaves_legal;
 use post_core::device::{Device, DeviceError};
 use post_core::journal::Journal;
-use post_core::run::Step;
+use post_core::uncalled::JournalStep;
 
 /// Adds lines of a trace and stores them, in these steps, up to the first that fails; `Err` is that of the step. Where
 /// the text with all these lines is a legal trace of an object whose parts are stored, a crash at any moment leaves a
 /// legal trace: with each end that was stored before, and no end that was not made.
-pub fn keep<D: Device>(journal: &mut Journal<D>, steps: &[Step]) -> Result<(), DeviceError>
+pub fn keep<D: Device>(journal: &mut Journal<D>, steps: &[JournalStep]) -> Result<(), DeviceError>
     requires in_order { IsInOrder D.seen D.may_leave journal.old }
     requires lines { AreSteps steps.now }
 

@@ -17,7 +17,7 @@ ghost use Rattle.decl_read.specs.DeclarationReading.{number_at};
 use crate::holds::{is_one_of, operation, takes_none};
 use crate::words::{HoldKeyword, begins_word, behind_word};
 use body_read::front::{behind, start_of};
-use body_read::terms::Read;
+use body_read::terms::TextRead;
 use body_read::text_fault::TextFault;
 use decl_core::hold::{Every, Hold};
 use decl_core::object::Operation;
@@ -31,7 +31,7 @@ use value_core::kind::Elem;
 const MOST_SECONDS: u32 = 86_400;
 
 /// A number that has to stand here, and the tokens behind it.
-pub(crate) fn number<'t>(tokens: &'t [Token]) -> Read<'t, u32>
+pub(crate) fn number<'t>(tokens: &'t [Token]) -> TextRead<'t, u32>
     ensures { Gives (λ x. (x.0, lexemes x.1.now)) result (number_at (lexemes tokens.now)) }
 {
     match tokens {
@@ -105,7 +105,7 @@ fn every<'t>(
     holds: &[Hold],
     before: Vec<Every>,
     tokens: &'t [Token],
-) -> Read<'t, Vec<Every>>
+) -> TextRead<'t, Vec<Every>>
     requires few { length operations.now ≤ 32 }
     ensures { Gives everies_read result (every_in (operations_of operations.now) (holds_of holds.now)
         (everies_of before.items) (lexemes tokens.now)) }
@@ -134,7 +134,7 @@ pub(crate) fn everies<'t>(
     so_far: Vec<Every>,
     left: u8,
     tokens: &'t [Token],
-) -> Read<'t, Vec<Every>>
+) -> TextRead<'t, Vec<Every>>
     requires few { length operations.now ≤ 32 }
     ensures { Gives everies_read result (series_at (every_in (operations_of operations.now) (holds_of holds.now))
         (a_word_begins EveryWord) left (everies_of so_far.items) (lexemes tokens.now)) }

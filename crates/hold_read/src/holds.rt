@@ -23,7 +23,7 @@ ghost use Rattle.hold_read.specs.Views.{holds_read, numbers_read};
 
 use crate::words::{HoldKeyword, after_word, begins_word, behind_word};
 use body_read::front::{after, behind, name, start_of};
-use body_read::terms::Read;
+use body_read::terms::TextRead;
 use body_read::text_fault::TextFault;
 use decl_core::hold::Hold;
 use decl_core::object::{Operation, Param};
@@ -64,7 +64,10 @@ fn number_of(operations: &[Arc<Operation>], text: &[u8]) -> Option<OpId>
 
 /// An operation that has to be named here, and the tokens behind it.
 #[tactic(auto, unfolding(crate::specs::HoldReading::operation_at))]
-pub(crate) fn operation<'t>(operations: &[Arc<Operation>], tokens: &'t [Token]) -> Read<'t, OpId>
+pub(crate) fn operation<'t>(
+    operations: &[Arc<Operation>],
+    tokens: &'t [Token],
+) -> TextRead<'t, OpId>
     requires few { length operations.now ≤ 32 }
     ensures { Gives (λ x. (x.0, lexemes x.1.now)) result (operation_at (operations_of operations.now)
         (lexemes tokens.now)) }
@@ -189,7 +192,7 @@ fn undo<'t>(
     op: OpId,
     before: Vec<OpId>,
     tokens: &'t [Token],
-) -> Read<'t, Vec<OpId>>
+) -> TextRead<'t, Vec<OpId>>
     requires few { length operations.now ≤ 32 }
     ensures { Gives numbers_read result (undo_in (operations_of operations.now) (holds_of holds.now) op before.items
         (lexemes tokens.now)) }
@@ -214,7 +217,7 @@ fn next_undo<'t>(
     op: OpId,
     before: Vec<OpId>,
     tokens: &'t [Token],
-) -> Read<'t, Vec<OpId>>
+) -> TextRead<'t, Vec<OpId>>
     requires few { length operations.now ≤ 32 }
     ensures { Gives numbers_read result (next_undo_in (operations_of operations.now) (holds_of holds.now) op
         before.items (lexemes tokens.now)) }
@@ -232,7 +235,7 @@ fn more_undos<'t>(
     so_far: Vec<OpId>,
     left: u8,
     tokens: &'t [Token],
-) -> Read<'t, Vec<OpId>>
+) -> TextRead<'t, Vec<OpId>>
     requires few { length operations.now ≤ 32 }
     ensures { Gives numbers_read result (series_at (next_undo_in (operations_of operations.now) (holds_of holds.now) op)
         (begins_with Comma) left so_far.items (lexemes tokens.now)) }
@@ -255,7 +258,7 @@ fn undos<'t>(
     holds: &[Hold],
     op: OpId,
     tokens: &'t [Token],
-) -> Read<'t, Vec<OpId>>
+) -> TextRead<'t, Vec<OpId>>
     requires few { length operations.now ≤ 32 }
     ensures { Gives numbers_read result (undos_in (operations_of operations.now) (holds_of holds.now) op
         (lexemes tokens.now)) }
@@ -267,7 +270,7 @@ fn undos<'t>(
 
 /// Whether anybody may end a hold: where `by any` stands.
 #[tactic(auto, unfolding(crate::specs::HoldReading::loose_in, crate::specs::HoldReading::loose_by))]
-fn loose<'t>(tokens: &'t [Token]) -> Read<'t, bool>
+fn loose<'t>(tokens: &'t [Token]) -> TextRead<'t, bool>
     ensures { Gives (λ x. (x.0, lexemes x.1.now)) result (loose_in (lexemes tokens.now)) }
 {
     match after_word(tokens, HoldKeyword::By) {
@@ -286,7 +289,7 @@ fn hold<'t>(
     operations: &[Arc<Operation>],
     before: Vec<Hold>,
     tokens: &'t [Token],
-) -> Read<'t, Vec<Hold>>
+) -> TextRead<'t, Vec<Hold>>
     requires few { length operations.now ≤ 32 }
     ensures { Gives holds_read result (hold_in (operations_of operations.now) (holds_of before.items)
         (lexemes tokens.now)) }
@@ -312,7 +315,7 @@ pub(crate) fn holds<'t>(
     so_far: Vec<Hold>,
     left: u8,
     tokens: &'t [Token],
-) -> Read<'t, Vec<Hold>>
+) -> TextRead<'t, Vec<Hold>>
     requires few { length operations.now ≤ 32 }
     ensures { Gives holds_read result (series_at (hold_in (operations_of operations.now)) (a_word_begins HoldWord) left
         (holds_of so_far.items) (lexemes tokens.now)) }

@@ -14,7 +14,7 @@ use Rattle.live_core.specs.Front.{Every, IsLong}
 use Rattle.live_core.specs.Text.{rows, carried_words, client_words, kept_words, runs_text, carried_text, clients_text, kept_text}
 use Rattle.live_core.specs.Text.{object_words, source_words, base_words, calls_text, behind_parts}
 use Rattle.guest_core.specs.declared.guest.Guest.{Guest}
-use Rattle.guest_core.specs.declared.kept.Kept.{Kept}
+use Rattle.guest_core.specs.declared.kept.RememberedCall.{RememberedCall}
 use Rattle.hosted_core.specs.Scene.{Scene}
 use Rattle.hosted_core.specs.Fronts.{carried_as, carried_from, client_of, kept_as, kept_below, kept_of, front_of}
 use Rattle.hosted_core.specs.Fits.{GuestFits}
@@ -34,7 +34,7 @@ behind_two : (out one two a b c : List ℕ) → one ≡ out ++ a → two ≡ one
 behind_two out one two a b c first second is = second ∙ ap (λ t. t ++ b) first ∙ append_assoc out a b ∙ ap (λ t. out ++ t) (sym is)
 
 -- the newest of the calls that are remembered of a session
-pub kept_more : (o : ObjectForm) (session next : ℕ) (k : Kept) (others : List Kept) (out one two : List ℕ) → one ≡ out ++ kept_text o (kept_below session (next - 1) others) →
+pub kept_more : (o : ObjectForm) (session next : ℕ) (k : RememberedCall) (others : List RememberedCall) (out one two : List ℕ) → one ≡ out ++ kept_text o (kept_below session (next - 1) others) →
     two ≡ one ++ line_of (bare (codes "kept") ∷ kept_words o (kept_as session (next - 1) k)) → two ≡ out ++ kept_text o (kept_below session next (k ∷ others))
 kept_more o session next k others out one two first second =
     behind_two out one two (kept_text o (kept_below session (next - 1) others)) (line_of (bare (codes "kept") ∷ kept_words o (kept_as session (next - 1) k))) (kept_text o (kept_below session next (k ∷ others)))

@@ -8,7 +8,7 @@ use Rattle.live_core.specs.declared.past.PastRun.{PastRun}
 use Rattle.live_core.specs.declared.past.PastRun.TheVariants.{Calls, Begins, Ends}
 use Rattle.live_core.specs.Front.{Every, IsLong}
 use Rattle.guest_core.specs.declared.guest.Guest.{Guest}
-use Rattle.guest_core.specs.declared.kept.Kept.{Kept}
+use Rattle.guest_core.specs.declared.kept.RememberedCall.{RememberedCall}
 use Rattle.hosted_core.specs.Calls.{RepliesDatum}
 
 -- a run of a past is of one of so many operations, and whole calls of it are 1 to 65,536
@@ -22,7 +22,7 @@ ReplyFits None = Unit {0}
 ReplyFits (Some reply) = RepliesDatum reply
 
 -- a call that is remembered
-pub record CallFits (k : Kept) : Type 0 where
+pub record CallFits (k : RememberedCall) : Type 0 where
   pub told : IsLong k.told
   pub arguments : All IsDatum k.asked.arguments
   pub reply : ReplyFits k.reply

@@ -17,7 +17,7 @@ use Rattle.live_core.specs.Front.{Every, IsLong, Opening}
 use Rattle.live_core.specs.Past.{events_in}
 use Rattle.live_core.specs.Text.{calls_text, behind_parts, front_text}
 use Rattle.guest_core.specs.declared.guest.Guest.{Guest}
-use Rattle.guest_core.specs.declared.kept.Kept.{Kept}
+use Rattle.guest_core.specs.declared.kept.RememberedCall.{RememberedCall}
 use Rattle.hosted_core.specs.Fits.{GuestFits, RunFits}
 use Rattle.hosted_core.specs.Scene.{Scene, told_of, next_epoch, next_base}
 
@@ -46,7 +46,7 @@ answer_in (Some reply) = Replied reply
 answer_in None = Cancelled
 
 -- a remembered call of a session, with its key
-abbrev pub kept_as : ℕ → ℕ → Kept → KeptCall
+abbrev pub kept_as : ℕ → ℕ → RememberedCall → KeptCall
 kept_as session key k =
     record {
       session = session;
@@ -58,7 +58,7 @@ kept_as session key k =
     }
 
 -- the remembered calls of a session, the oldest first; the newest has the key below this one
-abbrev pub kept_below : ℕ → ℕ → List Kept → List KeptCall
+abbrev pub kept_below : ℕ → ℕ → List RememberedCall → List KeptCall
 kept_below session next [] = []
 kept_below session next (k ∷ calls) = kept_below session (next - 1) calls ++ kept_as session (next - 1) k ∷ []
 

@@ -5,7 +5,7 @@ use Rattle.apply_core.specs.declared.reply.Reply.{Reply}
 use Rattle.word_core.specs.Events.{Called}
 use Rattle.guest_core.specs.declared.guest.Guest.{Guest}
 use Rattle.guest_core.specs.declared.kept.Asked.{Asked}
-use Rattle.guest_core.specs.declared.kept.Kept.{Kept}
+use Rattle.guest_core.specs.declared.kept.RememberedCall.{RememberedCall}
 use Rattle.guest_core.specs.Guests.{IsNamed}
 use Rattle.guest_core.specs.Keys.{asks, HasKey}
 use Rattle.hosted_core.specs.declared.hosted.KeyState.{KeyState}
@@ -26,7 +26,7 @@ pub record Remembers (s : Scene) (session place told : ℕ) (reply : Option Repl
   pub row : ℕ
   pub guest : Guest
   pub by : IsNamed s.guests session row guest
-  pub call : Kept
+  pub call : RememberedCall
   pub there : slice_get guest.keys.kept place ≡ Some call
   pub told_is : call.told ≡ told
   pub reply_is : call.reply ≡ reply
@@ -37,7 +37,7 @@ pub record Repeats (s : Scene) (session key : ℕ) (a : Asked) (told : ℕ) (rep
   pub guest : Guest
   pub by : IsNamed s.guests session row guest
   pub place : ℕ
-  pub call : Kept
+  pub call : RememberedCall
   pub has : HasKey guest.keys key place call
   pub asked : call.asked ≡ a
   pub told_is : call.told ≡ told

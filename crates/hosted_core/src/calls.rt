@@ -22,7 +22,6 @@ use guest_core::answer::SubmitFault;
 use guest_core::guests::{EnterFault, Entered};
 use guest_core::keys::AskFault;
 use live_core::call::Ran;
-use live_core::hall::CallRefusal;
 use live_core::lines::push_all;
 use live_core::live::Taken;
 use path_count::past::PastEvent;
@@ -36,18 +35,6 @@ pub(crate) fn most_of(object: &Object, operation: OpId, arguments: &[Datum]) -> 
     match object.operations.get(operation as usize) {
         Some(found) => most_lines(found, arguments),
         None => 0,
-    }
-}
-
-fn fault_of(refusal: CallRefusal) -> SubmitFault {
-    match refusal {
-        CallRefusal::Gone => SubmitFault::Gone,
-        CallRefusal::UnknownOp => SubmitFault::UnknownOp,
-        CallRefusal::BadArgs => SubmitFault::BadArgs,
-        CallRefusal::SessionBusy => SubmitFault::SessionBusy,
-        CallRefusal::Full => SubmitFault::Full,
-        CallRefusal::HistoryFull => SubmitFault::HistoryFull,
-        CallRefusal::Memory => SubmitFault::Memory,
     }
 }
 
@@ -202,7 +189,7 @@ impl Hosted {
             }
             Err(refusal) => {
                 self.guests.withdraw(session);
-                Err(fault_of(refusal))
+                Err(refusal)
             }
         }
     }

@@ -20,18 +20,18 @@ use crate::hosted::Hosted;
 use crate::runs::are_runs;
 use decl_core::object::Object;
 use guest_core::guest::Guest;
-use guest_core::kept::Kept;
+use guest_core::kept::RememberedCall;
 use live_core::call::LiveCall;
 use live_core::hall::MOST_NUMBERS;
 use live_core::past::{PastRun, runs_of};
 use live_core::write::{
-    push_base, push_carried, push_client, push_kept, push_object, push_parts, push_past,
-    push_source,
+    push_base, push_carried, push_client, push_kept, push_object, push_past, push_source,
 };
 use path_count::finder::short_past;
 use path_count::past::{PastEvent, counters_behind};
 use path_tree::node::OpId;
 use std::alloc::{AllocError, Global};
+use word_core::trace_front::push_parts;
 
 // Adds the line of a remembered call.
 fn push_kept_call(
@@ -40,7 +40,7 @@ fn push_kept_call(
     object: &Object,
     session: u16,
     key: u64,
-    call: &Kept,
+    call: &RememberedCall,
 ) -> Result<(), AllocError>
     ensures added { OnOk result (out.new.items ≡ out.old.items
         ++ line_of (bare (codes "kept") ∷ kept_words (object_of object.now) (kept_as session key call.now))) }
@@ -85,7 +85,7 @@ fn push_kept_below(
     object: &Object,
     session: u16,
     next: u64,
-    kept: &[Kept],
+    kept: &[RememberedCall],
 ) -> Result<(), AllocError>
     ensures added { OnOk result (out.new.items ≡ out.old.items
         ++ kept_text (object_of object.now) (kept_below session next kept.now)) }

@@ -3,26 +3,15 @@
 ghost use Rattle.std.specs.Prelude.{◌≡◌, ◌++◌, OnOk};
 ghost use Rattle.decl_core.specs.ObjectMap.{object_of};
 ghost use Rattle.word_core.specs.Words.{line_of};
-ghost use Rattle.word_core.specs.Text.{operation_name};
 ghost use Rattle.hosted_core.specs.Lines.{cancel_words, name_words};
 
 use decl_core::object::Object;
 use live_core::call::LiveCall;
 use path_tree::name::Name;
-use path_tree::node::OpId;
 use std::alloc::AllocError;
+use word_core::event::name_of;
 use word_core::line::{push_data_line, push_line};
 use word_core::word::Written;
-
-// The name of the operation at a place of the object; no bytes where there is none.
-pub(crate) fn name_of(object: &Object, operation: OpId) -> &[u8]
-    ensures { result.now ≡ operation_name (object_of object.now) operation }
-{
-    match object.operations.get(operation as usize) {
-        Some(found) => found.name.as_bytes(),
-        None => &[],
-    }
-}
 
 /// Adds `cancel N sK OP ARG ..`: a call that waited was cancelled. The error is that memory was refused; how much of
 /// the line then stands in `out` is not said.

@@ -5,7 +5,7 @@ ghost use Rattle.decl_core.specs.ObjectMap.{object_of};
 ghost use Rattle.word_core.specs.Events.{Called};
 ghost use Rattle.word_core.specs.Text.{operation_name};
 ghost use Rattle.guest_core.specs.declared.guest.Guest.{Guest as AGuest};
-ghost use Rattle.guest_core.specs.declared.seats.Seat.TheVariants.{Nameless};
+ghost use Rattle.guest_core.specs.declared.seats.SeatHolder.TheVariants.{Nameless};
 ghost use Rattle.guest_core.specs.Entering.{Leaves};
 ghost use Rattle.guest_core.specs.Guests.{with_seat, IsNamed, HasNoName};
 ghost use Rattle.guest_core.specs.Seats.{IsLeastFree, NoneIsFree};
@@ -15,7 +15,6 @@ ghost use Rattle.hosted_core.specs.Keys.{WaitsAs, SaysWaits, SaysKept, SaysKey, 
 ghost use Rattle.hosted_core.specs.Scene.{is_given, told_of, with_guests};
 
 use crate::calls::most_of;
-use crate::event::name_of;
 use crate::size::{MOST_NAME, most_told};
 use apply_core::fits::arguments_fit;
 use apply_core::reply::Reply;
@@ -31,6 +30,7 @@ use path_tree::node::OpId;
 use std::alloc::{AllocError, Global};
 use std::marker::Model;
 use value_core::datum::Datum;
+use word_core::event::name_of;
 
 /// At so many calls, with those of the past, a new epoch begins.
 pub const EPOCH_CALLS: u32 = 60_000;

@@ -12,12 +12,15 @@ ghost use Rattle.inside_text.specs.Found.{whys_of};
 ghost use Rattle.inside_text.specs.Tells.{IsCounted, Tells};
 ghost use Rattle.inside_text.specs.declared.reason.Lack.TheVariants as lacks;
 
-use crate::nodes::{begins, begins_first, counters, nodes_of, push_enders, word};
+use crate::nodes::{begins, begins_first, word};
 use crate::reason::{Lack, Reason};
 use path_count::counters::Counters;
+use path_count::nodes::counters;
 use path_tree::node::{Members, Node, OpId};
 use path_tree::tree::PathTree;
 use std::alloc::{AllocError, Global};
+use stuck_core::nodes::nodes_of;
+use stuck_core::wait::push_enders;
 
 // Adds a reason where there is one: an end of this tree is needed.
 fn push_reason(

@@ -13,7 +13,6 @@
 pub mod find;
 pub mod laws;
 pub mod list;
-mod name;
 mod nodes;
 pub mod reason;
 pub mod who;

@@ -7,12 +7,12 @@ ghost use Rattle.inside_text.specs.Found.{why_of, whys_of};
 ghost use Rattle.inside_text.specs.Why.{node_words};
 ghost use Rattle.inside_text.specs.Who.{who_line, seat_words, count_words, time_words, seat_line, call_words, waits_line};
 
-use crate::name::name_of;
 use crate::reason::{Lack, Reason};
 use decl_core::object::Object;
 use path_tree::name::Name;
 use path_tree::node::OpId;
 use std::alloc::AllocError;
+use word_core::event::name_of;
 use word_core::line::push_line;
 use word_core::print::push_integer;
 use word_core::word::Written;

@@ -6,11 +6,11 @@ ghost use Rattle.word_core.specs.Words.{words_text, behind_word};
 ghost use Rattle.inside_text.specs.Found.{why_of, whys_of};
 ghost use Rattle.inside_text.specs.Why.{state_word, state_line, name_word, needs_words, path_line, run_line, why_line, why_text};
 
-use crate::name::name_of;
 use crate::reason::{Lack, Reason};
 use decl_core::object::Object;
 use path_tree::node::OpId;
 use std::alloc::AllocError;
+use word_core::event::name_of;
 use word_core::line::{push_line, push_more, push_words};
 use word_core::word::Written;
 

@@ -2,7 +2,7 @@
 use Rattle.std.specs.Prelude.{◌≡◌, ℕ, List, length, IsTrue, Some, slice_get}
 use Rattle.std.specs.FinMap.{get}
 use Rattle.value_core.specs.Contents.{Contents}
-use Rattle.value_core.specs.Spelling.{Spells}
+use Rattle.value_bytes.specs.Spelling.{Spells}
 use Rattle.decl_core.specs.declared.object.Part.{Part}
 use Rattle.device_core.specs.Device.{Assignment}
 use Rattle.device_core.specs.Papers.{Papers, part_key}

@@ -3,7 +3,7 @@ use Rattle.std.specs.Prelude.{◌≡◌, ◌⊎◌, ℕ, List}
 use Rattle.std.specs.FinMap.{insert}
 use Rattle.device_core.specs.Papers.{Papers}
 use Rattle.value_core.specs.Contents.{Contents, kind_of}
-use Rattle.value_core.specs.Spelling.{Spells}
+use Rattle.value_bytes.specs.Spelling.{Spells}
 
 -- under this name stand bytes that spell the value; all else is as before
 pub record IsSaved (before : Papers) (name : List ℕ) (value : Contents) (papers : Papers) : Type 0 where

@@ -8,7 +8,7 @@ use device_core::hand::HandFault;
 use device_core::shelf::Shelf;
 use path_tree::name::Name;
 use std::alloc::{AllocError, Global};
-use value_core::encode::encode;
+use value_bytes::encode::encode;
 use value_core::value::Value;
 
 // The name of a part on a shelf, `OBJECT.PART`.

@@ -9,7 +9,7 @@ use Rattle.keep_loop.specs.Cuts.{IsCut, IsFed}
 use Rattle.post_core.specs.Posts.{is_here, hears}
 use Rattle.keep_loop.specs.Stands.{Heeds, held_of}
 use Rattle.post_core.specs.declared.post.Post.{Post}
-use Rattle.post_core.specs.declared.post.Text.{Text}
+use Rattle.post_core.specs.declared.post.OwedText.{OwedText}
 use Rattle.post_core.specs.declared.served.Note.{Note}
 use Rattle.keep_loop.proofs.Turns.{heard_last, notes_last, comings_last}
 use Rattle.keep_loop.proofs.Cuts.{fed_nothing}
@@ -25,7 +25,7 @@ uncounted false n m is none not = omega (arith, is, none)
 
 module _ (came : ℕ → List ℕ) (ended : ℕ → ℕ) (notes : List Note) where
   -- a note. Who is heard was heard before, or comes now
-  pub heeds_note : (old new : Post) (held held_now : List Text) (base next : ℕ) (all : List Turn) (note : Note) (said added : List (ℕ × List ℕ)) → base ≤ next →
+  pub heeds_note : (old new : Post) (held held_now : List OwedText) (base next : ℕ) (all : List Turn) (note : Note) (said added : List (ℕ × List ℕ)) → base ≤ next →
       length held_now ≡ length new.places.items →
       ((c : ℕ) → hears new.places.items c ≡ true → ((hears old.places.items c ≡ true) × (held_of held_now c ≡ held_of held c)) ⊎ ((base ≤ c) × (held_of held_now c ≡ []))) →
       ((c : ℕ) → is_here new.places.items c ≡ true → (is_here old.places.items c ≡ true) ⊎ (c < next)) →
@@ -66,7 +66,7 @@ module _ (came : ℕ → List ℕ) (ended : ℕ → ℕ) (notes : List Note) whe
       below_now c (inr is) = is
 
   -- something of one connection, and no note
-  pub heeds_one : (came_now : ℕ → List ℕ) (ended_now : ℕ → ℕ) (old new : Post) (held held_now : List Text) (base who : ℕ) (all all_now : List Turn) →
+  pub heeds_one : (came_now : ℕ → List ℕ) (ended_now : ℕ → ℕ) (old new : Post) (held held_now : List OwedText) (base who : ℕ) (all all_now : List Turn) →
       length held_now ≡ length held → length new.places.items ≡ length old.places.items →
       who < base → notes_by all_now ≡ notes_by all →
       ((c : ℕ) → is_here new.places.items c ≡ true → is_here old.places.items c ≡ true) →
@@ -97,7 +97,7 @@ module _ (came : ℕ → List ℕ) (ended : ℕ → ℕ) (notes : List Note) whe
   }
 
   -- nothing of anybody
-  pub heeds_same : (old new : Post) (held : List Text) (base : ℕ) (all : List Turn) → length new.places.items ≡ length old.places.items →
+  pub heeds_same : (old new : Post) (held : List OwedText) (base : ℕ) (all : List Turn) → length new.places.items ≡ length old.places.items →
       ((c : ℕ) → is_here new.places.items c ≡ true → is_here old.places.items c ≡ true) →
       ((c : ℕ) → hears new.places.items c ≡ true → hears old.places.items c ≡ true) →
       Heeds came ended notes old held base all → Heeds came ended notes new held base all
@@ -114,7 +114,7 @@ module _ (came : ℕ → List ℕ) (ended : ℕ → ℕ) (notes : List Note) whe
   }
 
   -- the same came
-  pub heeds_came : (came_now : ℕ → List ℕ) (post : Post) (held : List Text) (base : ℕ) (all : List Turn) → ((c : ℕ) → came_now c ≡ came c) →
+  pub heeds_came : (came_now : ℕ → List ℕ) (post : Post) (held : List OwedText) (base : ℕ) (all : List Turn) → ((c : ℕ) → came_now c ≡ came c) →
       Heeds came ended notes post held base all → Heeds came_now ended notes post held base all
   heeds_came came_now post held base all same h = record {
     places = h.places;
@@ -129,7 +129,7 @@ module _ (came : ℕ → List ℕ) (ended : ℕ → ℕ) (notes : List Note) whe
   }
 
   -- a turn of which nobody is heard
-  pub heeds_turn : (post : Post) (held : List Text) (base : ℕ) (all all_now : List Turn) → ((c : ℕ) → heard_of c all_now ≡ heard_of c all) → notes_by all_now ≡ notes_by all →
+  pub heeds_turn : (post : Post) (held : List OwedText) (base : ℕ) (all all_now : List Turn) → ((c : ℕ) → heard_of c all_now ≡ heard_of c all) → notes_by all_now ≡ notes_by all →
       Heeds came ended notes post held base all → Heeds came ended notes post held base all_now
   heeds_turn post held base all all_now same no_note h = record {
     places = h.places;

@@ -15,7 +15,7 @@ use Rattle.keep_loop.specs.Stands.{Owes, Heeds, Stands, Rests, held_of}
 use Rattle.keep_loop.specs.declared.keep.Keep.{Keep}
 use Rattle.keep_loop.specs.declared.keep.LoopLimits.{LoopLimits}
 use Rattle.post_core.specs.declared.post.Post.{Post}
-use Rattle.post_core.specs.declared.post.Text.{Text}
+use Rattle.post_core.specs.declared.post.OwedText.{OwedText}
 use Rattle.post_core.specs.declared.served.LineEnd.{LineEnd}
 use Rattle.post_core.specs.declared.served.LineEnd.TheVariants.{Feed, Input, TooLong}
 use Rattle.post_core.specs.declared.served.Note.{Note}
@@ -60,12 +60,12 @@ ended_one true n is = omega arith
 ended_one false n is = absurd (true≢false (sym is))
 
 -- what is held of others stays
-pub held_apart : (places : List _) (held now : List Text) (who c : ℕ) → length held ≡ length places → is_here places who ≡ true → is_here places c ≡ true → (who == c) ≡ false →
+pub held_apart : (places : List _) (held now : List OwedText) (who c : ℕ) → length held ≡ length places → is_here places who ≡ true → is_here places c ≡ true → (who == c) ≡ false →
     (x : List ℕ) → text_at now (c % length now) ≡ (if (who % length held) == (c % length held) then x else held_of held c) → held_of now c ≡ held_of held c
 held_apart places held now who c count one two not x is =
     is ∙ ap (λ n. if (who % n) == (c % n) then x else held_of held c) count ∙ ap (λ b. if b then x else held_of held c) (same_place places who c one two ∙ not)
 
-pub held_apart_more : (places : List _) (held now : List Text) (who c : ℕ) → length held ≡ length places → is_here places who ≡ true → is_here places c ≡ true → (who == c) ≡ false →
+pub held_apart_more : (places : List _) (held now : List OwedText) (who c : ℕ) → length held ≡ length places → is_here places who ≡ true → is_here places c ≡ true → (who == c) ≡ false →
     (x : List ℕ) → text_at now (c % length now) ≡ held_of held c ++ (if (who % length held) == (c % length held) then x else []) → held_of now c ≡ held_of held c
 held_apart_more places held now who c count one two not x is =
     is ∙ ap (λ n. held_of held c ++ (if (who % n) == (c % n) then x else [])) count ∙ ap (λ b. held_of held c ++ (if b then x else [])) (same_place places who c one two ∙ not)

@@ -9,7 +9,7 @@ use Rattle.post_core.specs.Turns.{Turn, Gives, Runs, said_to, heard_of, added_by
 use Rattle.keep_loop.specs.declared.keep.Keep.{Keep}
 use Rattle.keep_loop.specs.declared.keep.LoopLimits.{LoopLimits}
 use Rattle.post_core.specs.declared.post.Post.{Post}
-use Rattle.post_core.specs.declared.post.Text.{Text}
+use Rattle.post_core.specs.declared.post.OwedText.{OwedText}
 use Rattle.post_core.specs.declared.served.Note.{Note}
 
 -- There is one sequential history, such that what each connection said begins with its lines in it, and what each was
@@ -77,11 +77,11 @@ pub record Owes (limits : LoopLimits) (written kept added : ℕ → List ℕ) (p
   pub unwritten : (c : ℕ) → base ≤ c → written c ≡ []
 
 -- the beginning of a line that has come of a connection
-abbrev pub held_of : List Text → ℕ → List ℕ
+abbrev pub held_of : List OwedText → ℕ → List ℕ
 held_of held c = text_at held (c % length held)
 
 -- what has come are the lines that are heard, and what is held
-pub record Heeds (came : ℕ → List ℕ) (ended : ℕ → ℕ) (notes : List Note) (post : Post) (held : List Text) (base : ℕ) (all : List Turn) : Type 0 where
+pub record Heeds (came : ℕ → List ℕ) (ended : ℕ → ℕ) (notes : List Note) (post : Post) (held : List OwedText) (base : ℕ) (all : List Turn) : Type 0 where
   pub places : length held ≡ length post.places.items
   pub heard : (c : ℕ) → IsCut (ended c) (came c) (heard_of c all)
   pub fed : (c : ℕ) → hears post.places.items c ≡ true → IsFed (came c) (heard_of c all) (held_of held c)

@@ -14,7 +14,7 @@ ghost use Rattle.post_core.specs.declared.served.Note.TheVariants.{Joins, Leaves
 
 use crate::cut::split_line;
 use crate::outside::ReadEnd;
-use post_core::post::{Post, Text, clear, join, no_texts};
+use post_core::post::{OwedText, Post, clear, join, no_texts};
 use post_core::served::{LineEnd, Note, Served};
 use std::alloc::{AllocError, Global};
 
@@ -41,7 +41,7 @@ pub struct Keep<O> {
     pub(crate) object: O,
     pub(crate) post: Post,
     // What has come of the next line of the one at each place.
-    pub(crate) held: Vec<Text>,
+    pub(crate) held: Vec<OwedText>,
     // No number from here on was given to a connection. The place of a number is what is left of it by the count of
     // places, which this is a multiple of.
     pub(crate) base: u64,
@@ -62,7 +62,7 @@ fn all_places(alloc: Global, count: usize) -> Result<Vec<usize>, AllocError> {
 }
 
 // Lets go what has come of a line of the one who had the place of this number.
-fn let_go(texts: &mut Vec<Text>, who: u64)
+fn let_go(texts: &mut Vec<OwedText>, who: u64)
     requires { 0 < length texts.old.items }
     ensures count { length texts.new.items ≡ length texts.old.items }
     ensures held { (c : ℕ) → held_of texts.new.items c
@@ -73,7 +73,7 @@ fn let_go(texts: &mut Vec<Text>, who: u64)
 }
 
 // What has come of the next line of the one who has the place of this number.
-fn held(texts: &[Text], who: u64) -> &[u8]
+fn held(texts: &[OwedText], who: u64) -> &[u8]
     ensures { result.now ≡ held_of texts.now who }
 {
     if texts.is_empty() {

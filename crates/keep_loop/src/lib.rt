@@ -11,6 +11,6 @@ mod rounds;
 pub use keep::{LoopLimits, MOST_LINE};
 pub use laws::{crash_keeps_the_last_epoch, crash_keeps_what_was_answered};
 pub use outside::{Fault, Outside, ReadEnd, Visible};
-pub use post_core::post::{Place, Post, Stage, Text};
+pub use post_core::post::{ConnectionPlace, OwedText, Post, Stage};
 pub use post_core::served::{LineEnd, Note, Served};
 pub use rounds::run;

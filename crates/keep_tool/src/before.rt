@@ -1,7 +1,7 @@
 //! What was done of objects before a first start.
 
 use crate::lines::object_line;
-use answer_core::failure::Failure;
+use answer_core::failure::ToolFailure;
 use command_line::mistakes::past_error;
 use command_line::past::Past;
 use decl_core::analyse::Accepted;
@@ -57,7 +57,7 @@ pub(crate) fn told_twice(
     alloc: Global,
     name: &str,
     past: &Past<'_>,
-) -> Result<Failure, AllocError> {
+) -> Result<ToolFailure, AllocError> {
     let Past {
         object,
         operation,
@@ -65,7 +65,7 @@ pub(crate) fn told_twice(
     } = past;
     let word = format!(in alloc; "{object}:{operation}:{times}")?;
     let form = format!(in alloc; "what was done before is read from {name}.journal alone")?;
-    Ok(Failure::Usage(past_error(alloc, word.as_str(), form.as_str())?))
+    Ok(ToolFailure::Usage(past_error(alloc, word.as_str(), form.as_str())?))
 }
 
 // `no object NAME` for each word that tells of the past of an object that is not there.

@@ -7,7 +7,7 @@ use crate::lines::{count_lines, object_line, refused_line, told_line};
 use crate::stuck::stuck_lines;
 use answer_core::answer::REFUSED;
 use answer_core::explanation::explained;
-use answer_core::failure::Failure;
+use answer_core::failure::ToolFailure;
 use answer_core::said::{telling_of, written};
 use check_core::judge::{JudgedSource, judge};
 use command_line::past::Past;
@@ -40,7 +40,7 @@ pub(crate) const LIMITS: Limits = Limits {
 
 /// The objects of a server, with their names, the fronts with which their journals begin, and what is held of them.
 #[derive(Drop)]
-pub struct Kept {
+pub struct KeptObjects {
     /// The objects, in the order of the source.
     pub objects: Vec<Hosted>,
     /// The name of each.
@@ -58,12 +58,12 @@ enum Begun {
 }
 
 // The lines of a journal in a folder, which is made where it is missing.
-fn journal_lines(rt: &HostRuntime, folder: &str, name: &str) -> Result<Vec<u8>, Failure> {
+fn journal_lines(rt: &HostRuntime, folder: &str, name: &str) -> Result<Vec<u8>, ToolFailure> {
     let mut file = FolderFile::open(*rt, folder, name)?;
     match lines_of(rt.alloc(), &mut file) {
         Ok(lines) => Ok(lines),
-        Err(DeviceError::Memory) => Err(Failure::Memory),
-        Err(_) => Err(Failure::ReadFault),
+        Err(DeviceError::Memory) => Err(ToolFailure::Memory),
+        Err(_) => Err(ToolFailure::ReadFault),
     }
 }
 
@@ -77,7 +77,7 @@ fn begin_one<E: Write>(
     rules: &Rules,
     shelf: &mut DirShelf<HostRuntime>,
     log: &mut Log<HostRuntime, E>,
-) -> Result<Begun, Failure> {
+) -> Result<Begun, ToolFailure> {
     let alloc = rt.alloc();
     let lines = journal_lines(rt, folder, name)?;
     if lines.is_empty() {
@@ -96,7 +96,7 @@ fn begin_one<E: Write>(
             Ok(Begun::Ready(hosted, held))
         }
         Err(NotBegun::Refused(fault)) => Ok(Begun::Told(refused_line(alloc, name, fault)?)),
-        Err(NotBegun::Memory) => Err(Failure::Memory),
+        Err(NotBegun::Memory) => Err(ToolFailure::Memory),
         Err(_) => Ok(Begun::Told(object_line(alloc, name, b" past does not fit\n")?)),
     }
 }
@@ -108,7 +108,7 @@ fn begin_new(
     name: &str,
     pasts: &[Past<'_>],
     shelf: &mut DirShelf<HostRuntime>,
-) -> Result<Begun, Failure> {
+) -> Result<Begun, ToolFailure> {
     let done = match done_before(alloc, &object, name, pasts)? {
         Ok(done) => done,
         Err(line) => return Ok(Begun::Told(line)),
@@ -119,15 +119,15 @@ fn begin_new(
     };
     match begin_first(alloc, object, &done, values, NAMES, LIMITS) {
         Ok(hosted) => Ok(Begun::Ready(hosted, Holds::new(alloc))),
-        Err(NotBegun::Memory) => Err(Failure::Memory),
+        Err(NotBegun::Memory) => Err(ToolFailure::Memory),
         Err(_) => Ok(Begun::Told(object_line(alloc, name, b" past does not fit\n")?)),
     }
 }
 
-fn name_of(alloc: Global, object: &Object) -> Result<String, Failure> {
+fn name_of(alloc: Global, object: &Object) -> Result<String, ToolFailure> {
     match String::from_utf8(object.name.as_bytes().to_vec(alloc)?) {
         Ok(name) => Ok(name),
-        Err(_) => Err(Failure::ReadFault),
+        Err(_) => Err(ToolFailure::ReadFault),
     }
 }
 
@@ -140,7 +140,7 @@ fn begin_all<E: Write>(
     pasts: &[Past<'_>],
     away: u64,
     log: &mut Log<HostRuntime, E>,
-) -> Result<Result<Kept, Vec<u8>>, Failure> {
+) -> Result<Result<KeptObjects, Vec<u8>>, ToolFailure> {
     let alloc = rt.alloc();
     let mut rules = AllRules::new(rules);
     let unknown = strangers(alloc, &accepted, pasts)?;
@@ -148,7 +148,7 @@ fn begin_all<E: Write>(
         return Ok(Err(unknown));
     }
     let mut shelf = DirShelf::new(*rt, folder)?;
-    let mut kept = Kept {
+    let mut kept = KeptObjects {
         objects: Vec::new(alloc),
         names: Vec::new(alloc),
         fronts: Vec::new(alloc),
@@ -188,7 +188,7 @@ fn begin_all<E: Write>(
 // not kept.
 fn add(
     alloc: Global,
-    kept: &mut Kept,
+    kept: &mut KeptObjects,
     mut hosted: Hosted,
     name: String,
     ruled: Option<(Rules, Holds)>,
@@ -228,7 +228,7 @@ fn begin_accepted<W: Write, E: Write, L: Write>(
     writer: &mut W,
     error: &mut E,
     log: &mut Log<HostRuntime, L>,
-) -> Result<Option<Kept>, Failure> {
+) -> Result<Option<KeptObjects>, ToolFailure> {
     let stuck = stuck_lines(rt.alloc(), &accepted)?;
     match begin_all(rt, accepted, rules, asked.folder, pasts, away, log)? {
         Ok(kept) => {
@@ -260,7 +260,7 @@ pub fn begin_source<W: Write, E: Write, L: Write>(
     writer: &mut W,
     error: &mut E,
     log: &mut Log<HostRuntime, L>,
-) -> Result<Option<Kept>, Failure> {
+) -> Result<Option<KeptObjects>, ToolFailure> {
     let alloc = rt.alloc();
     match judge(alloc, source)? {
         JudgedSource::Ready(accepted) => {

@@ -1,7 +1,7 @@
 //! Where a server that stays listens.
 
 use crate::ending::say;
-use answer_core::failure::Failure;
+use answer_core::failure::ToolFailure;
 use answer_core::lack::{Lacking, Wanted};
 use answer_core::socket::{Socket, socket_at};
 use command_line::request::{Address, Keeping};
@@ -53,7 +53,7 @@ pub(crate) fn tell_place<W: Write>(
     alloc: Global,
     asked: Keeping<'_>,
     writer: &mut W,
-) -> Result<(), Failure> {
+) -> Result<(), ToolFailure> {
     let place = place_text(alloc, asked)?;
     let line = format!(in alloc; "listening {place}\n")?;
     say(writer, line.as_bytes())

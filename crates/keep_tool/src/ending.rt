@@ -4,7 +4,7 @@ ghost use Rattle.std.specs.Prelude.{OnOk};
 ghost use Rattle.device_core.specs.Papers.{Papers};
 ghost use Rattle.keep_core.specs.Ending.{ObjectsAreSaved};
 
-use answer_core::failure::Failure;
+use answer_core::failure::ToolFailure;
 use device_core::hand::HandFault;
 use device_core::shelf::Shelf;
 use hosted_core::hosted::Hosted;
@@ -14,10 +14,10 @@ use std::io::Write;
 use text_core::write_whole;
 
 // Writes a line whole.
-pub(crate) fn say<W: Write>(writer: &mut W, line: &[u8]) -> Result<(), Failure> {
+pub(crate) fn say<W: Write>(writer: &mut W, line: &[u8]) -> Result<(), ToolFailure> {
     match write_whole(writer, line) {
         Ok(()) => Ok(()),
-        Err(_) => Err(Failure::WriteFault),
+        Err(_) => Err(ToolFailure::WriteFault),
     }
 }
 
@@ -26,7 +26,7 @@ fn tell_entries<W: Write>(
     alloc: Global,
     objects: &[Hosted],
     writer: &mut W,
-) -> Result<(), Failure> {
+) -> Result<(), ToolFailure> {
     for hosted in objects {
         let entries = hosted.entries();
         let mut line = hosted.name().as_bytes().to_vec(alloc)?;
@@ -48,7 +48,7 @@ pub fn end_objects<S: Shelf, W: Write, E: Write>(
     shelf: &mut S,
     writer: &mut W,
     error: &mut E,
-) -> Result<(), Failure>
+) -> Result<(), ToolFailure>
     ensures saved { OnOk result ((papers : Papers) → S.holds shelf.new papers → (before : Papers)
         × S.holds shelf.old before × ObjectsAreSaved objects.now before papers) }
 {
@@ -56,7 +56,7 @@ pub fn end_objects<S: Shelf, W: Write, E: Write>(
     let told = tell_entries(alloc, objects, writer);
     match saved {
         Ok(()) => told,
-        Err(HandFault::Device) => Err(Failure::WriteFault),
-        Err(HandFault::Memory) => Err(Failure::Memory),
+        Err(HandFault::Device) => Err(ToolFailure::WriteFault),
+        Err(HandFault::Memory) => Err(ToolFailure::Memory),
     }
 }

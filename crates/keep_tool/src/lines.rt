@@ -1,6 +1,6 @@
 //! What is told of objects that are not begun with.
 
-use answer_core::failure::Failure;
+use answer_core::failure::ToolFailure;
 use audit_core::verdict::AuditFault as TraceFault;
 use decl_core::object::Object;
 use keep_core::open::push_damaged;
@@ -65,7 +65,7 @@ pub(crate) fn told_line(
     object: &Object,
     name: &str,
     why: NotBegun,
-) -> Result<Vec<u8>, Failure> {
+) -> Result<Vec<u8>, ToolFailure> {
     let line = match why {
         NotBegun::Refused(fault) => refused_line(alloc, name, fault)?,
         NotBegun::NoPast => object_line(alloc, name, b" past does not fit\n")?,
@@ -75,8 +75,8 @@ pub(crate) fn told_line(
             push_damaged(&mut line, object, part)?;
             line
         }
-        NotBegun::Device => return Err(Failure::ReadFault),
-        NotBegun::Memory => return Err(Failure::Memory),
+        NotBegun::Device => return Err(ToolFailure::ReadFault),
+        NotBegun::Memory => return Err(ToolFailure::Memory),
     };
     Ok(line)
 }

@@ -1,7 +1,7 @@
 //! What a server that stays needs: its source with its rules, its folder, and the place where clients connect.
 
 use crate::ears::ears_at;
-use answer_core::failure::Failure;
+use answer_core::failure::ToolFailure;
 use answer_core::inputs::{lock_folder, source_at};
 use answer_core::said::{telling_of, told};
 use answer_core::socket::{Socket, path_of};
@@ -31,7 +31,7 @@ pub struct KeepNeeds {
 
 /// What the command line says of the log and the status of a server, and of clients that are gone. A failure is `Usage`
 /// where it says something else, or `Memory`.
-pub fn watching_of(alloc: Global, words: &Apart<'_>) -> Result<Watching, Failure> {
+pub fn watching_of(alloc: Global, words: &Apart<'_>) -> Result<Watching, ToolFailure> {
     match words.watching() {
         Ok(watching) => Ok(watching),
         Err(
@@ -40,12 +40,12 @@ pub fn watching_of(alloc: Global, words: &Apart<'_>) -> Result<Watching, Failure
                 option,
                 means,
             },
-        ) => Err(Failure::Usage(keep_error(alloc, word, option, means)?)),
+        ) => Err(ToolFailure::Usage(keep_error(alloc, word, option, means)?)),
     }
 }
 
 // The source with its rules. Where it lacks the file, or the source has a fault, that is told.
-fn source_of(rt: &HostRuntime, asked: Keeping<'_>) -> Result<Ruled, Failure> {
+fn source_of(rt: &HostRuntime, asked: Keeping<'_>) -> Result<Ruled, ToolFailure> {
     let source = match source_at(rt, asked.file) {
         Ok(source) => source,
         Err(lacking) => return Err(told(rt, lacking, asked.file)),
@@ -57,7 +57,7 @@ fn source_of(rt: &HostRuntime, asked: Keeping<'_>) -> Result<Ruled, Failure> {
 /// told. Where the holds of the source have a fault that is told, and nothing is given.
 ///
 /// A failure is `ReadFault` where it lacks something, `WriteFault` where a line could not be written, or `Memory`.
-pub fn needs_of(rt: &HostRuntime, asked: Keeping<'_>) -> Result<Option<KeepNeeds>, Failure> {
+pub fn needs_of(rt: &HostRuntime, asked: Keeping<'_>) -> Result<Option<KeepNeeds>, ToolFailure> {
     let (source, rules) = match source_of(rt, asked)? {
         Ruled::By(source, rules) => (source, rules),
         Ruled::Told(_) => return Ok(None),

@@ -6,7 +6,7 @@ ghost use Rattle.keep_log.specs.declared.line.LineForm.TheVariants.{Text, Json};
 
 use crate::ears::{place_text, tell_place};
 use crate::status::StatusFile;
-use answer_core::failure::Failure;
+use answer_core::failure::ToolFailure;
 use command_line::request::{Keeping, Sync};
 use command_line::watching::{LogForm, Watching};
 use hosted_core::hosted::MOST_LINES;
@@ -139,12 +139,12 @@ fn outside_of(
     watching: Watching,
     listener: ClientListener,
     start: u64,
-) -> Result<AllOutside, Failure> {
+) -> Result<AllOutside, ToolFailure> {
     let alloc = rt.alloc();
     let traces = u64::from(asked.traces).saturating_mul(MEGABYTE);
     let begun = Journals::begin(*rt, asked.folder, names, fronts, ROOM, traces);
     let Some(journals) = begun else {
-        return Err(Failure::WriteFault);
+        return Err(ToolFailure::WriteFault);
     };
     let form = form_of(watching.log);
     let told = names_of(alloc, names)?;
@@ -171,7 +171,7 @@ pub fn begin_outside<W: Write, L: Write>(
     start: u64,
     writer: &mut W,
     log: &mut Log<HostRuntime, L>,
-) -> Result<AllOutside, Failure> {
+) -> Result<AllOutside, ToolFailure> {
     let alloc = rt.alloc();
     let outside = outside_of(rt, names, fronts, asked, watching, listener, start)?;
     tell_place(alloc, asked, writer)?;

@@ -8,7 +8,7 @@ ghost use Rattle.stuck_core.specs.Stuck.{IsStuckAfter};
 use decl_core::analyse::Accepted;
 use decl_core::object::Object;
 use std::alloc::{AllocError, Global};
-use stuck_core::found::Ending;
+use stuck_core::found::StuckVerdict;
 use stuck_search::find::find;
 
 // So many states of each object are looked at before a server begins.
@@ -22,8 +22,8 @@ fn gets_stuck(alloc: Global, object: &Object) -> Result<bool, AllocError>
     let count = object.operations.len() as u16;
     let found = find(alloc, &object.paths, count, MOST_STATES)?;
     match found.ending {
-        Ending::After(_) => Ok(true),
-        Ending::Never | Ending::Unknown => Ok(false),
+        StuckVerdict::After(_) => Ok(true),
+        StuckVerdict::Never | StuckVerdict::Unknown => Ok(false),
     }
 }
 

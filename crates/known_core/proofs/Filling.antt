@@ -12,7 +12,7 @@ use Rattle.value_core.specs.declared.kind.Elem.TheVariants as elem
 use Rattle.value_core.specs.declared.kind.Kind.TheVariants as kind
 use Rattle.value_core.specs.Datum.{IsElement}
 use Rattle.value_core.specs.Contents.{Contents, array, queue, table, kind_of, IsContents}
-use Rattle.value_core.specs.Spelling.{spelling}
+use Rattle.value_bytes.specs.Spelling.{spelling}
 use Rattle.apply_core.specs.Pages.{HasFrame, page_at, page_of}
 use Rattle.apply_core.proofs.PieceSpelled.{all_bytes_spell, frame_is_due, pages_tell}
 use Rattle.known_core.specs.Known.{AgreeAt, KeepsAt}

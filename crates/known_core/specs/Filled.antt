@@ -3,8 +3,8 @@ use Rattle.std.specs.Prelude.{◌≡◌, ℕ, Bool, true, if◌then◌else◌, L
 use Rattle.value_core.specs.declared.kind.Elem.TheVariants as elem
 use Rattle.value_core.specs.declared.kind.Kind.TheVariants as kind
 use Rattle.value_core.specs.Contents.{Contents, kind_of, IsContents}
-use Rattle.value_core.specs.Spelling.{Spells, spelling}
-use Rattle.value_core.specs.Laws.{AreBytes}
+use Rattle.value_bytes.specs.Spelling.{Spells, spelling}
+use Rattle.value_bytes.specs.Laws.{AreBytes}
 use Rattle.apply_core.specs.Pages.{page_at, page_of}
 use Rattle.known_core.specs.Known.{AgreeAt, KeepsAt}
 

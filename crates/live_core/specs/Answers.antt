@@ -3,9 +3,9 @@ use Rattle.std.specs.Prelude.{◌∷◌, [], ◌≡◌, ◌≢◌, ℕ, ◌+◌,
 use Rattle.value_core.specs.declared.datum.Datum.{Datum}
 use Rattle.decl_core.specs.ObjectMap.{object_of}
 use Rattle.word_core.specs.Events.{Called}
-use Rattle.live_core.specs.declared.hall.CallRefusal.{CallRefusal}
-use Rattle.live_core.specs.declared.hall.CallRefusal.TheVariants.{Gone, UnknownOp, BadArgs, SessionBusy, Full, HistoryFull}
-use Rattle.live_core.specs.declared.hall.CallRefusal.TheVariants.{Memory}
+use Rattle.guest_core.specs.declared.answer.SubmitFault.{SubmitFault}
+use Rattle.guest_core.specs.declared.answer.SubmitFault.TheVariants.{Gone, UnknownOp, BadArgs, SessionBusy, Full, HistoryFull}
+use Rattle.guest_core.specs.declared.answer.SubmitFault.TheVariants.{Memory}
 use Rattle.live_core.specs.declared.call.Carried.{Carried}
 use Rattle.live_core.specs.declared.call.Limits.{Limits}
 use Rattle.path_count.specs.declared.past.PastEvent.{PastEvent}
@@ -34,7 +34,7 @@ pub record IsTaken (h : Hall) (c : Called) : Type 0 where
   pub numbers : h.before + h.given < 65536
 
 -- Why a call is refused: the first of the faults, in their order, that applies.
-abbrev pub IsRefused : Hall → Called → CallRefusal → Type 0
+abbrev pub IsRefused : Hall → Called → SubmitFault → Type 0
 IsRefused h c Gone = IsGone h c.session
 IsRefused h c UnknownOp = (IsGone h c.session → ⊥) × (length (object_of h.object).operations ≤ c.operation)
 IsRefused h c BadArgs =

@@ -15,50 +15,24 @@ ghost use Rattle.live_core.specs.Hall.{Told, trace, IsKept, IsHeld, IsCallOf, Ev
 ghost use Rattle.live_core.specs.Bodies.{IsFirstAt, IsNumberedAt, IsOfSessionAt};
 ghost use Rattle.live_core.specs.Epochs.{IsBegun, IsShortOf, told_behind};
 ghost use Rattle.live_core.specs.Answers.{asked, IsTaken, IsRefused, IsSetUp};
-ghost use Rattle.live_core.specs.declared.hall.CallRefusal.TheVariants.{Memory as OutOfMemory};
+ghost use Rattle.guest_core.specs.declared.answer.SubmitFault.TheVariants.{Memory as OutOfMemory};
 ghost use Rattle.live_core.specs.Steps.{joined, Leaves, IsSame, RunsOne, SettlesTo};
 
 use crate::body::{are_of, do_call, fits};
 use crate::call::{Limits, LiveCall, Ran};
 use crate::waiting::{first_to_start, place_for, place_of, renumber, take_at};
 use decl_core::object::Object;
+use guest_core::answer::SubmitFault;
 use path_count::counters::Counters;
 use path_count::past::{PastEvent, counters_behind};
 use path_tree::node::OpId;
 use std::alloc::{AllocError, Global};
 use std::marker::Model;
-use thiserror::Error;
 use value_core::datum::Datum;
 use value_core::value::Value;
 
 /// The most calls of an epoch and its past.
 pub const MOST_NUMBERS: u32 = 65_536;
-
-/// Why a call is refused. The first that applies is told, in this order.
-#[derive(Clone, Copy, Debug, PartialEq, Eq, Error)]
-pub enum CallRefusal {
-    /// There is no such session: its number is 0, or above the limit.
-    #[error("Gone")]
-    Gone,
-    /// The object has no operation at this place.
-    #[error("UnknownOp")]
-    UnknownOp,
-    /// The arguments do not fit the operation.
-    #[error("BadArgs")]
-    BadArgs,
-    /// A call of the session waits.
-    #[error("SessionBusy")]
-    SessionBusy,
-    /// As many calls wait as may.
-    #[error("Full")]
-    Full,
-    /// The numbers of this epoch are spent: with its past it has 65,536 calls.
-    #[error("HistoryFull")]
-    HistoryFull,
-    /// Memory was refused.
-    #[error("Memory")]
-    Memory,
-}
 
 // Counts a start of an operation and its finish.
 fn pass(counters: &mut Counters, op: OpId)
@@ -261,28 +235,28 @@ impl Hall {
         session: u32,
         operation: OpId,
         arguments: &[Datum],
-    ) -> Option<CallRefusal>
+    ) -> Option<SubmitFault>
         ensures refused { IfSome result (λ f. (f ≢ OutOfMemory)
             × IsRefused self.now (asked self.now session operation arguments.now) f) }
         ensures taken { IfNone result (IsTaken self.now (asked self.now session operation arguments.now)) }
     {
         if session == 0 || session > u32::from(self.limits.sessions) {
-            return Some(CallRefusal::Gone);
+            return Some(SubmitFault::Gone);
         }
         if operation as usize >= self.object.operations.len() {
-            return Some(CallRefusal::UnknownOp);
+            return Some(SubmitFault::UnknownOp);
         }
         if !fits(&self.object, operation, arguments) {
-            return Some(CallRefusal::BadArgs);
+            return Some(SubmitFault::BadArgs);
         }
         if place_for(&self.waiting, session).is_some() {
-            return Some(CallRefusal::SessionBusy);
+            return Some(SubmitFault::SessionBusy);
         }
         if self.waiting.len() >= self.limits.waiting as usize {
-            return Some(CallRefusal::Full);
+            return Some(SubmitFault::Full);
         }
         if self.before >= MOST_NUMBERS || self.given >= MOST_NUMBERS - self.before {
-            return Some(CallRefusal::HistoryFull);
+            return Some(SubmitFault::HistoryFull);
         }
         None
     }

@@ -25,5 +25,6 @@ pub mod lines;
 pub mod live;
 pub mod past;
 pub mod source;
+pub mod uncalled;
 mod waiting;
 pub mod write;

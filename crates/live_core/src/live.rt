@@ -12,8 +12,9 @@ ghost use Rattle.live_core.specs.Epochs.{IsBegun, told_behind};
 ghost use Rattle.live_core.specs.Answers.{asked, carried_from, IsTaken, IsRefused, IsSetUp};
 
 use crate::call::{Carried, Limits, LiveCall, Ran};
-use crate::hall::{CallRefusal, Hall};
+use crate::hall::Hall;
 use decl_core::object::Object;
+use guest_core::answer::SubmitFault;
 use path_count::counters::Counters;
 use path_count::past::PastEvent;
 use path_tree::node::OpId;
@@ -227,14 +228,14 @@ impl Live {
     /// Takes a call of a session, of the operation at this place of the object. Where it may start, it is done now, and
     /// then each waiting call that may start then, in the order of their numbers; else it waits.
     ///
-    /// The errors are those of [`CallRefusal`], in their order; a refused call takes no number and changes nothing. Where
+    /// The errors are those of [`SubmitFault`], in their order; a refused call takes no number and changes nothing. Where
     /// memory is refused to a body, its call fails (`failed N memory`).
     pub fn submit(
         &mut self,
         session: u32,
         operation: OpId,
         arguments: Vec<Datum>,
-    ) -> Result<Taken, CallRefusal>
+    ) -> Result<Taken, SubmitFault>
         ensures number { IfOk result (λ a. a.number ≡ self.old.given + 1) }
         ensures taken { IfOk result (λ a. IsTaken self.old (asked self.old session operation arguments.items)) }
         ensures settles { IfOk result (λ a. (t : Told) → IsHeld self.old t →
@@ -249,10 +250,10 @@ impl Live {
             return Err(refusal);
         }
         let Ok(mut ran) = Vec::with_capacity(self.alloc, self.hall.waits() + 1) else {
-            return Err(CallRefusal::Memory);
+            return Err(SubmitFault::Memory);
         };
         match self.hall.join(session, operation, arguments) {
-            Err(AllocError) => Err(CallRefusal::Memory),
+            Err(AllocError) => Err(SubmitFault::Memory),
             Ok(number) => {
                 self.hall.settle(&mut ran);
                 Ok(Taken { number, ran })

@@ -8,8 +8,8 @@ use Rattle.guest_core.specs.declared.answer.KeyedFault.{KeyedFault}
 use Rattle.board_core.specs.declared.answer.Keyed.{Keyed}
 use Rattle.board_core.specs.declared.answer.Keyed.TheVariants as keyed
 use Rattle.office_core.specs.declared.seat.Submitted.{Submitted}
-use Rattle.office_core.specs.declared.by_receipts.Resubmitted.{Resubmitted}
-use Rattle.office_core.specs.declared.by_receipts.Resubmitted.TheVariants as asked
+use Rattle.office_core.specs.declared.uncalled.Resubmitted.{Resubmitted}
+use Rattle.office_core.specs.declared.uncalled.Resubmitted.TheVariants as asked
 use Rattle.office_core.specs.Submissions.{Asks, IsOf}
 
 -- what the desk answers

@@ -9,7 +9,7 @@ ghost use Rattle.board_core.specs.Keyed.{Finds};
 use crate::client_seat::Seat;
 use crate::inside::Inside;
 use crate::office::Office;
-use board_core::answer::Kept;
+use board_core::answer::EarlierCall;
 use guest_core::answer::KeyedFault;
 use std::sync::Wait;
 use value_core::datum::Datum;
@@ -23,7 +23,7 @@ impl Inside {
         key: u32,
         op: &str,
         args: &[Datum],
-    ) -> Result<Option<Kept>, KeyedFault>
+    ) -> Result<Option<EarlierCall>, KeyedFault>
         ensures finds { Finds self.now.board (record {
           session = seat.now.session;
           name = op.now;
@@ -54,7 +54,7 @@ impl Office {
         key: u32,
         op: &str,
         args: &[Datum],
-    ) -> Result<Option<Kept>, KeyedFault>
+    ) -> Result<Option<EarlierCall>, KeyedFault>
         ensures { (b : Board) × IsSound b × Finds b (record {
           session = seat.now.session;
           name = op.now;

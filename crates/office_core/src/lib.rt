@@ -19,7 +19,6 @@
 //! submitted later.
 #![tactic(auto)]
 
-pub mod by_receipts;
 pub mod client_seat;
 pub mod clients;
 mod find;
@@ -35,3 +34,4 @@ pub mod seat;
 pub mod seats;
 pub mod slip;
 pub mod turns;
+pub mod uncalled;

@@ -3,7 +3,6 @@
 ghost use Rattle.std.specs.Prelude.{◌≡◌, ◌↔◌, [], IsTrue, IfSome, IfNone};
 ghost use Rattle.office_core.specs.Slips.{StandsIn, IsEntryTold, pins_told};
 
-use apply_core::reply::Reply;
 use apply_core::short::Short;
 use apply_core::slim::Slims;
 use board_core::entry::Entry;
@@ -62,13 +61,6 @@ impl Slip {
         ensures { result ≡ self.now.call.number }
     {
         self.number
-    }
-
-    /// What the call replied.
-    pub fn reply(&self) -> Reply
-        ensures { result ≡ self.now.reply }
-    {
-        self.reply.reply()
     }
 
     /// Whether this is what the call replied.

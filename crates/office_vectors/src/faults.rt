@@ -1,11 +1,11 @@
 //! Faults that no program meets.
 
 use device_core::hand::{HandFault, Stamp};
-use page_core::cut::is_cut;
 use page_core::fault::PageFault;
 use page_core::open::OpenFault;
 use page_core::page_list::PageList;
 use page_core::save::SaveFault;
+use page_core::uncalled::is_cut;
 
 // The longest page.
 const LONGEST: Stamp = Stamp {

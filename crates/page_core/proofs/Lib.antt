@@ -7,7 +7,6 @@ pub mod PinRows
 pub mod Planning
 pub mod Reading
 pub mod Renewing
-pub mod RenewedParts
 pub mod Stamps
 pub mod Together
 pub mod Transfer

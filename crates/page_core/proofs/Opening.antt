@@ -6,7 +6,7 @@ use Rattle.std.proofs.lemmas.List.{length-append, map-append}
 use Rattle.std.specs.FinMap.{get}
 use Rattle.value_core.specs.declared.kind.Kind.{Kind}
 use Rattle.value_core.specs.Contents.{Contents, kind_of}
-use Rattle.value_core.specs.Spelling.{SpellsInSome}
+use Rattle.value_bytes.specs.Spelling.{SpellsInSome}
 use Rattle.decl_core.specs.declared.object.Part.{Part}
 use Rattle.device_core.specs.declared.hand.Stamp.{Stamp}
 use Rattle.page_core.specs.declared.open.OpenFault.{OpenFault}

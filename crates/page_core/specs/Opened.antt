@@ -4,7 +4,7 @@ use Rattle.std.specs.FinMap.{get}
 use Rattle.value_core.specs.declared.kind.Kind.{Kind}
 use Rattle.value_core.specs.Contents.{Contents}
 use Rattle.value_core.specs.Meaning.{opening_of}
-use Rattle.value_core.specs.Spelling.{Spells, SpellsInSome}
+use Rattle.value_bytes.specs.Spelling.{Spells, SpellsInSome}
 use Rattle.decl_core.specs.declared.object.Part.{Part}
 use Rattle.device_core.specs.declared.hand.HandFault.{HandFault}
 use Rattle.device_core.specs.declared.hand.HandFault.TheVariants as hand

@@ -3,7 +3,7 @@ use Rattle.std.specs.Prelude.{◌≡◌, ℕ, ◌+◌, ◌<◌, ◌⊎◌, List,
 use Rattle.std.specs.FinMap.{insert}
 use Rattle.value_core.specs.declared.kind.Kind.{Kind}
 use Rattle.value_core.specs.Contents.{Contents}
-use Rattle.value_core.specs.Spelling.{Spells}
+use Rattle.value_bytes.specs.Spelling.{Spells}
 use Rattle.decl_core.specs.declared.object.Part.{Part}
 use Rattle.device_core.specs.declared.hand.HandFault.{HandFault}
 use Rattle.device_core.specs.declared.hand.HandFault.TheVariants as hand

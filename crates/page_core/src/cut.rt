@@ -1,7 +1,7 @@
 //! How bytes are cut into pages.
 
 ghost use Rattle.std.specs.Prelude.{◌≡◌, ◌↔◌, ℕ, ◌<◌, ◌≤◌, ◌^◌, IsTrue, IfSome, IfNone, length};
-ghost use Rattle.page_core.specs.Cut.{IsFirstFor, IsPageSize, together, IsLength, AreFull, AreCutLengths, lengths};
+ghost use Rattle.page_core.specs.Cut.{IsFirstFor, IsPageSize, together, IsLength, AreFull, lengths};
 
 use device_core::hand::Stamp;
 
@@ -64,30 +64,5 @@ pub fn are_full(size: usize, stamps: &[Stamp]) -> bool
     match stamps.split_first() {
         None => true,
         Some((first, more)) => is_length(size, first.len, more) && are_full(size, more),
-    }
-}
-
-// Whether so many bytes are cut into pages as long as these files.
-#[tactic(auto, using(crate::proofs::Cuts::is_cut_by, crate::proofs::Cuts::no_cut_by))]
-fn is_cut_of(count: usize, stamps: &[Stamp]) -> bool
-    requires { count ≡ together (lengths stamps.now) }
-    ensures { IsTrue result ↔ AreCutLengths (lengths stamps.now) }
-{
-    if count == 0 {
-        return false;
-    }
-    match page_size(count) {
-        None => false,
-        Some(size) => are_full(size, stamps),
-    }
-}
-
-/// Whether the lengths of these files are those of the pages into which as many bytes are cut. It takes no memory.
-pub fn is_cut(stamps: &[Stamp]) -> bool
-    ensures { IsTrue result ↔ AreCutLengths (lengths stamps.now) }
-{
-    match total(stamps) {
-        None => false,
-        Some(count) => is_cut_of(count, stamps),
     }
 }

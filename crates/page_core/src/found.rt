@@ -14,12 +14,12 @@ use std::marker::Model;
 /// The numbers of the value files that an earlier run left in a folder, each below 2^63, and the number with which the
 /// next run begins: the first one above them, from 1 on.
 #[derive(Drop)]
-pub struct Found {
+pub struct FoundFiles {
     numbers: Vec<u64>,
     first: u64,
 }
 
-impl Model for Found {
+impl Model for FoundFiles {
     ghost use Rattle.std.specs.Prelude.{◌<◌, ◌^◌, All};
     ghost use Rattle.std.specs.List.Sorted.{IsSorted};
     ghost use Rattle.std.specs.Ordering.{nat_cmp};
@@ -34,9 +34,9 @@ impl Model for Found {
         × IsSorted nat_cmp f.numbers.items };
 }
 
-impl Found {
+impl FoundFiles {
     /// These numbers, each below 2^63, the least first.
-    pub fn of(numbers: Vec<u64>) -> Found
+    pub fn of(numbers: Vec<u64>) -> FoundFiles
         requires { All (λ n. n < 2 ^ 63) numbers.items }
         ensures numbers { IsPermutation numbers.items result.numbers }
         ensures first { IsFirstAbove result.numbers result.first }
@@ -44,7 +44,7 @@ impl Found {
         let mut numbers = numbers;
         numbers.sort_unstable();
         let first = number_above(&numbers);
-        Found { numbers, first }
+        FoundFiles { numbers, first }
     }
 
     /// The numbers, each below 2^63, the least first.
@@ -68,7 +68,7 @@ impl Found {
 }
 
 /// What an earlier run left in a folder. The error is that of reading it, or of kind `OutOfMemory`.
-pub fn found_in<V: Values>(values: &V, alloc: Global) -> io::Result<Found> {
+pub fn found_in<V: Values>(values: &V, alloc: Global) -> io::Result<FoundFiles> {
     let numbers = values.numbers(alloc, 0, END_OF_NUMBERS)?;
-    Ok(Found::of(numbers))
+    Ok(FoundFiles::of(numbers))
 }

@@ -7,7 +7,7 @@ ghost use Rattle.value_core.specs.Kinds.{IsKind};
 ghost use Rattle.device_core.specs.declared.hand.Stamp.{Stamp};
 ghost use Rattle.device_core.specs.Device.{Assignment, Failed, Always, AreServed};
 ghost use Rattle.device_core.specs.Papers.{Papers, part_key};
-ghost use Rattle.page_core.specs.Opened.{open_fault_number, open_fault_name, open_fault_of, BeginsWith, IsPinned};
+ghost use Rattle.page_core.specs.Opened.{open_fault_of, BeginsWith, IsPinned};
 ghost use Rattle.page_core.specs.Opened.{AreLoaded, ArePinned, OpenCause, PartCause, PinCause};
 ghost use Rattle.page_core.specs.Pages.{ArePinsServed};
 
@@ -21,8 +21,8 @@ use device_core::shelf::Shelf;
 use path_tree::name::Name;
 use std::alloc::{AllocError, Global};
 use thiserror::Error;
-use value_core::decode::{DecodeFault, decode_kept};
-use value_core::encode::encode;
+use value_bytes::decode::{DecodeFault, decode_kept};
+use value_bytes::encode::encode;
 use value_core::kind::Kind;
 use value_core::value::Value;
 
@@ -39,30 +39,6 @@ pub enum OpenFault {
     /// Memory was refused.
     #[error("Memory")]
     Memory,
-}
-
-impl OpenFault {
-    /// The number of the fault: 1 to 3.
-    pub fn number(&self) -> u8
-        ensures { result ≡ open_fault_number self.now }
-    {
-        match self {
-            OpenFault::Damaged(_) => 1,
-            OpenFault::Device => 2,
-            OpenFault::Memory => 3,
-        }
-    }
-
-    /// The name of the fault, as in `Damaged`.
-    pub fn name(&self) -> &'static str
-        ensures { result.now ≡ open_fault_name self.now }
-    {
-        match self {
-            OpenFault::Damaged(_) => "Damaged",
-            OpenFault::Device => "Device",
-            OpenFault::Memory => "Memory",
-        }
-    }
 }
 
 impl From<AllocError> for OpenFault {

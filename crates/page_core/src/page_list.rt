@@ -1,11 +1,9 @@
 //! The pin of a part: its pages in order.
 
-ghost use Rattle.std.specs.Prelude.{◌≡◌, ◌≢◌, ◌↔◌, ◌<◌, ◌≤◌, ◌++◌, ◌∷◌, [], IfOk, length, drop};
-ghost use Rattle.std.specs.Result.{IsOk, IsErrOf};
-ghost use Rattle.page_core.specs.Cut.{AreCutLengths, lengths, no_stamp};
+ghost use Rattle.std.specs.Prelude.{◌≡◌, ◌<◌, ◌≤◌, ◌++◌, ◌∷◌, [], length, drop};
+ghost use Rattle.page_core.specs.Cut.{no_stamp};
 
-use crate::cut::{MOST_PAGES, is_cut};
-use crate::fault::PageFault;
+use crate::cut::MOST_PAGES;
 use device_core::hand::Stamp;
 use std::marker::Model;
 
@@ -41,25 +39,6 @@ impl Model for PageList {
 }
 
 impl PageList {
-    /// The page list that is these stamps.
-    #[tactic(auto, using(crate::proofs::Stamps::few_stamps))]
-    pub fn new(stamps: &[Stamp]) -> Result<PageList, PageFault>
-        ensures shown { IfOk result (λ list. list ≡ stamps.now) }
-        // It is refused exactly where there is no stamp, and where the lengths are those of no cut.
-        ensures cut { IsOk result ↔ AreCutLengths (lengths stamps.now) }
-        ensures empty { IsErrOf result PageFault.Empty ↔ (stamps.now ≡ []) }
-        ensures bad_length { IsErrOf result PageFault.BadLength
-            ↔ ((stamps.now ≢ []) × (AreCutLengths (lengths stamps.now) → ⊥)) }
-    {
-        if stamps.is_empty() {
-            return Err(PageFault::Empty);
-        }
-        if !is_cut(stamps) {
-            return Err(PageFault::BadLength);
-        }
-        Ok(PageList::of(stamps))
-    }
-
     /// The page list that is these stamps, whatever their lengths.
     pub fn of(stamps: &[Stamp]) -> PageList
         requires some { 0 < length stamps.now }

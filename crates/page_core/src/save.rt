@@ -5,7 +5,7 @@ ghost use Rattle.std.specs.FinMap.{insert};
 ghost use Rattle.device_core.specs.declared.hand.Stamp.{Stamp};
 ghost use Rattle.device_core.specs.Device.{Assignment, Failed, Always, AreServed};
 ghost use Rattle.device_core.specs.Papers.{Papers, part_key};
-ghost use Rattle.page_core.specs.Saved.{save_fault_number, save_fault_name, save_fault_of, IsFetched, AreFetched};
+ghost use Rattle.page_core.specs.Saved.{save_fault_of, IsFetched, AreFetched};
 ghost use Rattle.page_core.specs.Saved.{with_parts, SaveCause, PinSaveCause, StoreCause, SaveLeaves, PartLeaves};
 ghost use Rattle.page_core.specs.Saved.{StoreLeaves};
 ghost use Rattle.page_core.specs.Pages.{ArePinsServed};
@@ -20,7 +20,7 @@ use device_core::hand::{Hand, HandFault};
 use device_core::shelf::Shelf;
 use std::alloc::{AllocError, Global};
 use thiserror::Error;
-use value_core::decode::{DecodeFault, decode};
+use value_bytes::decode::{DecodeFault, decode};
 
 /// Why the parts of an object were not saved.
 #[derive(Clone, Copy, Debug, PartialEq, Eq, Error)]
@@ -36,30 +36,6 @@ pub enum SaveFault {
     /// Memory was refused.
     #[error("Memory")]
     Memory,
-}
-
-impl SaveFault {
-    /// The number of the fault: 1 to 3.
-    pub fn number(&self) -> u8
-        ensures { result ≡ save_fault_number self.now }
-    {
-        match self {
-            SaveFault::Damaged(_) => 1,
-            SaveFault::Device(_) => 2,
-            SaveFault::Memory => 3,
-        }
-    }
-
-    /// The name of the fault, as in `Damaged`.
-    pub fn name(&self) -> &'static str
-        ensures { result.now ≡ save_fault_name self.now }
-    {
-        match self {
-            SaveFault::Damaged(_) => "Damaged",
-            SaveFault::Device(_) => "Device",
-            SaveFault::Memory => "Memory",
-        }
-    }
 }
 
 impl From<AllocError> for SaveFault {

@@ -1,4 +1,4 @@
-//! A law of spellings, over the definitions alone. It speaks of values, not of devices, and belongs to `value_core`.
+//! A law of spellings, over the definitions alone. It speaks of values, not of devices, and belongs to `value_bytes`.
 
 ghost use Rattle.page_core.specs.StoreLaws.{SpellingsFit};
 

@@ -9,9 +9,10 @@ use Rattle.path_tree.specs.Path.{Path, Paths, name, list, sequence, bound, burst
 use Rattle.path_tree.specs.Names.{names}
 use Rattle.path_tree.specs.Limits.{IsPathTree, node_count, count_of_all}
 use Rattle.path_count.specs.declared.program.Step.{Step}
-use Rattle.path_count.specs.declared.object.Operation.{Operation}
+use Rattle.path_count.specs.declared.object.OperationPrograms.{OperationPrograms}
 use Rattle.path_count.specs.Program.{slots, slots_of}
 use Rattle.path_count.specs.Object.{all_slots, programs_of, AllOnce}
+use Rattle.path_count.specs.Parts.{chosen}
 use Rattle.path_count.specs.Steps.{IsCompiled, AreCompiled, AllZero}
 
 -- a path has fewer counters than nodes
@@ -29,6 +30,11 @@ mutual
 
 pub few_slots : (e : Path) → IsPathTree e → slots e < 256
 few_slots e tree = omega (arith, slots_below e, tree.few)
+
+-- a part that says nothing of any path has all of them
+pub whole_part : (k : ℕ) (paths : List Path) → chosen [] k paths ≡ paths
+whole_part k [] = refl
+whole_part k (p ∷ paths) = ap (λ rest. p ∷ rest) (whole_part (k + 1) paths)
 
 -- so many counters for one path more
 pub slots_next : (all rest : List Path) (p : Path) → all ≡ p ∷ rest → all_slots all ≡ slots p + all_slots rest
@@ -65,7 +71,7 @@ skip_unnamed steps p all rest at op done every absent is h =
     ∙ ap (λ x. done ++ programs_of steps x at op) (sym is) ∙ h
 
 -- one operation more
-pub compiled_push : (paths : List Path) (all now : List Operation) (o : Operation) → now ≡ all ++ o ∷ [] → AreCompiled paths all → IsCompiled paths (length all) o → AreCompiled paths now
+pub compiled_push : (paths : List Path) (all now : List OperationPrograms) (o : OperationPrograms) → now ≡ all ++ o ∷ [] → AreCompiled paths all → IsCompiled paths (length all) o → AreCompiled paths now
 compiled_push paths all now o is each last = subst (AreCompiled paths) (sym is) (λ op d lt. elim (leb_tells (length all) op) [
   | inl past ↦ let same : length all ≡ op = omega (arith, lt, past.1, length-append all (o ∷ [])) in
       subst (λ k. IsCompiled paths k (get_or (all ++ o ∷ []) k d)) same (subst (IsCompiled paths (length all)) (sym (get_or-append_seam all o [] d)) last)
@@ -73,8 +79,8 @@ compiled_push paths all now o is each last = subst (AreCompiled paths) (sym is) 
 ])
 
 -- the programs of an operation among those of all
-pub compiled_at : (f : Operation → List (List Step)) (all : List Operation) (op : ℕ) (programs : List (List Step)) → op < length all →
-    ((o : Operation) → f (get_or all op o) ≡ programs) → get_or (map f all) op [] ≡ programs
+pub compiled_at : (f : OperationPrograms → List (List Step)) (all : List OperationPrograms) (op : ℕ) (programs : List (List Step)) → op < length all →
+    ((o : OperationPrograms) → f (get_or all op o) ≡ programs) → get_or (map f all) op [] ≡ programs
 compiled_at f [] op programs lt h = absurd (omega (arith, lt))
 compiled_at f (o ∷ all) zero programs lt h = h o
 compiled_at f (o ∷ all) (suc op) programs lt h = compiled_at f all op programs (omega (arith, lt)) h

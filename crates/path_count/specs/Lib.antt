@@ -3,6 +3,7 @@ pub mod Kept
 pub mod Object
 pub mod State
 pub mod Stands
+pub mod Parts
 pub mod Steps
 pub mod View
 pub mod Laws

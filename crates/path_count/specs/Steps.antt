@@ -3,7 +3,7 @@ use Rattle.std.specs.Prelude.{◌≡◌, ℕ, ◌<◌, List, map, length, slice_
 use Rattle.path_tree.specs.Path.{Path}
 use Rattle.path_count.specs.declared.program.Step.{Step}
 use Rattle.path_count.specs.declared.program.Program.{Program}
-use Rattle.path_count.specs.declared.object.Operation.{Operation}
+use Rattle.path_count.specs.declared.object.OperationPrograms.{OperationPrograms}
 use Rattle.path_count.specs.Program.{start_steps, finish_steps}
 use Rattle.path_count.specs.Object.{programs_of}
 
@@ -11,13 +11,13 @@ abbrev pub steps_of : List Program → List (List Step)
 steps_of programs = map (λ p. p.steps.items) programs
 
 -- the programs of an operation are those of the paths that name it
-pub record IsCompiled (paths : List Path) (op : ℕ) (o : Operation) : Type 0 where
+pub record IsCompiled (paths : List Path) (op : ℕ) (o : OperationPrograms) : Type 0 where
   pub start : steps_of o.starts.items ≡ programs_of start_steps paths 0 op
   pub finish : steps_of o.finishes.items ≡ programs_of finish_steps paths 0 op
 
 -- so for each operation
-abbrev pub AreCompiled : List Path → List Operation → Type 0
-AreCompiled paths all = (op : ℕ) (o : Operation) → op < length all → IsCompiled paths op (slice_index_or all op o)
+abbrev pub AreCompiled : List Path → List OperationPrograms → Type 0
+AreCompiled paths all = (op : ℕ) (o : OperationPrograms) → op < length all → IsCompiled paths op (slice_index_or all op o)
 
 -- each counter is 0
 abbrev pub AllZero : List ℕ → Type 0

@@ -7,7 +7,7 @@ ghost use Rattle.path_tree.specs.Satisfies.{MayStart};
 ghost use Rattle.path_count.specs.Stands.{StandsFor, started_calls};
 
 use crate::compile::{no_calls, operations, zeros};
-use crate::object::{Operation, all_admit, finish_all, start_all};
+use crate::object::{OperationPrograms, all_admit, finish_all, start_all};
 use path_tree::node::OpId;
 use path_tree::tree::PathTree;
 use std::alloc::{AllocError, Global};
@@ -21,7 +21,7 @@ pub const MOST_STARTS: u32 = 65_536;
 #[derive(Drop)]
 pub struct Counters {
     words: Vec<u64>,
-    operations: Vec<Operation>,
+    operations: Vec<OperationPrograms>,
     running: Vec<u32>,
     taken: u32,
 }
@@ -138,8 +138,8 @@ impl Counters {
 pub fn compile(alloc: Global, paths: &[PathTree], n_ops: OpId) -> Result<Counters, AllocError>
     ensures { IfOk result (λ c. StandsFor c n_ops paths.now []) }
 {
-    let words = zeros(alloc, paths)?;
-    let operations = operations(alloc, paths, n_ops)?;
+    let words = zeros(alloc, paths, &[])?;
+    let operations = operations(alloc, paths, &[], n_ops)?;
     let running = no_calls(alloc, n_ops)?;
     Ok(Counters {
         words,

@@ -10,7 +10,7 @@ ghost use Rattle.pathserve.specs.Ends.{keep_status};
 ghost use Rattle.pathserve.specs.Kept.{IsKept};
 
 use answer_core::answer::{ACCEPTED, REFUSED};
-use answer_core::failure::Failure;
+use answer_core::failure::ToolFailure;
 use device_core::shelf::Shelf;
 use keep_loop::{Fault, LoopLimits, Outside, run};
 use keep_tool::ending::end_objects;
@@ -55,7 +55,7 @@ pub fn serve_table<O: Outside, S: Shelf, W: Write, E: Write>(
     shelf: &mut S,
     writer: &mut W,
     error: &mut E,
-) -> Result<Ended, Failure>
+) -> Result<Ended, ToolFailure>
     requires { IfSome (O.seen outside.old) (λ seen. seen ≡ []) }
     ensures honest { IfSome (O.seen outside.new) (λ seen. Always (IsHonest (rules_of Gives Fronts) table limits) seen) }
     ensures kept { OnOk result (IsKept Gives (λ last. (seen last).objects) table limits (O.seen outside.new) (λ papers. S.holds shelf.old papers)
@@ -66,7 +66,7 @@ pub fn serve_table<O: Outside, S: Shelf, W: Write, E: Write>(
             end_objects(alloc, table.objects(), shelf, writer, error)?;
             Ok(Ended { made: () })
         }
-        Err(Fault::Memory) => Err(Failure::Memory),
-        Err(Fault::Journal(_)) => Err(Failure::WriteFault),
+        Err(Fault::Memory) => Err(ToolFailure::Memory),
+        Err(Fault::Journal(_)) => Err(ToolFailure::WriteFault),
     }
 }

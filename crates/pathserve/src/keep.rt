@@ -1,14 +1,14 @@
 //! `pathserve keep`: objects in memory, over journals in a folder.
 
 use crate::ending::{Ended, KeepEnd, serve_table};
-use answer_core::failure::Failure;
+use answer_core::failure::ToolFailure;
 use command_line::past::Past;
 use command_line::request::Keeping;
 use command_line::watching::{Apart, Watching};
 use decl_core::hold::Rules;
 use device_core::dir_shelf::DirShelf;
 use keep_log::log::Log;
-use keep_tool::begin::{Kept, begin_source};
+use keep_tool::begin::{KeptObjects, begin_source};
 use keep_tool::needs::{KeepNeeds, needs_of, watching_of};
 use keep_tool::outside::{begin_outside, form_of, limits_of};
 use keep_tool::pasts::pasts_in;
@@ -18,28 +18,28 @@ use std::io::{self, Write};
 use table_core::table::Table;
 
 // What a failure ends with.
-fn status_of(ended: &Result<Ended, Failure>) -> u8 {
+fn status_of(ended: &Result<Ended, ToolFailure>) -> u8 {
     match ended {
         Ok(_) => 0,
-        Err(Failure::Usage(_)) => 2,
-        Err(Failure::ReadFault | Failure::WriteFault) => 3,
-        Err(Failure::Memory) => 4,
+        Err(ToolFailure::Usage(_)) => 2,
+        Err(ToolFailure::ReadFault | ToolFailure::WriteFault) => 3,
+        Err(ToolFailure::Memory) => 4,
     }
 }
 
 // Serves objects until the server is to end.
 fn serve_kept<W: Write, E: Write, L: Write>(
     rt: &HostRuntime,
-    kept: Kept,
+    kept: KeptObjects,
     asked: Keeping<'_>,
     watching: Watching,
     listener: ClientListener,
     writer: &mut W,
     error: &mut E,
     log: &mut Log<HostRuntime, L>,
-) -> Result<Ended, Failure> {
+) -> Result<Ended, ToolFailure> {
     let alloc = rt.alloc();
-    let Kept {
+    let KeptObjects {
         objects,
         names,
         fronts,
@@ -84,7 +84,7 @@ fn keep_source<W: Write, E: Write>(
     listener: ClientListener,
     writer: &mut W,
     error: &mut E,
-) -> Result<KeepEnd, Failure> {
+) -> Result<KeepEnd, ToolFailure> {
     let mut log = Log::new(rt.alloc(), form_of(watching.log), *rt, rt.stderr());
     let away = u64::from(watching.away);
     match begin_source(
@@ -103,7 +103,7 @@ pub(crate) fn run_keep(
     rt: &HostRuntime,
     asked: Keeping<'_>,
     words: &Apart<'_>,
-) -> Result<KeepEnd, Failure> {
+) -> Result<KeepEnd, ToolFailure> {
     let pasts = pasts_in(rt.alloc(), words.words())?;
     let watching = watching_of(rt.alloc(), words)?;
     let Some(needs) = needs_of(rt, asked)? else {

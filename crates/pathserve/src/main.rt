@@ -27,7 +27,7 @@ mod keep;
 use crate::ending::status_of_keep;
 use crate::keep::run_keep;
 use answer_core::answer::REFUSED;
-use answer_core::failure::{Failure, exit_status, words_end};
+use answer_core::failure::{ToolFailure, exit_status, words_end};
 use command_line::request::{Request, request_of};
 use command_line::watching::taken_apart;
 use command_tool::attempt::run_try;
@@ -72,7 +72,7 @@ fn main(rt: HostRuntime) -> ExitCode {
                     &mut rt.stderr(),
                 )
             } else {
-                Err(Failure::Memory)
+                Err(ToolFailure::Memory)
             };
             if let Some(socket) = socket {
                 socket.remove(&rt);
@@ -90,14 +90,14 @@ fn main(rt: HostRuntime) -> ExitCode {
 }
 
 // What the process ends with.
-fn code_of(ended: &Result<u8, Failure>) -> ExitCode
+fn code_of(ended: &Result<u8, ToolFailure>) -> ExitCode
     ensures { code result ≡ exit_status_of ended.now }
 {
     ExitCode::from(exit_status(ended))
 }
 
 // Does what the command line asks for, as far as it takes no threads.
-fn prepare(rt: &HostRuntime) -> Result<Prepared, Failure> {
+fn prepare(rt: &HostRuntime) -> Result<Prepared, ToolFailure> {
     let words: Vec<String> = env::args(rt)?.collect(rt.alloc())?;
     let words: Vec<&str> = words.iter().map(|word| word.as_str()).collect(rt.alloc())?;
     let words = taken_apart(rt.alloc(), words.as_slice())?;
@@ -117,7 +117,7 @@ fn prepare(rt: &HostRuntime) -> Result<Prepared, Failure> {
 }
 
 // Does what is asked for, and gives the exit status.
-fn run(rt: &HostRuntime, request: Request<'_>) -> Result<u8, Failure> {
+fn run(rt: &HostRuntime, request: Request<'_>) -> Result<u8, ToolFailure> {
     match request {
         Request::Paths => run_paths(rt),
         Request::Check(path, when, stuck) => run_check(rt, path, when, stuck),

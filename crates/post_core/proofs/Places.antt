@@ -5,7 +5,7 @@ use Rattle.std.proofs.lemmas.List.{append-nil}
 use Rattle.post_core.specs.Texts.{text_at, to}
 use Rattle.post_core.specs.Posts.{is_here_in, hears_in, stage_in, owed_in, staged, stage_of, owed_to, is_here, hears, Tells, Opens, Closes, Writes, Does}
 use Rattle.post_core.specs.Turns.{Asked, Gives}
-use Rattle.post_core.specs.declared.post.Place.{Place}
+use Rattle.post_core.specs.declared.post.ConnectionPlace.{ConnectionPlace}
 use Rattle.post_core.specs.declared.post.Post.{Post}
 use Rattle.post_core.specs.declared.post.Stage.{Stage}
 use Rattle.post_core.specs.declared.post.Stage.TheVariants.{Gone, Hears, Quits, Left}
@@ -32,11 +32,11 @@ here_by true s is = refl
 here_by false s is = absurd (true≢false (sym is))
 
 -- a place has one connection
-one_only : (o : Option Place) (a c : ℕ) → is_here_in (stage_in a o) ≡ true → is_here_in (stage_in c o) ≡ true → a ≡ c
+one_only : (o : Option ConnectionPlace) (a c : ℕ) → is_here_in (stage_in a o) ≡ true → is_here_in (stage_in c o) ≡ true → a ≡ c
 one_only None a c one two = absurd (true≢false (sym one))
 one_only (Some p) a c one two = sym (eqb-true p.who a (here_by (p.who == a) p.stage one)) ∙ eqb-true p.who c (here_by (p.who == c) p.stage two)
 
-same_place_by : (places : List Place) (a c : ℕ) (b d : Bool) → ((a % length places) == (c % length places)) ≡ b → (a == c) ≡ d →
+same_place_by : (places : List ConnectionPlace) (a c : ℕ) (b d : Bool) → ((a % length places) == (c % length places)) ≡ b → (a == c) ≡ d →
     is_here places a ≡ true → is_here places c ≡ true → b ≡ d
 same_place_by places a c true true at is one two = refl
 same_place_by places a c false false at is one two = refl
@@ -48,7 +48,7 @@ same_place_by places a c false true at is one two =
     sym (sym (eq-eqb (a % length places) (c % length places) (ap (λ n. n % length places) (eqb-true a c is))) ∙ at)
 
 -- two that are there have the same place exactly where they are the same
-pub same_place : (places : List Place) (a c : ℕ) → is_here places a ≡ true → is_here places c ≡ true →
+pub same_place : (places : List ConnectionPlace) (a c : ℕ) → is_here places a ≡ true → is_here places c ≡ true →
     ((a % length places) == (c % length places)) ≡ (a == c)
 same_place places a c one two = same_place_by places a c ((a % length places) == (c % length places)) (a == c) refl refl one two
 
@@ -58,7 +58,7 @@ here_of_hears_by Hears is = refl
 here_of_hears_by Quits is = refl
 here_of_hears_by Left is = refl
 
-pub here_of_hears : (places : List Place) (c : ℕ) → hears places c ≡ true → is_here places c ≡ true
+pub here_of_hears : (places : List ConnectionPlace) (c : ℕ) → hears places c ≡ true → is_here places c ≡ true
 here_of_hears places c is = here_of_hears_by (stage_of places c) is
 
 -- nothing is told
@@ -96,11 +96,11 @@ tells_still a b c said added one two =
 pub does_still : {S : Type 0} (gives : Gives S) (old : S) (asked : Asked) (new : S) (a b c : Post) → Does gives old asked new a b → Tells b c [] [] → Does gives old asked new a c
 does_still gives old asked new a b c d t = record { said = d.said; added = d.added; step = d.step; tells = tells_still a b c d.said d.added d.tells t }
 
-pub stage_same : (old new : List Place) → length new ≡ length old → ((c k : ℕ) → stage_in c (slice_get new k) ≡ stage_in c (slice_get old k)) →
+pub stage_same : (old new : List ConnectionPlace) → length new ≡ length old → ((c k : ℕ) → stage_in c (slice_get new k) ≡ stage_in c (slice_get old k)) →
     (c : ℕ) → stage_of new c ≡ stage_of old c
 stage_same old new count stage c = ap (λ n. stage_in c (slice_get new (c % n))) count ∙ stage c (c % length old)
 
-pub owed_same : (old new : List Place) → length new ≡ length old → ((k : ℕ) → owed_in (slice_get new k) ≡ owed_in (slice_get old k)) →
+pub owed_same : (old new : List ConnectionPlace) → length new ≡ length old → ((k : ℕ) → owed_in (slice_get new k) ≡ owed_in (slice_get old k)) →
     (c : ℕ) → owed_to new c ≡ owed_to old c
 owed_same old new count owed c = ap (λ n. owed_in (slice_get new (c % n))) count ∙ owed (c % length old)
 
@@ -185,7 +185,7 @@ tells_nobody post who bytes not = record {
     not_it who c true is fails holds = sym holds ∙ ap (λ k. is_here post.places.items k) (sym (eqb-true who c is)) ∙ fails
     not_it who c false is fails holds = refl
 
-restaged_here : (o : Option Place) (who c : ℕ) (s : Stage) → is_here_in (stage_in who o) ≡ true → is_here_in s ≡ true →
+restaged_here : (o : Option ConnectionPlace) (who c : ℕ) (s : Stage) → is_here_in (stage_in who o) ≡ true → is_here_in s ≡ true →
     is_here_in (staged c s o) ≡ is_here_in (stage_in c o)
 restaged_here None who c s was is = refl
 restaged_here (Some p) who c s was is = by_c (p.who == c)
@@ -198,7 +198,7 @@ restaged_here (Some p) who c s was is = by_c (p.who == c)
     by_c true = is ∙ sym (by_p (p.who == who) was)
     by_c false = refl
 
-restaged_deaf : (o : Option Place) (c : ℕ) (s : Stage) → hears_in s ≡ false → hears_in (staged c s o) ≡ false
+restaged_deaf : (o : Option ConnectionPlace) (c : ℕ) (s : Stage) → hears_in s ≡ false → hears_in (staged c s o) ≡ false
 restaged_deaf None c s is = refl
 restaged_deaf (Some p) c s is = by_c (p.who == c)
   where
@@ -236,7 +236,7 @@ tells_deaf old new who at s here is_here_s deaf is_at count lines owed stage = r
     by_d c true is = absurd (true≢false (sym is ∙ restaged_deaf (slice_get old.places.items (c % length old.places.items)) c s deaf))
     by_d c false is = is
 
-gone_not : (o : Option Place) (c : ℕ) → is_here_in (staged c Gone o) ≡ false
+gone_not : (o : Option ConnectionPlace) (c : ℕ) → is_here_in (staged c Gone o) ≡ false
 gone_not None c = refl
 gone_not (Some p) c = by_c (p.who == c)
   where
@@ -257,7 +257,7 @@ closes_place old new at count lines owed stage = record {
   owed = λ c. owed_same old.places.items new.places.items count owed c;
 }
   where
-    before : ℕ → Option Place
+    before : ℕ → Option ConnectionPlace
     before c = slice_get old.places.items (c % length old.places.items)
 
     now : (c : ℕ) → stage_of new.places.items c ≡ (if at == (c % length old.places.items) then staged c Gone (before c) else stage_in c (before c))
@@ -294,7 +294,7 @@ opens_place old new who at is_at count lines owed stage = record {
     spot : ℕ → ℕ
     spot c = c % length old.places.items
 
-    before : ℕ → Option Place
+    before : ℕ → Option ConnectionPlace
     before c = slice_get old.places.items (spot c)
 
     now : (c : ℕ) → stage_of new.places.items c ≡ (if at == spot c then (if who == c then Hears else Gone) else stage_in c (before c))

@@ -7,7 +7,7 @@ use Rattle.post_core.specs.Journal.{recovered, Begins, IsBetween}
 use Rattle.post_core.specs.Order.{Holds}
 use Rattle.post_core.specs.Run.{HoldsAtLeast}
 use Rattle.post_core.specs.declared.journal.Journal.{Journal}
-use Rattle.post_core.specs.declared.run.Step.{Step}
+use Rattle.post_core.specs.declared.uncalled.JournalStep.{JournalStep}
 use Rattle.post_core.proofs.Lines.{begins_on, begins_self}
 
 -- one run behind another
@@ -34,8 +34,8 @@ wider stored more text all found front back is = record {
 }
 
 -- the next step
-pub next_is : (steps : List Step) (i : ℕ) (step : Step) → i < length steps → step ≡ get_or steps i step → drop i steps ≡ step ∷ drop (i + 1) steps
-next_is steps i step inside is = drop_more steps i step inside ∙ ap (λ (s : Step). s ∷ drop (i + 1) steps) (sym is)
+pub next_is : (steps : List JournalStep) (i : ℕ) (step : JournalStep) → i < length steps → step ≡ get_or steps i step → drop i steps ≡ step ∷ drop (i + 1) steps
+next_is steps i step inside is = drop_more steps i step inside ∙ ap (λ (s : JournalStep). s ∷ drop (i + 1) steps) (sym is)
 
 module _ {D : Type 0} (seen : D → Option (List ℕ)) (moment : D → ℕ) (left_since : D → ℕ → List ℕ → Type 0) where
   -- the journal so far, since it held these lines; more are to come

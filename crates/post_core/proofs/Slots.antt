@@ -2,7 +2,7 @@
 use Rattle.std.proofs.Common.{◌≡◌, ℕ, zero, suc, ◌<◌, ◌%◌, List, [], ◌∷◌, refl, sym, ◌∙◌, ap, length, arith, eqb-true, true≢false, eq-eqb, Some}
 use Rattle.std.specs.Prelude.{Bool, true, false, Option, None, slice_get, slice_set, slice_index_or, if◌then◌else◌, ◌==◌}
 use Rattle.post_core.specs.Posts.{stage_in, stage_at, staged, stage_of}
-use Rattle.post_core.specs.declared.post.Place.{Place}
+use Rattle.post_core.specs.declared.post.ConnectionPlace.{ConnectionPlace}
 use Rattle.post_core.specs.declared.post.Stage.{Stage}
 use Rattle.post_core.specs.declared.post.Stage.TheVariants.{Gone, Hears}
 
@@ -28,25 +28,25 @@ set_by : {X : Type 0} (F : Option X → Stage) (xs : List X) (at k : ℕ) (x : X
 set_by F xs at k x within true is = ap (λ i. F (slice_get (slice_set xs at x) i)) (sym (eqb-true at k is)) ∙ ap F (set_here xs at x within)
 set_by F xs at k x within false is = ap F (set_other xs at x k (λ same. true≢false (sym (eq-eqb at k same) ∙ is)))
 
-restaged_by : (xs : List Place) (at k : ℕ) (old new : Place) (c : ℕ) (s : Stage) → at < length xs → old ≡ slice_index_or xs at old → new.who ≡ old.who → new.stage ≡ s →
+restaged_by : (xs : List ConnectionPlace) (at k : ℕ) (old new : ConnectionPlace) (c : ℕ) (s : Stage) → at < length xs → old ≡ slice_index_or xs at old → new.who ≡ old.who → new.stage ≡ s →
     (b : Bool) → (at == k) ≡ b → (if b then stage_in c (Some new) else stage_in c (slice_get xs k)) ≡ (if b then staged c s (slice_get xs k) else stage_in c (slice_get xs k))
 restaged_by xs at k old new c s within read who stage false is = refl
 restaged_by xs at k old new c s within read who stage true is =
     ap (λ w. if w == c then new.stage else Gone) who ∙ ap (λ t. if old.who == c then t else Gone) stage
     ∙ ap (staged c s) (ap (λ p. Some p) read ∙ sym (get_here xs at old within) ∙ ap (λ i. slice_get xs i) (eqb-true at k is))
 
-pub restaged : (xs : List Place) (at k : ℕ) (old new : Place) (c : ℕ) (s : Stage) → at < length xs → old ≡ slice_index_or xs at old → new.who ≡ old.who → new.stage ≡ s →
+pub restaged : (xs : List ConnectionPlace) (at k : ℕ) (old new : ConnectionPlace) (c : ℕ) (s : Stage) → at < length xs → old ≡ slice_index_or xs at old → new.who ≡ old.who → new.stage ≡ s →
     stage_in c (slice_get (slice_set xs at new) k) ≡ (if at == k then staged c s (slice_get xs k) else stage_in c (slice_get xs k))
 restaged xs at k old new c s within read who stage =
     set_by (stage_in c) xs at k new within (at == k) refl ∙ restaged_by xs at k old new c s within read who stage (at == k) refl
 
-pub opened : (xs : List Place) (at k : ℕ) (new : Place) (c who : ℕ) → at < length xs → new.who ≡ who → new.stage ≡ Hears →
+pub opened : (xs : List ConnectionPlace) (at k : ℕ) (new : ConnectionPlace) (c who : ℕ) → at < length xs → new.who ≡ who → new.stage ≡ Hears →
     stage_in c (slice_get (slice_set xs at new) k) ≡ (if at == k then (if who == c then Hears else Gone) else stage_in c (slice_get xs k))
 opened xs at k new c who within is stage =
     set_by (stage_in c) xs at k new within (at == k) refl
     ∙ ap (λ s. if at == k then s else stage_in c (slice_get xs k)) (ap (λ w. if w == c then new.stage else Gone) is ∙ ap (λ t. if who == c then t else Gone) stage)
 
-gone_in : (c : ℕ) (o : Option Place) → stage_at o ≡ Gone → stage_in c o ≡ Gone
+gone_in : (c : ℕ) (o : Option ConnectionPlace) → stage_at o ≡ Gone → stage_in c o ≡ Gone
 gone_in c None is = refl
 gone_in c (Some p) is = by_c (p.who == c)
   where
@@ -54,5 +54,5 @@ gone_in c (Some p) is = by_c (p.who == c)
     by_c true = is
     by_c false = refl
 
-pub nobody : (places : List Place) → ((k : ℕ) → stage_at (slice_get places k) ≡ Gone) → (c : ℕ) → stage_of places c ≡ Gone
+pub nobody : (places : List ConnectionPlace) → ((k : ℕ) → stage_at (slice_get places k) ≡ Gone) → (c : ℕ) → stage_of places c ≡ Gone
 nobody places none c = gone_in c (slice_get places (c % length places)) (none (c % length places))

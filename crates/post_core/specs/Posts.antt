@@ -2,34 +2,34 @@
 use Rattle.std.specs.Prelude.{◌≡◌, ◌⊎◌, ◌<◌, ◌%◌, ℕ, Bool, true, false, List, [], ◌++◌, Option, Some, None, slice_get, length, drop, if◌then◌else◌, ◌==◌}
 use Rattle.post_core.specs.Texts.{text_at, to}
 use Rattle.post_core.specs.Turns.{Asked, Gives}
-use Rattle.post_core.specs.declared.post.Place.{Place}
+use Rattle.post_core.specs.declared.post.ConnectionPlace.{ConnectionPlace}
 use Rattle.post_core.specs.declared.post.Post.{Post}
 use Rattle.post_core.specs.declared.post.Stage.{Stage}
 use Rattle.post_core.specs.declared.post.Stage.TheVariants.{Gone, Hears, Quits, Left}
 
-abbrev pub stage_in : ℕ → Option Place → Stage
+abbrev pub stage_in : ℕ → Option ConnectionPlace → Stage
 stage_in c None = Gone
 stage_in c (Some place) = if place.who == c then place.stage else Gone
 
-abbrev pub stage_at : Option Place → Stage
+abbrev pub stage_at : Option ConnectionPlace → Stage
 stage_at None = Gone
 stage_at (Some place) = place.stage
 
-abbrev pub owed_in : Option Place → List ℕ
+abbrev pub owed_in : Option ConnectionPlace → List ℕ
 owed_in None = []
 owed_in (Some place) = place.owed.items
 
 -- the same, where the one at the place is now so far
-abbrev pub staged : ℕ → Stage → Option Place → Stage
+abbrev pub staged : ℕ → Stage → Option ConnectionPlace → Stage
 staged c stage None = Gone
 staged c stage (Some place) = if place.who == c then stage else Gone
 
 -- the place of a connection of this number
-abbrev pub place_at : List Place → ℕ → Option Place
+abbrev pub place_at : List ConnectionPlace → ℕ → Option ConnectionPlace
 place_at places c = slice_get places (c % length places)
 
 -- how far a connection is
-abbrev pub stage_of : List Place → ℕ → Stage
+abbrev pub stage_of : List ConnectionPlace → ℕ → Stage
 stage_of places c = stage_in c (place_at places c)
 
 abbrev pub is_here_in : Stage → Bool
@@ -45,15 +45,15 @@ hears_in Quits = false
 hears_in Left = false
 
 -- a connection has come, and is not closed
-abbrev pub is_here : List Place → ℕ → Bool
+abbrev pub is_here : List ConnectionPlace → ℕ → Bool
 is_here places c = is_here_in (stage_of places c)
 
 -- its lines are heard
-abbrev pub hears : List Place → ℕ → Bool
+abbrev pub hears : List ConnectionPlace → ℕ → Bool
 hears places c = hears_in (stage_of places c)
 
 -- what is owed to a connection that is there
-abbrev pub owed_to : List Place → ℕ → List ℕ
+abbrev pub owed_to : List ConnectionPlace → ℕ → List ℕ
 owed_to places c = owed_in (place_at places c)
 
 -- to each connection that is there is owed what is said to it, to each journal what is added to it, and nothing else

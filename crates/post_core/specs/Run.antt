@@ -3,21 +3,21 @@ use Rattle.std.specs.Prelude.{ℕ, List, [], ◌∷◌, ◌++◌, Option}
 use Rattle.post_core.specs.Journal.{AreLines, Begins}
 use Rattle.post_core.specs.Order.{Holds}
 use Rattle.post_core.specs.declared.journal.Journal.{Journal}
-use Rattle.post_core.specs.declared.run.Step.{Step}
-use Rattle.post_core.specs.declared.run.Step.TheVariants.{Lines, Sync}
+use Rattle.post_core.specs.declared.uncalled.JournalStep.{JournalStep}
+use Rattle.post_core.specs.declared.uncalled.JournalStep.TheVariants.{Lines, Sync}
 
 -- what a step adds
-abbrev pub added_by : Step → List ℕ
+abbrev pub added_by : JournalStep → List ℕ
 added_by (Lines lines) = lines.items
 added_by Sync = []
 
 -- what these steps add
-abbrev pub added : List Step → List ℕ
+abbrev pub added : List JournalStep → List ℕ
 added [] = []
 added (step ∷ steps) = added_by step ++ added steps
 
 -- each step adds lines
-abbrev pub AreSteps : List Step → Type 0
+abbrev pub AreSteps : List JournalStep → Type 0
 AreSteps [] = Unit {0}
 AreSteps (step ∷ steps) = AreLines (added_by step) × AreSteps steps
 

@@ -1,17 +1,17 @@
 -- Texts.
 use Rattle.std.specs.Prelude.{◌≡◌, ℕ, false, List, [], ◌∷◌, ◌++◌, All, if◌then◌else◌, ◌==◌, Option, Some, None, slice_get}
-use Rattle.post_core.specs.declared.post.Text.{Text}
+use Rattle.post_core.specs.declared.post.OwedText.{OwedText}
 
 -- no byte is an LF
 abbrev pub NoLineFeed : List ℕ → Type 0
 NoLineFeed bytes = All (λ b. (b == 10) ≡ false) bytes
 
-abbrev pub bytes_of : Option Text → List ℕ
+abbrev pub bytes_of : Option OwedText → List ℕ
 bytes_of None = []
 bytes_of (Some text) = text.bytes.items
 
 -- the text at this place
-abbrev pub text_at : List Text → ℕ → List ℕ
+abbrev pub text_at : List OwedText → ℕ → List ℕ
 text_at texts j = bytes_of (slice_get texts j)
 
 -- text begins with front

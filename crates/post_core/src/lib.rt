@@ -19,6 +19,5 @@ pub mod folder;
 pub mod journal;
 pub mod memory;
 pub mod post;
-pub mod round;
-pub mod run;
 pub mod served;
+pub mod uncalled;

@@ -15,7 +15,7 @@ const MOST_ROOM: usize = 3_072;
 
 /// Bytes.
 #[derive(Drop)]
-pub struct Text {
+pub struct OwedText {
     pub bytes: Vec<u8>,
 }
 
@@ -34,7 +34,7 @@ pub enum Stage {
 
 /// The place of a connection: one after the other may have it.
 #[derive(Drop)]
-pub struct Place {
+pub struct ConnectionPlace {
     pub who: u64,
     pub stage: Stage,
     pub owed: Vec<u8>,
@@ -49,8 +49,8 @@ pub struct Place {
 /// What is owed to connections and to journals.
 #[derive(Drop)]
 pub struct Post {
-    pub(crate) places: Vec<Place>,
-    pub(crate) lines: Vec<Text>,
+    pub(crate) places: Vec<ConnectionPlace>,
+    pub(crate) lines: Vec<OwedText>,
     // Connections to which something may be written.
     pub(crate) told: Vec<u64>,
     // Connections of which something may be read, who waits longest first.
@@ -82,7 +82,7 @@ fn hears_in(stage: Stage) -> bool
 }
 
 // How far the connection of a number is.
-fn stage_of(places: &[Place], who: u64) -> Stage
+fn stage_of(places: &[ConnectionPlace], who: u64) -> Stage
     ensures { result ≡ stage_of places.now who }
 {
     if places.is_empty() {
@@ -97,7 +97,7 @@ fn stage_of(places: &[Place], who: u64) -> Stage
 }
 
 // The place of a connection that is there.
-fn find(places: &[Place], who: u64) -> Option<usize>
+fn find(places: &[ConnectionPlace], who: u64) -> Option<usize>
     ensures within { IfSome result (λ at. at < length places.now) }
     ensures at { IfSome result (λ at. at ≡ who % length places.now) }
     ensures here { IfSome result (λ at. is_here places.now who ≡ true) }
@@ -110,7 +110,7 @@ fn find(places: &[Place], who: u64) -> Option<usize>
 }
 
 // The one at a place is owed these bytes too.
-fn owe(places: &mut Vec<Place>, at: usize, bytes: &[u8]) -> Result<(), AllocError>
+fn owe(places: &mut Vec<ConnectionPlace>, at: usize, bytes: &[u8]) -> Result<(), AllocError>
     requires { at < length places.old.items }
     ensures count { length places.new.items ≡ length places.old.items }
     ensures owed { OnOk result ((k : ℕ) → owed_in (slice_get places.new.items k)
@@ -122,7 +122,7 @@ fn owe(places: &mut Vec<Place>, at: usize, bytes: &[u8]) -> Result<(), AllocErro
 }
 
 // The one at a place is owed the first bytes no more.
-fn cut(places: &mut Vec<Place>, at: usize, n: usize)
+fn cut(places: &mut Vec<ConnectionPlace>, at: usize, n: usize)
     requires within { at < length places.old.items }
     requires bound { n ≤ length (owed_in (slice_get places.old.items at)) }
     ensures count { length places.new.items ≡ length places.old.items }
@@ -139,7 +139,7 @@ fn cut(places: &mut Vec<Place>, at: usize, n: usize)
 }
 
 // The one at a place is so far.
-fn set_stage(places: &mut Vec<Place>, at: usize, stage: Stage)
+fn set_stage(places: &mut Vec<ConnectionPlace>, at: usize, stage: Stage)
     requires { at < length places.old.items }
     ensures count { length places.new.items ≡ length places.old.items }
     ensures owed { (k : ℕ) → owed_in (slice_get places.new.items k) ≡ owed_in (slice_get places.old.items k) }
@@ -150,7 +150,7 @@ fn set_stage(places: &mut Vec<Place>, at: usize, stage: Stage)
 }
 
 // Whether the one at a place stands among those that are owed something. Its mark is set.
-fn list(places: &mut Vec<Place>, at: usize, is_listed: bool) -> bool
+fn list(places: &mut Vec<ConnectionPlace>, at: usize, is_listed: bool) -> bool
     requires { at < length places.old.items }
     ensures count { length places.new.items ≡ length places.old.items }
     ensures owed { (k : ℕ) → owed_in (slice_get places.new.items k) ≡ owed_in (slice_get places.old.items k) }
@@ -162,7 +162,7 @@ fn list(places: &mut Vec<Place>, at: usize, is_listed: bool) -> bool
 }
 
 // Whether the one at a place stands among those that are to be read. Its mark is set.
-fn call(places: &mut Vec<Place>, at: usize, is_called: bool) -> bool
+fn call(places: &mut Vec<ConnectionPlace>, at: usize, is_called: bool) -> bool
     requires { at < length places.old.items }
     ensures count { length places.new.items ≡ length places.old.items }
     ensures owed { (k : ℕ) → owed_in (slice_get places.new.items k) ≡ owed_in (slice_get places.old.items k) }
@@ -174,7 +174,7 @@ fn call(places: &mut Vec<Place>, at: usize, is_called: bool) -> bool
 }
 
 // A connection has a place, and is heard.
-fn open(places: &mut Vec<Place>, at: usize, who: u64)
+fn open(places: &mut Vec<ConnectionPlace>, at: usize, who: u64)
     requires { at < length places.old.items }
     ensures count { length places.new.items ≡ length places.old.items }
     ensures owed { (k : ℕ) → owed_in (slice_get places.new.items k) ≡ (if at == k then [] else owed_in (slice_get places.old.items k)) }
@@ -191,7 +191,7 @@ fn open(places: &mut Vec<Place>, at: usize, who: u64)
 }
 
 // The one at a place broke.
-fn set_broken(places: &mut Vec<Place>, at: usize)
+fn set_broken(places: &mut Vec<ConnectionPlace>, at: usize)
     requires { at < length places.old.items }
     ensures count { length places.new.items ≡ length places.old.items }
     ensures owed { (k : ℕ) → owed_in (slice_get places.new.items k) ≡ owed_in (slice_get places.old.items k) }
@@ -201,7 +201,7 @@ fn set_broken(places: &mut Vec<Place>, at: usize)
 }
 
 // There is room to owe so many bytes more to the one at a place.
-fn reserve_owed(places: &mut Vec<Place>, at: usize, more: usize) -> Result<(), AllocError>
+fn reserve_owed(places: &mut Vec<ConnectionPlace>, at: usize, more: usize) -> Result<(), AllocError>
     requires { at < length places.old.items }
     ensures count { length places.new.items ≡ length places.old.items }
     ensures owed { (k : ℕ) → owed_in (slice_get places.new.items k) ≡ owed_in (slice_get places.old.items k) }
@@ -212,7 +212,7 @@ fn reserve_owed(places: &mut Vec<Place>, at: usize, more: usize) -> Result<(), A
 }
 
 // There is room for so many bytes more in the text at a place.
-fn reserve(texts: &mut Vec<Text>, at: usize, more: usize) -> Result<(), AllocError>
+fn reserve(texts: &mut Vec<OwedText>, at: usize, more: usize) -> Result<(), AllocError>
     requires { at < length texts.old.items }
     ensures count { length texts.new.items ≡ length texts.old.items }
     ensures text { (k : ℕ) → text_at texts.new.items k ≡ text_at texts.old.items k }
@@ -222,13 +222,13 @@ fn reserve(texts: &mut Vec<Text>, at: usize, more: usize) -> Result<(), AllocErr
 }
 
 // Places that nobody has yet.
-fn no_places(alloc: Global, count: usize) -> Result<Vec<Place>, AllocError>
+fn no_places(alloc: Global, count: usize) -> Result<Vec<ConnectionPlace>, AllocError>
     ensures count { IfOk result (λ places. length places.items ≡ count) }
     ensures none { IfOk result (λ places. (k : ℕ) → stage_at (slice_get places.items k) ≡ Gone) }
 {
     let mut places = Vec::new(alloc);
     for _place in 0..count {
-        places.push(Place {
+        places.push(ConnectionPlace {
             who: 0,
             stage: Stage::Gone,
             owed: Vec::new(alloc),
@@ -241,20 +241,20 @@ fn no_places(alloc: Global, count: usize) -> Result<Vec<Place>, AllocError>
 }
 
 /// Texts, so many, with nothing in them.
-pub fn no_texts(alloc: Global, count: usize) -> Result<Vec<Text>, AllocError>
+pub fn no_texts(alloc: Global, count: usize) -> Result<Vec<OwedText>, AllocError>
     ensures count { IfOk result (λ texts. length texts.items ≡ count) }
     ensures empty { IfOk result (λ texts. (k : ℕ) → text_at texts.items k ≡ []) }
 {
     let mut texts = Vec::new(alloc);
     for _text in 0..count {
         let bytes = Vec::new(alloc);
-        texts.push(Text { bytes })?;
+        texts.push(OwedText { bytes })?;
     }
     Ok(texts)
 }
 
 /// Adds bytes to the text at a place.
-pub fn join(texts: &mut Vec<Text>, at: usize, bytes: &[u8]) -> Result<(), AllocError>
+pub fn join(texts: &mut Vec<OwedText>, at: usize, bytes: &[u8]) -> Result<(), AllocError>
     requires { at < length texts.old.items }
     ensures count { length texts.new.items ≡ length texts.old.items }
     ensures text { OnOk result ((k : ℕ) → text_at texts.new.items k ≡ text_at texts.old.items k ++ (if at == k then bytes.now else [])) }
@@ -264,7 +264,7 @@ pub fn join(texts: &mut Vec<Text>, at: usize, bytes: &[u8]) -> Result<(), AllocE
 }
 
 /// Lets the text at a place go.
-pub fn clear(texts: &mut Vec<Text>, at: usize)
+pub fn clear(texts: &mut Vec<OwedText>, at: usize)
     requires { at < length texts.old.items }
     ensures count { length texts.new.items ≡ length texts.old.items }
     ensures text { (k : ℕ) → text_at texts.new.items k ≡ (if at == k then [] else text_at texts.old.items k) }

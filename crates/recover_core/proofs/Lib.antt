@@ -4,7 +4,6 @@ pub mod Hearing
 pub mod Recovering
 mod Ending
 mod Named
-mod Numerals
 mod HoldPlaying
 mod Reading
 mod Safe

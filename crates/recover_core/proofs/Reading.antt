@@ -10,7 +10,7 @@ use Rattle.std.specs.Global.{Vec}
 use Rattle.word_core.specs.declared.word.Word as declared
 use Rattle.word_core.specs.View.{AreWordsOf, words_of}
 use Rattle.word_core.specs.Words.{Word, bare, AreWords, words_text, line_of}
-use Rattle.word_core.specs.Data.{◌>>=◌, bare_of, session_of, session_word, datum_word, data_of}
+use Rattle.word_core.specs.Data.{◌>>=◌, bare_of, long_of, session_of, session_word, datum_word, data_of}
 use Rattle.word_core.proofs.Clear.{written_data}
 use Rattle.word_core.proofs.Cutting.{words_unique}
 use Rattle.word_core.proofs.Written.{written_session, written_words}
@@ -21,13 +21,13 @@ use Rattle.live_core.specs.Front.{Every, IsLong, IsSession, IsOperation}
 use Rattle.live_core.specs.Text.{call_words}
 use Rattle.front_read.specs.Calls.{operation_in}
 use Rattle.front_read.specs.Rows.{row_words}
-use Rattle.front_read.specs.Words.{behind_verb, long_first, long_of, session_first}
+use Rattle.front_read.specs.Words.{behind_verb, long_first, session_first}
 use Rattle.decl_core.specs.HoldForm.{HoldForm}
 use Rattle.guest_core.specs.Held.{HeldCall, hold_of_op}
 use Rattle.front_read.specs.HeldLines.{held_op, held_words, op_by, IsHeldLine}
 use Rattle.recover_core.specs.HeldSo.{held_head, held_so, IsHeldBy, TakesBy, TakesHeld, Tells}
 use Rattle.recover_core.proofs.Named.{first_of, rule_at}
-use Rattle.recover_core.proofs.Numerals.{long_fits, long_of-decimal}
+use Rattle.word_core.proofs.Longs.{long_fits, long_of-decimal}
 use Rattle.recover_core.proofs.Safe.{all_of, decimal_safe, known, named_safe, session_safe}
 
 pub some_same : {X : Type 0} {x y : X} → ◌≡◌ {A = Option X} (Some x) (Some y) → x ≡ y

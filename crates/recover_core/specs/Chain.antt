@@ -7,7 +7,7 @@ use Rattle.live_core.specs.declared.front.KeptCall.{KeptCall}
 use Rattle.live_core.specs.Front.{Opening}
 use Rattle.live_core.specs.Past.{events_in}
 use Rattle.guest_core.specs.declared.guest.Guest.{Guest}
-use Rattle.guest_core.specs.declared.kept.Kept.{Kept}
+use Rattle.guest_core.specs.declared.kept.RememberedCall.{RememberedCall}
 use Rattle.guest_core.specs.Guests.{Guests, IsNamed}
 use Rattle.guest_core.specs.Keys.{asks}
 use Rattle.recover_core.specs.declared.recover.Recovered.{Recovered}
@@ -22,27 +22,27 @@ AreNumbered base greatest next carried =
     (base + greatest ≤ next + carried) × (next + carried ≤ (base + greatest) + 65536)
 
 -- a kept line says of a call what was asked, told and replied
-pub record IsSameCall (k : KeptCall) (c : Kept) : Type 0 where
+pub record IsSameCall (k : KeptCall) (c : RememberedCall) : Type 0 where
   pub asked : asks k.operation k.arguments ≡ c.asked
   pub told : k.told ≡ c.told
   pub reply : reply_in k.answer ≡ c.reply
 
 -- A kept line is of this call of a client, behind which so many calls of it are kept: it has the client's session and the
 -- call's key, the last key that the client has used less so many.
-pub record IsLineFor (client : NamedClient) (behind : ℕ) (k : KeptCall) (c : Kept) : Type 0 where
+pub record IsLineFor (client : NamedClient) (behind : ℕ) (k : KeptCall) (c : RememberedCall) : Type 0 where
   pub session : k.session ≡ client.session
   pub key : k.key + behind ≡ client.keys
   pub same : IsSameCall k c
 
 -- kept lines, the oldest call first, are of these calls of a client, the newest first
-abbrev pub AreLinesFor : NamedClient → List KeptCall → List Kept → Type 0
+abbrev pub AreLinesFor : NamedClient → List KeptCall → List RememberedCall → Type 0
 AreLinesFor client [] kept = kept ≡ []
 AreLinesFor client (k ∷ calls) kept =
-    (others : List Kept) × (last : Kept) × (kept ≡ others ++ last ∷ []) × IsLineFor client (length others) k last
+    (others : List RememberedCall) × (last : RememberedCall) × (kept ≡ others ++ last ∷ []) × IsLineFor client (length others) k last
     × AreLinesFor client calls others
 
 -- the client of this line was known, with this session and this next key; these of its calls are kept
-pub record IsKnown (v : Guests) (c : NamedClient) (kept : List Kept) : Type 0 where
+pub record IsKnown (v : Guests) (c : NamedClient) (kept : List RememberedCall) : Type 0 where
   pub place : ℕ
   pub guest : Guest
   pub by : IsNamed v c.session place guest
@@ -54,7 +54,7 @@ pub record IsKnown (v : Guests) (c : NamedClient) (kept : List Kept) : Type 0 wh
 abbrev pub AreKnown : Guests → List NamedClient → List KeptCall → Type 0
 AreKnown v [] kept = kept ≡ []
 AreKnown v (c ∷ clients) kept =
-    (mine : List KeptCall) × (more : List KeptCall) × (calls : List Kept) × (kept ≡ mine ++ more)
+    (mine : List KeptCall) × (more : List KeptCall) × (calls : List RememberedCall) × (kept ≡ mine ++ more)
     × IsKnown v c calls × AreLinesFor c mine calls × AreKnown v clients more
 
 -- An epoch that begins so may follow one that came to this.

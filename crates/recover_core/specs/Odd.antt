@@ -3,7 +3,7 @@ use Rattle.std.specs.Prelude.{◌≡◌, ◌≢◌, ◌⊎◌, ℕ, ◌<◌, ◌
 use Rattle.audit_core.specs.View.{told_view}
 use Rattle.live_core.specs.declared.front.CarriedCall.{CarriedCall}
 use Rattle.guest_core.specs.declared.guest.Guest.{Guest}
-use Rattle.guest_core.specs.declared.seats.Seat.TheVariants.{Free}
+use Rattle.guest_core.specs.declared.seats.SeatHolder.TheVariants.{Free}
 use Rattle.guest_core.specs.Guests.{Guests, IsNamed, HasNoName}
 use Rattle.audit_core.specs.declared.epoch_replay.ReplayNote.{ReplayNote}
 use Rattle.audit_core.specs.declared.epoch_replay.ReplayNote.TheVariants as notes

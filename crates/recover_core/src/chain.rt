@@ -11,14 +11,14 @@ ghost use Rattle.recover_core.specs.Chain.{IsSameCall, IsLineFor, AreLinesFor, I
 use crate::recover::Recovered;
 use decl_core::object::Object;
 use guest_core::guests::Guests;
-use guest_core::kept::Kept;
+use guest_core::kept::RememberedCall;
 use live_core::front::{Answer, Front, KeptCall, NamedClient};
 use live_core::past::{PastRun, events_of};
 use path_count::counters::Counters;
 use path_count::past::counters_behind;
 use path_tree::node::OpId;
 use std::alloc::{AllocError, Global};
-use value_core::encode::encode;
+use value_bytes::encode::encode;
 use value_core::value::Value;
 
 /// What of a front is not as the epoch before it left it. The first that applies is told, in this order.
@@ -103,7 +103,7 @@ fn are_numbered(base: u64, greatest: u32, next: u64, carried: usize) -> bool
 }
 
 // Whether a line says of a call what was asked, told and replied.
-fn is_same_call(call: &KeptCall, kept: &Kept) -> bool
+fn is_same_call(call: &KeptCall, kept: &RememberedCall) -> bool
     ensures { IsTrue result ↔ IsSameCall call.now kept.now }
 {
     if call.operation != kept.asked().operation() || call.told != kept.told() {
@@ -112,7 +112,7 @@ fn is_same_call(call: &KeptCall, kept: &Kept) -> bool
     call.arguments.is_same(kept.asked().arguments()) && is_same_answer(&call.answer, kept)
 }
 
-fn is_same_answer(answer: &Answer, kept: &Kept) -> bool
+fn is_same_answer(answer: &Answer, kept: &RememberedCall) -> bool
     ensures { IsTrue result ↔ (reply_in answer.now ≡ kept.now.reply) }
 {
     match (answer, kept.reply()) {
@@ -141,14 +141,14 @@ fn has_key(client: &NamedClient, behind: usize, call: &KeptCall) -> bool
 }
 
 // Whether a line is of this call of a client, behind which so many calls of it are kept.
-fn is_line_for(client: &NamedClient, behind: usize, call: &KeptCall, kept: &Kept) -> bool
+fn is_line_for(client: &NamedClient, behind: usize, call: &KeptCall, kept: &RememberedCall) -> bool
     ensures { IsTrue result ↔ IsLineFor client.now behind call.now kept.now }
 {
     has_key(client, behind, call) && is_same_call(call, kept)
 }
 
 // Whether these lines, the oldest call first, are of the calls of a client that are kept, the newest first.
-fn are_lines_for(client: &NamedClient, calls: &[KeptCall], kept: &[Kept]) -> bool
+fn are_lines_for(client: &NamedClient, calls: &[KeptCall], kept: &[RememberedCall]) -> bool
     ensures { IsTrue result ↔ AreLinesFor client.now calls.now kept.now }
 {
     match calls {
@@ -163,14 +163,14 @@ fn are_lines_for(client: &NamedClient, calls: &[KeptCall], kept: &[Kept]) -> boo
     }
 }
 
-fn is_none(kept: &[Kept]) -> bool
+fn is_none(kept: &[RememberedCall]) -> bool
     ensures { IsTrue result ↔ (kept.now ≡ []) }
 {
     kept.is_empty()
 }
 
 // Whether a client was known before, with its session and key; then so many of its calls are kept.
-fn known_calls<'a>(guests: &'a Guests, client: &NamedClient) -> Option<&'a [Kept]>
+fn known_calls<'a>(guests: &'a Guests, client: &NamedClient) -> Option<&'a [RememberedCall]>
     ensures { IfSome result (λ kept. IsKnown guests.now client.now kept.now) }
 {
     let Ok(session) = u16::try_from(client.session) else {

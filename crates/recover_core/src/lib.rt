@@ -22,7 +22,6 @@ mod clients;
 pub mod epochs;
 pub mod laws;
 pub mod lines;
-mod number;
 mod numbers;
 pub mod past;
 mod playing;

@@ -18,16 +18,24 @@ pub(crate) struct EpochNumbers {
     pub(crate) carried: Vec<CarriedCall>,
 }
 
+// The number that the client of a call was told. `None`: it has more than 64 bits.
+pub(crate) fn told_of(base: u64, carried: &[CarriedCall], number: u32) -> Option<u64>
+    ensures some { IfSome result (λ told. told ≡ told_by base carried.now number) }
+    ensures none { IfNone result (2 ^ 64 ≤ told_by base carried.now number) }
+{
+    match carried.get((number as usize).saturating_sub(1)) {
+        Some(call) => Some(call.told),
+        None => base.checked_add(u64::from(number)),
+    }
+}
+
 impl EpochNumbers {
     // The number that the client of a call was told. `None`: it has more than 64 bits.
     pub(crate) fn told(&self, number: u32) -> Option<u64>
         ensures some { IfSome result (λ told. told ≡ told_by self.now.base self.now.carried.items number) }
         ensures none { IfNone result (2 ^ 64 ≤ told_by self.now.base self.now.carried.items number) }
     {
-        match self.carried.get((number as usize).saturating_sub(1)) {
-            Some(call) => Some(call.told),
-            None => self.base.checked_add(u64::from(number)),
-        }
+        told_of(self.base, &self.carried, number)
     }
 }
 

@@ -1,24 +1,22 @@
 //! What was held at the end of a journal.
 
-ghost use Rattle.std.specs.Prelude.{◌≡◌, ◌<◌, ◌^◌, ◌++◌, ◌∷◌, ℕ, List, true, IfOk, IfSome, OnOk, drop};
+ghost use Rattle.std.specs.Prelude.{◌≡◌, ◌<◌, ◌^◌, ◌∷◌, List, true, IfOk, IfSome, OnOk, drop};
 ghost use Rattle.decl_core.specs.ObjectMap.{object_of};
 ghost use Rattle.word_core.specs.Events.{Happened, ended as ended_by};
 ghost use Rattle.audit_core.specs.View.{told_view};
 ghost use Rattle.live_core.specs.Front.{opening_of};
-ghost use Rattle.audit_core.specs.Carried.{carried_calls};
 ghost use Rattle.audit_core.specs.EpochStands.{IsNote, Stands};
 ghost use Rattle.audit_core.specs.Steps.{Begun, Heard, nothing_heard};
 ghost use Rattle.audit_core.specs.EpochTells.{Tells};
-ghost use Rattle.recover_core.specs.Carried.{calls_of, told_by};
+ghost use Rattle.recover_core.specs.Carried.{told_by};
 ghost use Rattle.recover_core.specs.Playing.{begun_by};
 ghost use Rattle.decl_core.specs.HoldMap.{holds_of};
 ghost use Rattle.guest_core.specs.Held.{AreHeld};
 ghost use Rattle.recover_core.specs.HeldPlay.{HaveNumbers, HeldOn, PlaysLines, told_as};
 
+use crate::numbers::{carried_of, told_of};
 use crate::text::{HeldFront, from, split_line};
 use apply_core::reply::Reply;
-use apply_core::slim::Slims;
-use audit_core::carried::WaitedCall;
 use audit_core::epoch_replay::{Known, Replay, ReplayNote};
 use audit_core::told::ToldReply;
 use decl_core::hold::Hold;
@@ -28,44 +26,6 @@ use live_core::front::{CarriedCall, Front};
 use live_core::past::events_of;
 use std::alloc::{AllocError, Global};
 use value_core::datum::Datum;
-
-// A waiting call, for a replay.
-fn carried_from(alloc: Global, call: &CarriedCall) -> Result<WaitedCall, AllocError>
-    ensures { IfOk result (λ c. (c.number ≡ call.now.number) × (c.session ≡ call.now.session)
-        × (c.operation ≡ call.now.operation) × (c.arguments ≡ call.now.arguments)) }
-{
-    let arguments = call.arguments.list(alloc)?;
-    let arguments = Slims::new(alloc, &arguments)?;
-    Ok(WaitedCall {
-        number: call.number,
-        session: call.session,
-        operation: call.operation,
-        arguments,
-    })
-}
-
-// Waiting calls, for a replay.
-fn carried_of(alloc: Global, calls: &[CarriedCall]) -> Result<Vec<WaitedCall>, AllocError>
-    ensures { IfOk result (λ v. carried_calls v.items ≡ calls_of calls.now) }
-{
-    let mut all = Vec::new(alloc);
-    let mut rest = calls;
-    'calls: while let Some((call, more)) = rest.split_first() {
-        all.push(carried_from(alloc, call)?)?;
-        rest = more;
-    }
-    Ok(all)
-}
-
-// The number that the client of a call was told. `None`: it has more than 64 bits.
-fn told_of(base: u64, carried: &[CarriedCall], number: u32) -> Option<u64>
-    ensures { IfSome result (λ told. told ≡ told_by base carried.now number) }
-{
-    match carried.get((number as usize).saturating_sub(1)) {
-        Some(call) => Some(call.told),
-        None => base.checked_add(u64::from(number)),
-    }
-}
 
 // The reply that a line told.
 fn reply_of(told: &ToldReply) -> Reply

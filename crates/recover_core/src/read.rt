@@ -1,30 +1,27 @@
 //! The lines of a front that tell what is held, read.
 
-ghost use Rattle.std.specs.Prelude.{◌≡◌, ◌<◌, ◌≤◌, ◌↔◌, ◌++◌, ◌∷◌, ℕ, [], List, IfOk, IfSome, IsTrue, MatchOption, Some, codes, length, map, option_map};
-ghost use Rattle.path_tree.specs.Known.{place_of};
-ghost use Rattle.value_core.specs.Datum.{IsDatum, elem_of};
-ghost use Rattle.decl_core.specs.ObjectMap.{object_of, operations_of};
+ghost use Rattle.std.specs.Prelude.{◌≡◌, ◌<◌, ◌↔◌, ◌++◌, ◌∷◌, [], IfOk, IsTrue, Some, map, option_map};
+ghost use Rattle.value_core.specs.Datum.{elem_of};
+ghost use Rattle.decl_core.specs.ObjectMap.{object_of};
 ghost use Rattle.word_core.specs.View.{words_of as words_in};
 ghost use Rattle.word_core.specs.Words.{AreWords};
 ghost use Rattle.word_core.specs.TraceLaws.{HasNames};
-ghost use Rattle.live_core.specs.Front.{Every};
-ghost use Rattle.front_read.specs.Calls.{operation_in};
 ghost use Rattle.decl_core.specs.HoldForm.{reply_sorts};
 ghost use Rattle.decl_core.specs.HoldMap.{holds_of};
 ghost use Rattle.front_read.specs.HeldLines.{held_with};
 ghost use Rattle.recover_core.specs.HeldSo.{held_head as held_head_in, head_view, FindsRule, TakesHeld, TakesLine, TakesSo};
 
-use crate::number::{behind_verb, long_first, object_has_names, session_first};
 use decl_core::hold::Hold;
-use decl_core::object::{Object, Operation, Param};
+use decl_core::object::{Object, Param};
+use front_read::call::{are_data, place_in};
 use front_read::hold_lines::{HeldSo, push_held_so};
+use front_read::number::{behind_verb, long_first, session_first};
+use front_read::text::behind;
 use guest_core::held::{Holds, hold_of_op};
-use path_tree::node::OpId;
 use std::alloc::{AllocError, Global};
-use std::sync::Arc;
-use text_core::words::is_same_word;
 use value_core::datum::Datum;
 use value_core::kind::Elem;
+use word_core::names::object_has_names;
 use word_core::word::Word;
 use word_core::words::{bare_of, data_of, words_of};
 
@@ -37,25 +34,6 @@ fn held_head<'a, 'b>(words: &'b [Word<'a>]) -> Option<(u32, u64, &'a [u8], &'b [
     let (number, words) = long_first(words)?;
     let (name, words) = bare_of(words)?;
     Some((session, number, name, words))
-}
-
-// The place of the first operation of this name.
-fn place_in(operations: &[Arc<Operation>], name: &[u8]) -> Option<OpId>
-    requires { length operations.now ≤ 32 }
-    ensures place { result ≡ place_of (map (λ f. f.name) (operations_of operations.now)) name.now }
-    ensures within { IfSome result (λ k. k < length operations.now) }
-{
-    match operations {
-        [] => None,
-        [first, rest @ ..] => {
-            if is_same_word(first.name.as_bytes(), name) {
-                Some(0)
-            } else {
-                let place = place_in(rest, name)?;
-                Some(place + 1)
-            }
-        }
-    }
 }
 
 // Whether these are one of a sort, or none where there is no sort.
@@ -96,40 +74,6 @@ fn rule_for(object: &Object, holds: &[Hold], name: &[u8], values: &[Datum]) -> O
         return Some(rule);
     }
     None
-}
-
-// Integers and texts are what they should be.
-fn are_data(all: &[Datum])
-    ensures { Every IsDatum all.now }
-{
-    match all {
-        [] => {}
-        [datum, all @ ..] => {
-            datum.elem();
-            are_data(all);
-        }
-    }
-}
-
-// What stands behind these bytes, where a text begins with them.
-fn behind<'a>(text: &'a [u8], front: &[u8]) -> Option<&'a [u8]>
-    ensures { MatchOption result ((rest : List ℕ) → text.now ≡ front.now ++ rest → ⊥)
-        (λ rest. text.now ≡ front.now ++ rest.now) }
-{
-    if text.len() < front.len() {
-        return None;
-    }
-    let (start, rest) = text.split_at(front.len());
-    if is_same(start, front) {
-        return Some(rest);
-    }
-    None
-}
-
-fn is_same(a: &[u8], b: &[u8]) -> bool
-    ensures { IsTrue result ↔ (a.now ≡ b.now) }
-{
-    a == b
 }
 
 // Whether these are the end of a line.

@@ -15,7 +15,6 @@ ghost use Rattle.front_read.specs.HeldLines.{held_text, held_words, IsHeldLine};
 ghost use Rattle.recover_core.specs.HeldText.{HasHeld, IsBehind, IsHeldFault};
 
 use crate::lines::line_ends;
-use crate::number::object_has_names;
 use crate::read::take_held;
 use decl_core::hold::Hold;
 use decl_core::object::Object;
@@ -23,6 +22,7 @@ use front_read::read::read_front;
 use guest_core::held::Holds;
 use live_core::front::Front;
 use std::alloc::{AllocError, Global};
+use word_core::names::object_has_names;
 
 /// The front of an epoch of an object with holds, and where in its journal the lines stand that tell what is held.
 #[derive(Drop)]

@@ -6,8 +6,8 @@ use Rattle.std.proofs.lemmas.Bool.{cases_lt, eq-eqb, ne_eqb}
 use Rattle.std.proofs.lemmas.List.{append-nil, nil_from_length}
 use Rattle.std.proofs.lemmas.Option.{slice_get_past}
 use Rattle.value_core.specs.Contents.{Contents, kind_of}
-use Rattle.value_core.specs.Spelling.{Spells, spelling}
-use Rattle.value_core.proofs.Unique.{unique}
+use Rattle.value_bytes.specs.Spelling.{Spells, spelling}
+use Rattle.value_bytes.proofs.Unique.{unique}
 use Rattle.decl_core.specs.declared.object.Operation.{Operation}
 use Rattle.decl_core.specs.Bodies.{body_of}
 use Rattle.decl_core.specs.Form.{Statements}

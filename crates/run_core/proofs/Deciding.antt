@@ -14,7 +14,7 @@ use Rattle.value_core.specs.declared.kind.Kind.{Kind}
 use Rattle.value_core.specs.declared.kind.Kind.TheVariants as kind
 use Rattle.value_core.specs.Contents.{Contents, array, queue, table, kind_of, IsContents}
 use Rattle.value_core.specs.Kinds.{IsArray}
-use Rattle.value_core.specs.Spelling.{Spells, spelling}
+use Rattle.value_bytes.specs.Spelling.{Spells, spelling}
 use Rattle.value_core.specs.Meaning.{element_at}
 use Rattle.decl_core.specs.declared.object.Operation.{Operation}
 use Rattle.decl_core.specs.Bodies.{body_of}

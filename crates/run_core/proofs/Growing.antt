@@ -7,7 +7,7 @@ use Rattle.std.proofs.lemmas.Nat.Bits.{bit_at_above}
 use Rattle.value_core.specs.declared.kind.Elem.TheVariants as elem
 use Rattle.value_core.specs.declared.kind.Kind.{Kind}
 use Rattle.value_core.specs.declared.kind.Kind.TheVariants as kind
-use Rattle.value_core.specs.Laws.{AreBytes}
+use Rattle.value_bytes.specs.Laws.{AreBytes}
 use Rattle.apply_core.specs.Fits.{IsNamed}
 use Rattle.run_core.specs.Verdicts.{ReadAs}
 use Rattle.apply_core.specs.Pages.{page_at}

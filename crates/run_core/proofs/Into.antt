@@ -7,7 +7,7 @@ use Rattle.std.proofs.lemmas.List.{take_all, take_at, drop_at, take-take, drop-t
 use Rattle.std.proofs.lemmas.Option.{slice_get_within}
 use Rattle.value_core.specs.declared.kind.Elem.TheVariants as elem
 use Rattle.value_core.specs.declared.kind.Kind.TheVariants as kind
-use Rattle.value_core.specs.Laws.{AreBytes}
+use Rattle.value_bytes.specs.Laws.{AreBytes}
 use Rattle.device_core.specs.declared.hand.Stamp.{Stamp}
 use Rattle.device_core.specs.Device.{Assignment, Shows, bytes_of}
 use Rattle.apply_core.specs.Pages.{page_bytes, page_at}

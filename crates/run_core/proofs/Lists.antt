@@ -4,7 +4,7 @@ use Rattle.std.proofs.Math.ListN.{get_or-append}
 use Rattle.std.proofs.Math.Seq.{get_or-append_right, drop-nil}
 use Rattle.std.proofs.lemmas.Bool.{cases_lt}
 use Rattle.std.proofs.lemmas.List.{get_or_past, get_or-replicate, length-replicate, take_at, drop_at, length-take-le, length-drop}
-use Rattle.value_core.specs.Laws.{AreBytes}
+use Rattle.value_bytes.specs.Laws.{AreBytes}
 use Rattle.run_core.specs.Placed.{IsPlaced}
 
 is_byte : (m n : ℕ) → m ≡ n → n < 256 → m < 256

@@ -13,7 +13,7 @@ use Rattle.page_core.specs.declared.plan.PageWrite.{PageWrite}
 use Rattle.call_core.specs.Calls.{Call, ReadsNone}
 use Rattle.run_core.specs.Verdicts.{HasReads}
 use Rattle.run_core.specs.declared.phase.More.{More}
-use Rattle.run_core.specs.declared.phase.Read.{Read}
+use Rattle.run_core.specs.declared.phase.ReadingRun.{ReadingRun}
 use Rattle.run_core.specs.declared.phase.Phase.{Phase}
 use Rattle.run_core.specs.declared.phase.Phase.TheVariants.{Reading, Paging, Creating, Appending, Sealing, Ended}
 use Rattle.run_core.specs.Phases.{ending_of, sealed_in, HasItsReads, IsSettled, failure_of}
@@ -92,7 +92,7 @@ paging_reads operation m has = λ n same. subst (λ (x : More). HasReads operati
   more_in (Ended reply left) m = m
 
 -- nor does one that reads a part
-pub reading_reads : (operation : Operation) (r : Read) → HasItsReads operation (Reading r)
+pub reading_reads : (operation : Operation) (r : ReadingRun) → HasItsReads operation (Reading r)
 reading_reads operation r = λ m paging. absurd (let e : at_read r.part r.page ≡ at_page m.seen.known m.part m.page = ap place_in paging in cc)
 
 -- a further page is not read there

@@ -7,7 +7,7 @@ use Rattle.std.proofs.lemmas.List.{take_all, take_at, take-append-drop, length-d
 use Rattle.value_core.specs.declared.kind.Elem.TheVariants as elem
 use Rattle.value_core.specs.declared.kind.Kind.{Kind}
 use Rattle.value_core.specs.declared.kind.Kind.TheVariants as kind
-use Rattle.value_core.specs.Laws.{AreBytes}
+use Rattle.value_bytes.specs.Laws.{AreBytes}
 use Rattle.device_core.specs.declared.hand.Stamp.{Stamp}
 use Rattle.device_core.specs.Device.{Assignment}
 use Rattle.apply_core.specs.Fits.{IsNamed}

@@ -1,7 +1,7 @@
 -- What a body changed: the new bytes of the parts, and what they spell.
 use Rattle.std.specs.Prelude.{◌≡◌, ◌≢◌, ℕ, ◌==◌, if◌then◌else◌, List, [], ◌∷◌, Option, Some, None, slice_get}
 use Rattle.value_core.specs.Contents.{Contents, kind_of}
-use Rattle.value_core.specs.Spelling.{Spells}
+use Rattle.value_bytes.specs.Spelling.{Spells}
 use Rattle.run_core.specs.declared.judge.Change.{Change}
 
 -- the new bytes of a part, where it has some

@@ -2,7 +2,7 @@
 use Rattle.std.specs.Prelude.{◌≡◌, ◌≢◌, ℕ, List, length, Some, slice_get, slice_index}
 use Rattle.value_core.specs.declared.kind.Elem.TheVariants as elem
 use Rattle.value_core.specs.declared.kind.Kind.TheVariants as kind
-use Rattle.value_core.specs.Laws.{AreBytes}
+use Rattle.value_bytes.specs.Laws.{AreBytes}
 use Rattle.decl_core.specs.declared.object.Operation.{Operation}
 use Rattle.apply_core.specs.Pages.{page_at, HasFrame}
 use Rattle.apply_core.specs.Fits.{IsNamed}

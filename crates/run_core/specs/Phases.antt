@@ -31,7 +31,7 @@ use Rattle.run_core.specs.Seen.{IsSeen, IsSeenBefore}
 use Rattle.run_core.specs.declared.phase.Phase.{Phase}
 use Rattle.run_core.specs.declared.phase.Phase.TheVariants.{Reading, Paging, Creating, Appending, Sealing, Ended}
 use Rattle.run_core.specs.declared.phase.Plan.{Plan}
-use Rattle.run_core.specs.declared.phase.Read.{Read}
+use Rattle.run_core.specs.declared.phase.ReadingRun.{ReadingRun}
 use Rattle.run_core.specs.declared.phase.More.{More}
 use Rattle.run_core.specs.declared.step.StepAnswer.{StepAnswer}
 use Rattle.run_core.specs.declared.step.StepAnswer.TheVariants as answers
@@ -126,7 +126,7 @@ abbrev pub IsFront : Assignment → List Stamp → ℕ → List ℕ → Type 0
 IsFront a pages count got = (list_bytes a (take count pages) ≡ Some got) × AreWhole a (take count pages)
 
 -- what a call has read so far is true of an assignment
-pub record IsReadSoFar (a : Assignment) (call : Call) (r : Read) : Type 0 where
+pub record IsReadSoFar (a : Assignment) (call : Call) (r : ReadingRun) : Type 0 where
   pub earlier : IsSeenBefore a call r.part r.seen.known r.seen.read.items
   pub front : (pages : List Stamp) → pin_at call.pins r.part ≡ Some pages → IsFront a pages r.page r.got.items
 

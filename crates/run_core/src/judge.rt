@@ -29,8 +29,8 @@ use known_core::pages::Pages;
 use page_core::file_bytes::FileBytes;
 use std::alloc::{AllocError, Global};
 use text_core::text::Text;
+use value_bytes::decode::DecodeFault;
 use value_core::datum::Datum;
-use value_core::decode::DecodeFault;
 use value_core::kind::Elem;
 
 /// A part that the body changed, and the bytes that spell its new value.

@@ -18,11 +18,9 @@
 
 mod advance;
 pub mod at_once;
-pub mod beside;
 pub mod call_laws;
 mod conclude;
 mod ending;
-pub mod fits;
 mod held;
 pub mod judge;
 pub mod judging;
@@ -37,4 +35,5 @@ pub mod seen;
 pub mod seen_laws;
 pub mod step;
 pub mod task;
+pub mod uncalled;
 mod write;

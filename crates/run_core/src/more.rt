@@ -4,7 +4,7 @@ ghost use Rattle.std.specs.Prelude.{◌≡◌, ◌⊎◌, ◌+◌, ◌<◌, ◌�
 ghost use Rattle.std.specs.Prelude.{slice_get, slice_index};
 ghost use Rattle.std.specs.Int.{bit_at};
 ghost use Rattle.std.specs.Result.{IsErr, IsErrOf};
-ghost use Rattle.value_core.specs.Laws.{AreBytes};
+ghost use Rattle.value_bytes.specs.Laws.{AreBytes};
 ghost use Rattle.device_core.specs.declared.hand.Stamp.{Stamp as AStamp};
 ghost use Rattle.device_core.specs.Device.{Assignment, FaultCause, Shows};
 ghost use Rattle.device_core.specs.Made.{reads, IsDeviceErr};

@@ -13,7 +13,7 @@ use value_core::datum::Datum;
 
 /// A run that reads.
 #[derive(Drop)]
-pub(crate) struct Read {
+pub(crate) struct ReadingRun {
     // the part that is read, and the page of its pin that is read next, counted from 0
     pub(crate) part: usize,
     pub(crate) page: usize,
@@ -67,7 +67,7 @@ pub(crate) struct Leaving {
 
 /// Where a run stands.
 pub(crate) enum Phase {
-    Reading(Read),
+    Reading(ReadingRun),
     Paging(More),
     // a file is begun for the next page
     Creating(Plan),

@@ -22,7 +22,7 @@ ghost use Rattle.run_core.specs.Steps.{Follows, FailsWith, AreServed, IsLastAtFi
 use crate::conclude::conclude;
 use crate::ending::{ended, failed};
 use crate::more::read_more;
-use crate::phase::{More, Phase, Read};
+use crate::phase::{More, Phase, ReadingRun};
 use crate::seen::{Miss, Seen, is_paged};
 use crate::seen_laws::{all_is_seen, next_is_seen};
 use crate::task::Task;
@@ -93,7 +93,7 @@ fn next_part(
         Err(Miss::Memory) => return failed(alloc, HandFault::Memory, Vec::new(alloc)),
     }
     match task.next_part(part + 1) {
-        Some(next) => Phase::Reading(Read {
+        Some(next) => Phase::Reading(ReadingRun {
             part: next,
             page: 0,
             seen,
@@ -104,7 +104,7 @@ fn next_part(
 }
 
 // Reads a page of a part, and goes on after the last one that is read at first.
-pub(crate) fn read_step<H: Hand>(alloc: Global, hand: &mut H, task: &Task, r: Read) -> Phase
+pub(crate) fn read_step<H: Hand>(alloc: Global, hand: &mut H, task: &Task, r: ReadingRun) -> Phase
     ensures kept { (a : Assignment) → H.agrees hand.new a → H.agrees hand.old a }
     ensures found { (a : Assignment) → H.agrees hand.new a → PinsAreWhole a (task_call task.now) →
         IsReadSoFar a (task_call task.now) r → FoundBy a (task_call task.now) result }
@@ -129,7 +129,7 @@ pub(crate) fn read_step<H: Hand>(alloc: Global, hand: &mut H, task: &Task, r: Re
     ensures cause { ending_of result ≡ Some (replies.Failed failures.Device) →
         DeviceFailed (H.failed hand.old) (H.failed hand.new) }
 {
-    let Read {
+    let ReadingRun {
         part,
         page,
         seen,
@@ -145,7 +145,7 @@ pub(crate) fn read_step<H: Hand>(alloc: Global, hand: &mut H, task: &Task, r: Re
         Err(fault) => return failed(alloc, fault, Vec::new(alloc)),
     }
     if !is_last(task, part, page, count) {
-        return Phase::Reading(Read {
+        return Phase::Reading(ReadingRun {
             part,
             page: page + 1,
             seen,

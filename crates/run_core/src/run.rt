@@ -19,7 +19,7 @@ ghost use Rattle.page_core.specs.PartPins.{pin_at};
 use crate::advance::advance;
 use crate::conclude::conclude;
 use crate::ending::{nothing, outcome_of};
-use crate::phase::{Phase, Read, let_go};
+use crate::phase::{Phase, ReadingRun, let_go};
 use crate::seen::Seen;
 use crate::seen_laws::{all_is_seen, next_is_seen, none_is_seen};
 use crate::step::StepAnswer;
@@ -65,7 +65,7 @@ fn first_phase(alloc: Global, task: &Task) -> Phase
     next_is_seen();
     all_is_seen();
     match task.next_part(0) {
-        Some(part) => Phase::Reading(Read {
+        Some(part) => Phase::Reading(ReadingRun {
             part,
             page: 0,
             seen: Seen::new(alloc),

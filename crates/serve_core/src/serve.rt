@@ -16,13 +16,13 @@ use check_core::judge::{JudgedSource, judge};
 use decl_core::analyse::Accepted;
 use device_core::ahead::Ends;
 use device_core::dir::DirHand;
-use device_core::dir_shelf::{DirShelf, Kept};
+use device_core::dir_shelf::{DirShelf, ShelfKind};
 use device_core::hand::Hand;
 use device_core::numbers::Numbers;
 use device_core::shelf::Shelf;
 use keep_core::close::Closing;
 use page_core::clear::{move_left, remove_between};
-use page_core::found::Found;
+use page_core::found::FoundFiles;
 use page_core::values::{DirValues, Values};
 use std::alloc::{AllocError, Global};
 use std::io::{ErrorKind, Write};
@@ -39,7 +39,7 @@ pub struct ServerFolder<H: Drop> {
     /// The folder.
     pub folder: String,
     /// The numbers of the value files that an earlier run left there, and the first number above them.
-    pub found: Found,
+    pub found: FoundFiles,
     /// Numbers from that one on, from which each of the hands draws.
     pub numbers: Arc<Numbers>,
     /// A hand on the folder for each session.
@@ -69,8 +69,8 @@ fn closing_in<R: Files + AllocGlobal + Clone + Drop>(
 where
     R::File: FileExt,
 {
-    let parts = DirShelf::of(rt.clone()?, folder, Kept::Parts)?;
-    let traces = DirShelf::of(rt.clone()?, folder, Kept::Traces)?;
+    let parts = DirShelf::of(rt.clone()?, folder, ShelfKind::Parts)?;
+    let traces = DirShelf::of(rt.clone()?, folder, ShelfKind::Traces)?;
     let hand = DirHand::new(rt.clone()?, folder, Arc::try_clone(numbers)?)?;
     Closing::new(alloc, parts, traces, hand)
 }
@@ -87,7 +87,7 @@ fn values_in<R: Files + AllocGlobal + Clone + Drop>(
 #[derive(Drop)]
 struct ValueFiles<V: Values + Drop> {
     values: V,
-    found: Found,
+    found: FoundFiles,
     numbers: Arc<Numbers>,
 }
 

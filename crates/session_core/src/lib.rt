@@ -27,4 +27,5 @@ pub mod room;
 mod sender;
 pub mod serve;
 pub mod stage;
+pub mod uncalled;
 mod work;

@@ -70,10 +70,3 @@ impl Offices for Vec<Named> {
         place_of(self, name)
     }
 }
-
-fn is_shared<T: Sync>(_shared: &T) {}
-
-/// Such offices may be shared by threads.
-pub fn offices_are_shared(offices: &Vec<Named>) {
-    is_shared(offices)
-}

@@ -25,7 +25,7 @@ use crate::mouth::Mouth;
 use crate::order::Offices;
 use crate::output::Start;
 use crate::room::make_room_in;
-use board_core::answer::{CallState, Finished, Kept};
+use board_core::answer::{CallState, EarlierCall, Finished};
 use call_core::outcome::Outcome;
 use call_core::ticket::Ticket;
 use device_core::hand::{Hand, Stamp};
@@ -340,7 +340,10 @@ fn serve_at<R: Wait + Clock, I: Read + Drop, W: Write + Drop, H: Hand + Drop, J:
 }
 
 // Says what became of a call that was made before.
-fn say_kept<R: Wait, W: Write + Drop, J: Start>(service: Service<'_, R, Office, W, J>, kept: &Kept)
+fn say_kept<R: Wait, W: Write + Drop, J: Start>(
+    service: Service<'_, R, Office, W, J>,
+    kept: &EarlierCall,
+)
     requires { (b : Board) × IsSound b × IsStateOf b kept.now.number kept.now.state }
 {
     match &kept.state {

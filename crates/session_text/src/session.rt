@@ -71,13 +71,6 @@ impl Session {
     {
         self.is_open = went;
     }
-
-    /// Whether an object is opened.
-    pub fn is_open(&self) -> bool
-        ensures { result ≡ self.now.is_open }
-    {
-        self.is_open
-    }
 }
 
 // What is done for a request.

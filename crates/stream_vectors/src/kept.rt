@@ -1,8 +1,8 @@
 //! Calls of a kept object that no client makes, and those that it refuses.
 
 use crate::fakes::only_object;
+use guest_core::answer::SubmitFault;
 use live_core::call::Limits;
-use live_core::hall::CallRefusal;
 use live_core::live::Live;
 use path_tree::node::OpId;
 use std::alloc::Global;
@@ -53,7 +53,7 @@ fn refusal(
     session: u32,
     op: OpId,
     numbers: &[u32],
-) -> Option<CallRefusal> {
+) -> Option<SubmitFault> {
     let mut args = Vec::new(alloc);
     for number in numbers {
         assert!(rt; args.push(Datum::Integer(*number)).is_ok());
@@ -62,16 +62,16 @@ fn refusal(
 }
 
 // Calls, each by its session, operation and arguments, and why it is refused.
-const CALLS: [(u32, OpId, &[u32], Option<CallRefusal>); 9] = [
-    (0, 7, &[], Some(CallRefusal::Gone)),
-    (5, 7, &[], Some(CallRefusal::Gone)),
-    (1, 2, &[], Some(CallRefusal::UnknownOp)),
-    (1, 0, &[], Some(CallRefusal::BadArgs)),
+const CALLS: [(u32, OpId, &[u32], Option<SubmitFault>); 9] = [
+    (0, 7, &[], Some(SubmitFault::Gone)),
+    (5, 7, &[], Some(SubmitFault::Gone)),
+    (1, 2, &[], Some(SubmitFault::UnknownOp)),
+    (1, 0, &[], Some(SubmitFault::BadArgs)),
     (1, 1, &[], None),
     (2, 1, &[], None),
     (3, 1, &[], None),
-    (1, 1, &[], Some(CallRefusal::SessionBusy)),
-    (4, 1, &[], Some(CallRefusal::Full)),
+    (1, 1, &[], Some(SubmitFault::SessionBusy)),
+    (4, 1, &[], Some(SubmitFault::Full)),
 ];
 
 // No case can show it: sessions that there are not, and three that wait are the most. Then one is cancelled, and the
@@ -97,5 +97,5 @@ fn the_numbers_of_an_epoch_end(rt: HostRuntime) {
         assert!(rt; refusal(&rt, alloc, &mut live, 1, 0, &[1]).is_none());
         assert!(rt; refusal(&rt, alloc, &mut live, 2, 1, &[]).is_none());
     }
-    assert!(rt; refusal(&rt, alloc, &mut live, 1, 0, &[1]) == Some(CallRefusal::HistoryFull));
+    assert!(rt; refusal(&rt, alloc, &mut live, 1, 0, &[1]) == Some(SubmitFault::HistoryFull));
 }

@@ -3,13 +3,13 @@
 use crate::fakes::{CELL, only_object};
 use apply_core::reply::Reply;
 use check_core::report::CheckFault;
-use decl_core::analyse::{Accepted, Refusal, analyse};
-use decl_core::certificate::check_certificate;
+use decl_core::analyse::{Accepted, ObjectRefusal, analyse};
+use decl_core::uncalled::check_certificate;
 use path_count::counters::compile;
 use std::alloc::Global;
 use std::process::Abort;
 use value_core::datum::Datum;
-use word_core::print::push_word;
+use word_core::uncalled::push_word;
 use word_core::word::Word;
 use world_core::event::Event;
 use world_core::world::World;
@@ -37,7 +37,7 @@ fn a_word_is_written_alone(rt: HostRuntime) {
 // No case can show it: the numbers and names of faults that programs tell in words of their own.
 #[test]
 fn faults_have_numbers_and_names(rt: HostRuntime) {
-    assert!(rt; Refusal::Memory.number() == 2 && Refusal::Memory.name() == "Memory");
+    assert!(rt; ObjectRefusal::Memory.number() == 2 && ObjectRefusal::Memory.name() == "Memory");
     assert!(rt;
         CheckFault::WriteFault.number() == 1 && CheckFault::WriteFault.name() == "WriteFault"
     );

@@ -1,8 +1,8 @@
 //! How much memory the bytes of a value take.
 
 use std::alloc::Global;
-use value_core::decode::decode;
-use value_core::encode::encode;
+use value_bytes::decode::decode;
+use value_bytes::encode::encode;
 use value_core::kind::{Elem, Kind};
 
 // Values that have texts, and their bytes.

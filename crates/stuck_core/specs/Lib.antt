@@ -5,8 +5,6 @@ pub mod Nodes
 pub mod Places
 pub mod Stuck
 pub mod Waits
-pub mod Parts
 pub mod Running
-pub mod Steps
 pub mod Cover
 pub mod Tables

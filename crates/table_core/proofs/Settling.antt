@@ -15,7 +15,7 @@ use Rattle.live_core.specs.declared.live.Taken.{Taken}
 use Rattle.live_core.specs.Lines.{all_lines}
 use Rattle.session_text.specs.declared.line.ReplyLine.{ReplyLine}
 use Rattle.session_text.specs.Lines.{line_text}
-use Rattle.guest_core.specs.declared.seats.Seat.TheVariants.{Nameless}
+use Rattle.guest_core.specs.declared.seats.SeatHolder.TheVariants.{Nameless}
 use Rattle.guest_core.specs.Guests.{with_seat}
 use Rattle.decl_core.specs.HoldForm.{EveryForm}
 use Rattle.client_core.specs.declared.client.OpenObject.{OpenObject}

@@ -14,7 +14,7 @@ use Rattle.client_core.specs.Held.{is_some}
 use Rattle.live_core.specs.declared.call.Ran.{Ran}
 use Rattle.live_core.specs.declared.live.Taken.{Taken}
 use Rattle.live_core.specs.Lines.{all_lines}
-use Rattle.guest_core.specs.declared.seats.Seat.TheVariants.{Nameless}
+use Rattle.guest_core.specs.declared.seats.SeatHolder.TheVariants.{Nameless}
 use Rattle.guest_core.specs.Guests.{with_seat}
 use Rattle.hosted_core.specs.declared.hosted.KeyState.{KeyState}
 use Rattle.hosted_core.specs.declared.hosted.KeyState.TheVariants as keys

@@ -2,13 +2,7 @@ pub mod Openings
 pub mod Tables
 pub mod TableRows
 pub mod Placing
-pub mod Apart
-pub mod Decoding
-pub mod Encoding
-pub mod Rising
-pub mod Unique
-pub mod Bytes
-pub mod Widening
+pub mod Listing
 pub mod Outcomes
 pub mod Backs
 pub mod Undone

@@ -5,8 +5,6 @@ pub mod Cells
 pub mod Queue
 pub mod Sorted
 pub mod Contents
-pub mod Spelling
-pub mod Laws
 pub mod Meaning
 pub mod Words
 pub mod Rows

@@ -7,7 +7,6 @@ ghost use Rattle.value_core.specs.Datum.{elem_of, zero_of};
 ghost use Rattle.value_core.specs.Cells.{cells_sort, cells_data};
 
 use crate::datum::Datum;
-use crate::encode::text_len;
 use crate::kind::Elem;
 use crate::undo::{Kept, Undo};
 use std::alloc::{AllocError, Global};
@@ -23,7 +22,7 @@ pub enum Cells {
 
 impl Cells {
     /// So many zeros or empty texts.
-    pub fn zeros(alloc: Global, sort: Elem, count: usize) -> Result<Cells, AllocError>
+    pub(crate) fn zeros(alloc: Global, sort: Elem, count: usize) -> Result<Cells, AllocError>
         ensures sort { IfOk result (λ cells. cells_sort cells ≡ sort) }
         ensures data { IfOk result (λ cells. cells_data cells ≡ replicate count (zero_of sort)) }
     {
@@ -34,7 +33,7 @@ impl Cells {
     }
 
     /// Which sort its elements are.
-    pub fn sort(&self) -> Elem
+    pub(crate) fn sort(&self) -> Elem
         ensures { result ≡ cells_sort self.now }
     {
         match self {
@@ -44,7 +43,7 @@ impl Cells {
     }
 
     /// The number of elements.
-    pub fn len(&self) -> usize
+    pub(crate) fn len(&self) -> usize
         ensures { result ≡ length (cells_data self.now) }
     {
         match self {
@@ -54,7 +53,7 @@ impl Cells {
     }
 
     /// The element at a place, counted from 0.
-    pub fn get(&self, place: usize) -> Option<Datum>
+    pub(crate) fn get(&self, place: usize) -> Option<Datum>
         ensures { result ≡ slice_get (cells_data self.now) place }
     {
         match self {
@@ -70,7 +69,7 @@ impl Cells {
     }
 
     /// Puts an element in the place of another.
-    pub fn set(&mut self, place: usize, datum: Datum)
+    pub(crate) fn set(&mut self, place: usize, datum: Datum)
         requires place { place < length (cells_data self.old) }
         requires sort { elem_of datum ≡ cells_sort self.old }
         ensures sort { cells_sort self.new ≡ cells_sort self.old }
@@ -90,7 +89,7 @@ impl Cells {
 
     /// Puts an element in the place of another, and says what takes that back.
     #[tactic(auto, using(crate::proofs::Backs::kept_sort, crate::proofs::Backs::element_back, crate::proofs::Backs::cell_sort))]
-    pub fn replace(&mut self, place: usize, datum: Datum) -> Result<Undo, AllocError>
+    pub(crate) fn replace(&mut self, place: usize, datum: Datum) -> Result<Undo, AllocError>
         requires place { place < length (cells_data self.old) }
         requires few { length (cells_data self.old) ≤ most_elements }
         requires sort { elem_of datum ≡ cells_sort self.old }
@@ -118,7 +117,7 @@ impl Cells {
     }
 
     /// Takes a change of the elements back; where it is none of these, nothing changes. It takes no memory.
-    pub fn take_back(&mut self, undo: Undo)
+    pub(crate) fn take_back(&mut self, undo: Undo)
         ensures sort { cells_sort self.new ≡ cells_sort self.old }
         ensures data { cells_data self.new ≡ array_back undo (cells_sort self.old) (cells_data self.old) }
     {
@@ -152,22 +151,8 @@ impl Cells {
         }
     }
 
-    /// How many bytes spell the elements.
-    pub fn spelled_len(&self) -> usize {
-        match self {
-            Cells::Integers(all) => all.len().saturating_mul(4),
-            Cells::Texts(all) => {
-                let mut total = 0usize;
-                for text in all {
-                    total = total.saturating_add(text_len(text));
-                }
-                total
-            }
-        }
-    }
-
     /// A copy of the elements, in memory of its own.
-    pub fn copy(&self, alloc: Global) -> Result<Cells, AllocError>
+    pub(crate) fn copy(&self, alloc: Global) -> Result<Cells, AllocError>
         ensures sort { IfOk result (λ copy. cells_sort copy ≡ cells_sort self.now) }
         ensures data { IfOk result (λ copy. cells_data copy ≡ cells_data self.now) }
     {
@@ -178,7 +163,7 @@ impl Cells {
     }
 
     /// The elements, in order.
-    pub fn list(&self, alloc: Global) -> Result<Vec<Datum>, AllocError>
+    pub(crate) fn list(&self, alloc: Global) -> Result<Vec<Datum>, AllocError>
         ensures { IfOk result (λ list. list.items ≡ cells_data self.now) }
     {
         let mut list = Vec::with_capacity(alloc, self.len())?;

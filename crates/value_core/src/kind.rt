@@ -2,7 +2,6 @@
 
 ghost use Rattle.std.specs.Prelude.{◌≡◌};
 ghost use Rattle.value_core.specs.Kinds.{sort_of};
-ghost use Rattle.value_core.specs.Spelling.{code_of};
 
 /// What an element is.
 #[derive(Clone, Copy, Debug, PartialEq, Eq)]
@@ -31,20 +30,6 @@ impl Kind {
     {
         match self {
             Kind::Array(_, sort) | Kind::Queue(sort) | Kind::Table(sort) => *sort,
-        }
-    }
-
-    /// The byte that stands for it in the bytes of a value.
-    pub(crate) fn code(&self) -> u8
-        ensures { result ≡ code_of self.now }
-    {
-        match self {
-            Kind::Array(_, Elem::Integer) => 1,
-            Kind::Array(_, Elem::Text) => 2,
-            Kind::Queue(Elem::Integer) => 3,
-            Kind::Queue(Elem::Text) => 4,
-            Kind::Table(Elem::Integer) => 5,
-            Kind::Table(Elem::Text) => 6,
         }
     }
 }

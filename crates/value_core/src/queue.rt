@@ -1,18 +1,14 @@
 //! The elements of a queue, the oldest first: none is moved when one is added or taken.
 
-ghost use Rattle.std.specs.Prelude.{◌≡◌, ◌++◌, ◌∷◌, [], length, map, slice_get, IfOk, OnOk, OnErr, drop};
+ghost use Rattle.std.specs.Prelude.{◌≡◌, ◌++◌, ◌∷◌, [], length, slice_get, IfOk, OnOk, OnErr, drop};
 ghost use Rattle.std.specs.Prelude.{◌<◌, ◌≤◌, ◌+◌, ◌-◌, ◌&&◌, nat_lt, if◌then◌else◌, take};
 ghost use Rattle.value_core.specs.Limits.{most_elements};
-ghost use Rattle.std.specs.List.{flat_map};
-ghost use Rattle.value_core.specs.declared.datum.Datum.TheVariants as datum;
 ghost use Rattle.value_core.specs.Datum.{elem_of};
 ghost use Rattle.value_core.specs.Queue.{queue_sort, queue_data};
-ghost use Rattle.value_core.specs.Spelling.{spelled_datum};
 ghost use Rattle.value_core.specs.Undo.{queue_back};
 ghost use Rattle.std.specs.VecDeque.{deque_capacity};
 
 use crate::datum::Datum;
-use crate::encode::{put_integer, put_row, row_len};
 use crate::kind::Elem;
 use crate::limits::MOST_ELEMENTS;
 use crate::undo::Undo;
@@ -29,7 +25,7 @@ pub enum Queue {
 
 impl Queue {
     /// No elements of this sort. It takes no memory.
-    pub fn new(alloc: Global, sort: Elem) -> Queue
+    pub(crate) fn new(alloc: Global, sort: Elem) -> Queue
         ensures sort { queue_sort result ≡ sort }
         ensures data { queue_data result ≡ [] }
     {
@@ -51,7 +47,7 @@ impl Queue {
     }
 
     /// Which sort its elements are.
-    pub fn sort(&self) -> Elem
+    pub(crate) fn sort(&self) -> Elem
         ensures { result ≡ queue_sort self.now }
     {
         match self {
@@ -61,7 +57,7 @@ impl Queue {
     }
 
     /// The number of elements.
-    pub fn len(&self) -> usize
+    pub(crate) fn len(&self) -> usize
         ensures { result ≡ length (queue_data self.now) }
     {
         match self {
@@ -71,7 +67,7 @@ impl Queue {
     }
 
     /// The element at a place, counted from 0 at the oldest.
-    pub fn get(&self, place: usize) -> Option<Datum>
+    pub(crate) fn get(&self, place: usize) -> Option<Datum>
         ensures { result ≡ slice_get (queue_data self.now) place }
     {
         match self {
@@ -110,7 +106,7 @@ impl Queue {
 
     /// Removes the oldest element, of one or more, and says what takes that back. The error is that memory was
     /// refused, and then nothing changes.
-    pub fn take(&mut self) -> Result<Undo, AllocError>
+    pub(crate) fn take(&mut self) -> Result<Undo, AllocError>
         requires some { 0 < length (queue_data self.old) }
         requires few { length (queue_data self.old) ≤ most_elements }
         ensures sort { queue_sort self.new ≡ queue_sort self.old }
@@ -137,7 +133,7 @@ impl Queue {
     }
 
     /// Takes a change of the elements back; where it is none of these, nothing changes. It takes no memory.
-    pub fn take_back(&mut self, undo: Undo)
+    pub(crate) fn take_back(&mut self, undo: Undo)
         ensures sort { queue_sort self.new ≡ queue_sort self.old }
         ensures data { queue_data self.new ≡ queue_back undo (queue_sort self.old) (queue_data self.old) }
     {
@@ -170,22 +166,8 @@ impl Queue {
         }
     }
 
-    /// How many bytes spell the elements.
-    pub fn spelled_len(&self) -> usize {
-        match self {
-            Queue::Integers(all) => all.len().saturating_mul(4),
-            Queue::Texts(all) => {
-                let mut total = 0usize;
-                for row in all {
-                    total = total.saturating_add(row_len(row));
-                }
-                total
-            }
-        }
-    }
-
     /// A copy of the elements, in memory of its own.
-    pub fn copy(&self, alloc: Global) -> Result<Queue, AllocError>
+    pub(crate) fn copy(&self, alloc: Global) -> Result<Queue, AllocError>
         ensures sort { IfOk result (λ copy. queue_sort copy ≡ queue_sort self.now) }
         ensures data { IfOk result (λ copy. queue_data copy ≡ queue_data self.now) }
     {
@@ -196,7 +178,7 @@ impl Queue {
     }
 
     /// The elements, in order.
-    pub fn list(&self, alloc: Global) -> Result<Vec<Datum>, AllocError>
+    pub(crate) fn list(&self, alloc: Global) -> Result<Vec<Datum>, AllocError>
         ensures { IfOk result (λ list. list.items ≡ queue_data self.now) }
     {
         let mut list = Vec::with_capacity(alloc, self.len())?;
@@ -207,34 +189,6 @@ impl Queue {
         }
         Ok(list)
     }
-
-    /// Adds the bytes of the elements, the oldest first.
-    pub fn put(&self, out: &mut Vec<u8>) -> Result<(), AllocError>
-        ensures { OnOk result (out.new.items ≡ out.old.items ++ flat_map spelled_datum (queue_data self.now)) }
-    {
-        match self {
-            Queue::Integers(all) => put_integers(all, out),
-            Queue::Texts(all) => put_texts(all, out),
-        }
-    }
-}
-
-fn put_integers(all: &VecDeque<u32>, out: &mut Vec<u8>) -> Result<(), AllocError>
-    ensures { OnOk result (out.new.items ≡ out.old.items ++ flat_map spelled_datum (map datum.Integer all.now.items)) }
-{
-    for place in 0..all.len() {
-        put_integer(out, all[place])?;
-    }
-    Ok(())
-}
-
-fn put_texts(all: &VecDeque<Row>, out: &mut Vec<u8>) -> Result<(), AllocError>
-    ensures { OnOk result (out.new.items ≡ out.old.items ++ flat_map spelled_datum (map datum.Text all.now.items)) }
-{
-    for place in 0..all.len() {
-        put_row(out, &all[place])?;
-    }
-    Ok(())
 }
 
 // A copy of these integers, made in one growth.

@@ -1,11 +1,9 @@
 //! The elements of a table, in the order of their keys.
 
-ghost use Rattle.std.specs.Prelude.{◌≡◌, ◌++◌, IfOk, OnOk, OnErr};
+ghost use Rattle.std.specs.Prelude.{◌≡◌, IfOk, OnOk, OnErr};
 ghost use Rattle.value_core.specs.declared.kind.Elem.{Elem};
 ghost use Rattle.value_core.specs.Contents.{AreRows};
 ghost use Rattle.std.specs.FinMap as map;
-ghost use Rattle.std.specs.List.{flat_map};
-ghost use Rattle.value_core.specs.Spelling.{spelled_row};
 ghost use Rattle.value_core.specs.Datum.{elem_of};
 ghost use Rattle.std.specs.Prelude.{◌≤◌, ◌&&◌, true, if◌then◌else◌};
 ghost use Rattle.value_core.specs.Limits.{most_elements};
@@ -15,7 +13,6 @@ ghost use Rattle.value_core.specs.declared.datum.Datum.TheVariants as datum;
 ghost use Rattle.value_core.specs.Rows.{as_data, rows_sort, rows_map};
 
 use crate::datum::Datum;
-use crate::encode::{put_integer, put_row, row_len};
 use crate::kind::Elem;
 use crate::sorted::Sorted;
 use crate::undo::{Kept, Undo};
@@ -43,7 +40,7 @@ impl Rows {
     }
 
     /// Which sort its elements are.
-    pub fn sort(&self) -> Elem
+    pub(crate) fn sort(&self) -> Elem
         ensures { result ≡ rows_sort self.now }
     {
         match self {
@@ -53,7 +50,7 @@ impl Rows {
     }
 
     /// The number of keys.
-    pub fn len(&self) -> usize
+    pub(crate) fn len(&self) -> usize
         ensures { result ≡ map.len (rows_map self.now) }
     {
         match self {
@@ -63,7 +60,7 @@ impl Rows {
     }
 
     /// What stands under a key.
-    pub fn get(&self, key: &Text) -> Option<Datum>
+    pub(crate) fn get(&self, key: &Text) -> Option<Datum>
         ensures { result ≡ map.get (rows_map self.now) key.now }
     {
         match self {
@@ -79,7 +76,7 @@ impl Rows {
     }
 
     /// Whether a key is there.
-    pub fn has(&self, key: &Text) -> bool
+    pub(crate) fn has(&self, key: &Text) -> bool
         ensures { result ≡ map.contains_key (rows_map self.now) key.now }
     {
         match self {
@@ -111,7 +108,7 @@ impl Rows {
     }
 
     /// Removes a key, if it is there. It takes no memory.
-    pub fn remove(&mut self, key: &Text)
+    pub(crate) fn remove(&mut self, key: &Text)
         ensures sort { rows_sort self.new ≡ rows_sort self.old }
         ensures data { rows_map self.new ≡ map.remove (rows_map self.old) key.now }
         ensures rows { (e : Elem) → AreRows e (rows_map self.old) → AreRows e (rows_map self.new) }
@@ -123,7 +120,7 @@ impl Rows {
     }
 
     /// Puts an element under a key, and says what takes that back.
-    pub fn store(&mut self, key: Text, datum: Datum) -> Result<Undo, AllocError>
+    pub(crate) fn store(&mut self, key: Text, datum: Datum) -> Result<Undo, AllocError>
         requires { elem_of datum ≡ rows_sort self.old }
         ensures sort { rows_sort self.new ≡ rows_sort self.old }
         ensures ok { OnOk result (rows_map self.new ≡ map.insert (rows_map self.old) key datum) }
@@ -174,7 +171,7 @@ impl Rows {
     }
 
     /// Removes a key that is there, and says what takes that back.
-    pub fn erase(&mut self, key: &Text) -> Result<Undo, AllocError>
+    pub(crate) fn erase(&mut self, key: &Text) -> Result<Undo, AllocError>
         requires there { map.contains_key (rows_map self.old) key.now ≡ true }
         requires few { map.len (rows_map self.old) ≤ most_elements }
         ensures sort { rows_sort self.new ≡ rows_sort self.old }
@@ -198,7 +195,7 @@ impl Rows {
     }
 
     /// Takes a change of the rows back; where it is none of these, nothing changes. It takes no memory.
-    pub fn take_back(&mut self, undo: Undo)
+    pub(crate) fn take_back(&mut self, undo: Undo)
         ensures sort { rows_sort self.new ≡ rows_sort self.old }
         ensures data { rows_map self.new ≡ table_back undo (rows_sort self.old) (rows_map self.old) }
     {
@@ -235,28 +232,8 @@ impl Rows {
         }
     }
 
-    /// How many bytes spell the rows.
-    pub fn spelled_len(&self) -> usize {
-        let mut total = 0usize;
-        match self {
-            Rows::Integers(all) => {
-                for row in all.rows() {
-                    total = total.saturating_add(row_len(&row.0)).saturating_add(4);
-                }
-            }
-            Rows::Texts(all) => {
-                for row in all.rows() {
-                    total = total
-                        .saturating_add(row_len(&row.0))
-                        .saturating_add(row_len(&row.1));
-                }
-            }
-        }
-        total
-    }
-
     /// A copy of the rows, in memory of its own.
-    pub fn copy(&self) -> Result<Rows, AllocError>
+    pub(crate) fn copy(&self) -> Result<Rows, AllocError>
         ensures sort { IfOk result (λ copy. rows_sort copy ≡ rows_sort self.now) }
         ensures data { IfOk result (λ copy. rows_map copy ≡ rows_map self.now) }
     {
@@ -267,23 +244,12 @@ impl Rows {
     }
 
     /// The keys and what stands under them, keys rising.
-    pub fn list(&self, alloc: Global) -> Result<Vec<(Text, Datum)>, AllocError>
+    pub(crate) fn list(&self, alloc: Global) -> Result<Vec<(Text, Datum)>, AllocError>
         ensures { IfOk result (λ list. list.items ≡ map.entries (rows_map self.now)) }
     {
         match self {
             Rows::Integers(all) => list_integers(alloc, all.rows()),
             Rows::Texts(all) => list_texts(alloc, all.rows()),
-        }
-    }
-
-    /// Adds the bytes of the rows, keys rising.
-    pub fn put(&self, out: &mut Vec<u8>) -> Result<(), AllocError>
-        ensures { OnOk result (out.new.items
-            ≡ out.old.items ++ flat_map spelled_row (map.entries (rows_map self.now))) }
-    {
-        match self {
-            Rows::Integers(all) => put_integers(all.rows(), out),
-            Rows::Texts(all) => put_texts(all.rows(), out),
         }
     }
 }
@@ -308,26 +274,4 @@ fn list_texts(alloc: Global, all: &[(Row, Row)]) -> Result<Vec<(Text, Datum)>, A
         list.push((row.0.text(), Datum::Text(row.1.text())))?;
     }
     Ok(list)
-}
-
-fn put_integers(all: &[(Row, u32)], out: &mut Vec<u8>) -> Result<(), AllocError>
-    ensures { OnOk result (out.new.items ≡ out.old.items ++ flat_map spelled_row (as_data datum.Integer all.now)) }
-{
-    for place in 0..all.len() {
-        let row = &all[place];
-        put_row(out, &row.0)?;
-        put_integer(out, row.1)?;
-    }
-    Ok(())
-}
-
-fn put_texts(all: &[(Row, Row)], out: &mut Vec<u8>) -> Result<(), AllocError>
-    ensures { OnOk result (out.new.items ≡ out.old.items ++ flat_map spelled_row (as_data datum.Text all.now)) }
-{
-    for place in 0..all.len() {
-        let row = &all[place];
-        put_row(out, &row.0)?;
-        put_row(out, &row.1)?;
-    }
-    Ok(())
 }

@@ -40,7 +40,7 @@ impl<X> Model for Sorted<X> {
 
 impl<X> Sorted<X> {
     /// No row. It takes no memory.
-    pub fn new(alloc: Global) -> Sorted<X>
+    pub(crate) fn new(alloc: Global) -> Sorted<X>
         ensures { result ≡ [] }
     {
         Sorted {
@@ -49,12 +49,12 @@ impl<X> Sorted<X> {
     }
 
     /// Where memory is taken for it.
-    pub fn allocator(&self) -> Global {
+    pub(crate) fn allocator(&self) -> Global {
         *self.rows.allocator()
     }
 
     /// The number of rows.
-    pub fn len(&self) -> usize
+    pub(crate) fn len(&self) -> usize
         ensures len { result ≡ length self.now }
         ensures rise { Rise self.now }
     {
@@ -80,7 +80,7 @@ impl<X> Sorted<X> {
     }
 
     /// What stands under a key.
-    pub fn get(&self, key: &Text) -> Option<&X>
+    pub(crate) fn get(&self, key: &Text) -> Option<&X>
         ensures { option_copied result ≡ lookup (is_at (text_cmp key.now)) self.now }
     {
         match self.place(key) {
@@ -90,7 +90,7 @@ impl<X> Sorted<X> {
     }
 
     /// Whether a key is there.
-    pub fn has(&self, key: &Text) -> bool
+    pub(crate) fn has(&self, key: &Text) -> bool
         ensures { result ≡ is_some (lookup (is_at (text_cmp key.now)) self.now) }
     {
         match self.place(key) {
@@ -102,7 +102,7 @@ impl<X> Sorted<X> {
 
 impl<X: Drop> Sorted<X> {
     /// Puts a value under a key, in the place of what stood there.
-    pub fn insert(&mut self, key: &Text, value: X) -> Result<(), AllocError>
+    pub(crate) fn insert(&mut self, key: &Text, value: X) -> Result<(), AllocError>
         ensures ok { OnOk result (self.new ≡ put text_cmp key.now value self.old) }
         ensures err { OnErr result (self.new ≡ self.old) }
         ensures rise { Rise self.old }
@@ -120,7 +120,7 @@ impl<X: Drop> Sorted<X> {
     }
 
     /// Removes a key, if it is there. It takes no memory.
-    pub fn remove(&mut self, key: &Text)
+    pub(crate) fn remove(&mut self, key: &Text)
         ensures rows { self.new ≡ remove_entry (is_at (text_cmp key.now)) self.old }
         ensures rise { Rise self.old }
         ensures still { Rise self.new }
@@ -133,7 +133,7 @@ impl<X: Drop> Sorted<X> {
 
 impl<X: Drop> Sorted<X> {
     /// Removes a key that is there, and gives its row.
-    pub fn take_out(&mut self, key: &Text) -> (Row, X)
+    pub(crate) fn take_out(&mut self, key: &Text) -> (Row, X)
         requires { is_some (lookup (is_at (text_cmp key.now)) self.old) ≡ true }
         ensures rows { self.new ≡ remove_entry (is_at (text_cmp key.now)) self.old }
         ensures key { result.0 ≡ key.now }
@@ -148,7 +148,7 @@ impl<X: Drop> Sorted<X> {
     }
 
     /// Puts a value in the place of what stands under a key that is there; else nothing changes. It takes no memory.
-    pub fn exchange(&mut self, key: &Text, value: X)
+    pub(crate) fn exchange(&mut self, key: &Text, value: X)
         ensures rows { self.new ≡ (if is_some (lookup (is_at (text_cmp key.now)) self.old) then put text_cmp key.now value self.old else self.old) }
         ensures rise { Rise self.old }
         ensures still { Rise self.new }
@@ -159,7 +159,7 @@ impl<X: Drop> Sorted<X> {
     }
 
     /// Puts a row in, in this room, where it has room for them all; else nothing changes. It takes no memory.
-    pub fn put_back(&mut self, row: Row, value: X, room: Vec<(Row, X)>)
+    pub(crate) fn put_back(&mut self, row: Row, value: X, room: Vec<(Row, X)>)
         ensures rows { self.new ≡ (if nat_lt (length self.old) (vec_capacity room) && nat_lt (length self.old) most_elements
             then put text_cmp row value self.old else self.old) }
         ensures rise { Rise self.old }
@@ -205,7 +205,7 @@ fn put_in<X: Drop>(rows: &mut Vec<X>, place: usize, row: X, room: Vec<X>)
 
 impl<X: Clone> Sorted<X> {
     /// A copy of the rows, in memory of its own.
-    pub fn copy(&self) -> Result<Sorted<X>, AllocError>
+    pub(crate) fn copy(&self) -> Result<Sorted<X>, AllocError>
         ensures { IfOk result (λ copy. AllZip (λ p q. (q.0 ≡ p.0) × X.is_clone p.1 q.1) self.now copy) }
     {
         Ok(Sorted {

@@ -4,16 +4,15 @@ ghost use Rattle.std.specs.Prelude.{◌≡◌, IfOk};
 ghost use Rattle.value_core.specs.Datum.{elem_of, IsElement};
 ghost use Rattle.value_core.specs.Kinds.{sort_of, IsKind, IsArray, IsQueue, IsTable};
 ghost use Rattle.value_core.specs.Body.{contents_of};
-ghost use Rattle.value_core.specs.Contents.{kind_of, elements_of, rows_of, IsContents, IsContentsIn};
+ghost use Rattle.value_core.specs.Contents.{kind_of, elements_of, rows_of, IsContents};
 ghost use Rattle.value_core.specs.Meaning.{opening_of, element_at, with_element, oldest_of, without_oldest};
 ghost use Rattle.value_core.specs.Meaning.{with_newest, has_key, under_key, with_row, without_key, count_of};
 ghost use Rattle.value_core.specs.Undo.{back, Grown};
 
 use crate::cells::Cells;
 use crate::datum::Datum;
-use crate::format::Format;
 use crate::kind::Kind;
-use crate::limits::{HEADER_BYTES, MOST_ELEMENTS};
+use crate::limits::MOST_ELEMENTS;
 use crate::queue::Queue;
 use crate::refusal::{GrowFault, Refusal};
 use crate::rows::Rows;
@@ -28,9 +27,9 @@ pub struct Value {
     body: Body,
 }
 
-// Each kind keeps integers and texts apart, so that an integer takes four bytes.
+/// How a value is kept. Each kind keeps integers and texts apart, so that an integer takes four bytes.
 #[derive(Drop)]
-pub(crate) enum Body {
+pub enum Body {
     Array(Cells),
     Queue(Queue),
     Table(Rows),
@@ -52,37 +51,16 @@ impl Model for Value {
 }
 
 impl Value {
-    // The value that is kept so.
-    pub(crate) fn of(body: Body) -> Value
+    /// The value that is kept so.
+    pub fn of(body: Body) -> Value
         requires { IsContents (contents_of body) }
         ensures { result ≡ contents_of body }
     {
         Value { body }
     }
 
-    // The value that is kept so, for which a format has room.
-    #[tactic(auto, using(crate::proofs::Widening::wide))]
-    pub(crate) fn in_format(format: Format, body: Body) -> Value
-        requires { IsContentsIn format (contents_of body) }
-        ensures { result ≡ contents_of body }
-    {
-        // Named for its type alone: contracts see which format it is, and no code looks.
-        let _format = format;
-        Value::of(body)
-    }
-
-    // How many bytes spell the value, so that they are made in one growth.
-    pub(crate) fn spelled_len(&self) -> usize {
-        let elements = match &self.body {
-            Body::Array(cells) => cells.spelled_len(),
-            Body::Queue(queue) => queue.spelled_len(),
-            Body::Table(rows) => rows.spelled_len(),
-        };
-        elements.saturating_add(HEADER_BYTES)
-    }
-
-    // How the value is kept.
-    pub(crate) fn body(&self) -> &Body
+    /// How the value is kept.
+    pub fn body(&self) -> &Body
         ensures body { contents_of result.now ≡ self.now }
         ensures contents { IsContents self.now }
     {

@@ -3,6 +3,7 @@ pub mod Spaces
 pub mod Cutting
 pub mod Written
 pub mod Numerals
+pub mod Longs
 pub mod Lines
 pub mod Shown
 pub mod Clear

@@ -5,8 +5,8 @@ use Rattle.std.specs.Str.{bytes_eq}
 use Rattle.std.specs.Str.Lines.{lines}
 use Rattle.hex.proofs.HexLemmas.{decode_of-encode_lower}
 use Rattle.value_core.specs.declared.format.Format.TheVariants.{Second}
-use Rattle.value_core.specs.Spelling.{spelling}
-use Rattle.value_core.proofs.Bytes.{spelling_is_bytes}
+use Rattle.value_bytes.specs.Spelling.{spelling}
+use Rattle.value_bytes.proofs.Bytes.{spelling_is_bytes}
 use Rattle.apply_core.specs.declared.reply.Failure.{Failure}
 use Rattle.apply_core.specs.declared.reply.Failure.TheVariants.{Device, Memory, Damaged}
 use Rattle.apply_core.specs.declared.reply.Reply.TheVariants.{Done, Refused, Failed}

@@ -13,6 +13,12 @@ integer_of bytes =
     if nat_lt 0 (length bytes) && (all_ascii_digits bytes && nat_lt (digits_value 10 bytes) 4294967296) then Some
     (digits_value 10 bytes) else None
 
+-- so is a number of 64 bits, of a value below 2 ^ 64
+abbrev pub long_of : List ℕ → Option ℕ
+long_of bytes =
+    if nat_lt 0 (length bytes) && (all_ascii_digits bytes && nat_lt (digits_value 10 bytes) 18446744073709551616) then
+    Some (digits_value 10 bytes) else None
+
 -- `sK` is the session K
 abbrev pub session_of : List ℕ → Option ℕ
 session_of [] = None

@@ -4,7 +4,7 @@ use Rattle.std.specs.Str.Lines.{lines}
 use Rattle.hex.specs.Hex.{encode_lower, decode_of}
 use Rattle.value_core.specs.Datum.{IsDatum}
 use Rattle.value_core.specs.Contents.{Contents, IsContents}
-use Rattle.value_core.specs.Spelling.{spelling}
+use Rattle.value_bytes.specs.Spelling.{spelling}
 use Rattle.path_tree.specs.Identifier.{IsName}
 use Rattle.decl_core.specs.declared.object.Operation.{Operation}
 use Rattle.decl_core.specs.ObjectForm.{ObjectForm}

@@ -42,8 +42,8 @@ pub fn push_start(
     )
 }
 
-// The name of the operation at a place of the object; no bytes where there is none.
-fn name_of(object: &Object, operation: OpId) -> &[u8]
+/// The name of the operation at a place of the object; no bytes where there is none.
+pub fn name_of(object: &Object, operation: OpId) -> &[u8]
     ensures { result.now ≡ operation_name (object_of object.now) operation }
 {
     match object.operations.get(operation as usize) {

@@ -3,9 +3,9 @@
 ghost use Rattle.std.specs.Prelude.{◌≡◌, ◌++◌, ◌∷◌, [], OnOk, decimal};
 ghost use Rattle.word_core.specs.Words.{word_text, doubled, quoted};
 ghost use Rattle.word_core.specs.Data.{datum_word, session_word};
-ghost use Rattle.word_core.specs.View.{word_of, written_word};
+ghost use Rattle.word_core.specs.View.{written_word};
 
-use crate::word::{Word, Written};
+use crate::word::Written;
 use std::alloc::AllocError;
 use text_core::reply::push_number;
 use text_core::text::Text;
@@ -65,16 +65,6 @@ fn push_session(out: &mut Vec<u8>, number: u64) -> Result<(), AllocError>
 {
     out.push(b's')?;
     push_integer(out, number)
-}
-
-/// Adds a word as it was read.
-pub fn push_word(out: &mut Vec<u8>, word: &Word) -> Result<(), AllocError>
-    ensures { OnOk result (out.new.items ≡ out.old.items ++ word_text (word_of word.now)) }
-{
-    match word {
-        Word::Bare(bytes) => out.extend_from_slice(bytes),
-        Word::Quoted(text) => push_text(out, text),
-    }
 }
 
 /// Adds a word.

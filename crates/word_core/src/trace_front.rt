@@ -9,7 +9,7 @@ use crate::line::push_line;
 use crate::word::Written;
 use decl_core::object::{Object, Part};
 use std::alloc::{AllocError, Global};
-use value_core::encode::encode;
+use value_bytes::encode::encode;
 use value_core::value::Value;
 
 /// Adds the lines of a trace before its first event: `object NAME`, and then `part NAME HEX` for each part, in order of
@@ -34,7 +34,9 @@ pub fn push_front(
     push_parts(alloc, out, &object.parts, opening)
 }
 
-fn push_parts(
+/// Adds `part NAME HEX` for each part, in order of declaration. There are as many values as parts. The error is that
+/// memory was refused; how much then stands in `out` is not said.
+pub fn push_parts(
     alloc: Global,
     out: &mut Vec<u8>,
     parts: &[Part],
@@ -54,7 +56,13 @@ fn push_parts(
     }
 }
 
-fn push_part(alloc: Global, out: &mut Vec<u8>, name: &[u8], value: &Value) -> Result<(), AllocError>
+/// Adds `part NAME HEX`. The error is that memory was refused; how much then stands in `out` is not said.
+pub fn push_part(
+    alloc: Global,
+    out: &mut Vec<u8>,
+    name: &[u8],
+    value: &Value,
+) -> Result<(), AllocError>
     ensures { OnOk result (out.new.items ≡ out.old.items ++ line_of (part_words name.now value.now)) }
 {
     let bytes = encode(alloc, value)?;

@@ -14,9 +14,9 @@ use Rattle.board_core.specs.Board.{Board, call_at}
 use Rattle.board_core.specs.Sound.{IsSound, IsRunningIn}
 use Rattle.board_core.specs.Answers.{Asked, runs_in}
 use Rattle.guest_core.specs.declared.answer.SubmitFault.{SubmitFault}
-use Rattle.world_core.specs.declared.event.Answer.TheVariants.{Number, Stepped, Ended, Refused}
-use Rattle.world_core.specs.declared.event.Refusal.{Refusal}
-use Rattle.world_core.specs.declared.event.Refusal.TheVariants.{NoStep, NotRunning}
+use Rattle.world_core.specs.declared.event.WorldAnswer.TheVariants.{Number, Stepped, Ended, Refused}
+use Rattle.world_core.specs.declared.event.EventRefusal.{EventRefusal}
+use Rattle.world_core.specs.declared.event.EventRefusal.TheVariants.{NoStep, NotRunning}
 use Rattle.world_core.specs.declared.event.EventAnswer.{EventAnswer}
 use Rattle.world_core.specs.Scene.{Scene, Standing, IsRunAt}
 use Rattle.world_core.specs.Events.{WorldEvent, call, step, finish}
@@ -75,7 +75,7 @@ next_free b sound = not_true (runs_in b (length b.calls + 1)) (λ is. none (numb
 number_is : (n m : ℕ) → Number m ≡ Number n → n ≡ m
 number_is n m is = cc
 
-no_number : (refusal : Refusal) (n : ℕ) → Refused refusal ≡ Number n → ⊥
+no_number : (refusal : EventRefusal) (n : ℕ) → Refused refusal ≡ Number n → ⊥
 no_number refusal n is = cc
 
 -- what runs of a call that was answered so is the call of the next number

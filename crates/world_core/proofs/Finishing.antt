@@ -41,7 +41,7 @@ use Rattle.board_core.proofs.BoardLaws.{pins_stay}
 use Rattle.board_core.proofs.Published.{length-published, published_there, published_elsewhere, done_twice}
 use Rattle.board_core.proofs.Lists.{Every-at, Every-snoc, Every-filter, EachPair-filter, filter_one, eqb_same}
 use Rattle.world_core.specs.declared.slot.Slot.{Slot}
-use Rattle.world_core.specs.declared.stage.Stage.{Stage}
+use Rattle.world_core.specs.declared.stage.WorldTables.{WorldTables}
 use Rattle.world_core.specs.Answers.{Leaves}
 use Rattle.world_core.specs.Scene.{Standing, call_running}
 use Rattle.world_core.specs.Kept.{IsKept, ArePinsShort, IsReady, IsStaged, HasNew, standing_of, scene_of}
@@ -259,7 +259,7 @@ finished_kept old between settled ones files runs left values k slot r o law kep
     )
 
 -- a finish of the run at a place, all that it leaves
-pub record IsFinish (old : Stage) (slot : Slot) (o : Outcome) (left : List Slot) (from : ℕ) (settled : Board) : Type 0 where
+pub record IsFinish (old : WorldTables) (slot : Slot) (o : Outcome) (left : List Slot) (from : ℕ) (settled : Board) : Type 0 where
   pub r : RunningCall
   pub runs : Among r old.desk.running
   pub call : run_call slot.run ≡ call_running r
@@ -269,7 +269,7 @@ pub record IsFinish (old : Stage) (slot : Slot) (o : Outcome) (left : List Slot)
   pub has : HasNew settled (length left) from settles.ones
   pub longer : from ≤ length settled.trace
 
-pub finish_is : (law : TruthIsNoted) (old : Stage) (k from : ℕ) (slot : Slot) (o : Outcome) (left : List Slot) (receipt : Receipt) (settled : Board) → IsStaged old → slice_get old.runs.items k ≡ Some slot
+pub finish_is : (law : TruthIsNoted) (old : WorldTables) (k from : ℕ) (slot : Slot) (o : Outcome) (left : List Slot) (receipt : Receipt) (settled : Board) → IsStaged old → slice_get old.runs.items k ≡ Some slot
     → left ≡ take k old.runs.items ++ drop (k + 1) old.runs.items → from ≡ length old.desk.trace + 1
     → TellsOf slot o → Finishes old.desk o receipt settled → IsSound settled → IsFinish old slot o left from settled
 finish_is law old k from slot o left receipt settled staged at cut before tells finishes sound =
@@ -304,7 +304,7 @@ finish_is law old k from slot o left receipt settled staged at cut before tells 
     }
 
 -- what the run of a finished call leaves
-pub finish_leaves : (old : Stage) (k : ℕ) (slot : Slot) (o : Outcome) → IsStaged old → slice_get old.runs.items k ≡ Some slot → TellsOf slot o → Leaves (scene_of old) (standing_of slot) (outcome_reply o) (outcome_news o)
+pub finish_leaves : (old : WorldTables) (k : ℕ) (slot : Slot) (o : Outcome) → IsStaged old → slice_get old.runs.items k ≡ Some slot → TellsOf slot o → Leaves (scene_of old) (standing_of slot) (outcome_reply o) (outcome_news o)
 finish_leaves old k slot o staged at tells =
     let ready : IsReady (files_of old.hand) slot = Every-at (IsReady (files_of old.hand)) old.runs.items k slot staged.kept.ready at in
     let sealed : outcome_sealed o ≡ sealed_at (run_place slot.run) = tells.sealed ∙ sealed_by_place slot.run in
@@ -315,7 +315,7 @@ finish_leaves old k slot o staged at tells =
     }
 
 -- an outcome of a run is that of its call, and was not handed in
-pub no_stranger : (old : Stage) (k : ℕ) (slot : Slot) (o : Outcome) → IsStaged old → slice_get old.runs.items k ≡ Some slot → outcome_call o ≡ run_call slot.run → IsFresh o → IsStranger old.desk o → ⊥
+pub no_stranger : (old : WorldTables) (k : ℕ) (slot : Slot) (o : Outcome) → IsStaged old → slice_get old.runs.items k ≡ Some slot → outcome_call o ≡ run_call slot.run → IsFresh o → IsStranger old.desk o → ⊥
 no_stranger old k slot o staged at call fresh (inl used) = used fresh
 no_stranger old k slot o staged at call fresh (inr none) =
     let kept = staged.kept in

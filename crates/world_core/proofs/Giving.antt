@@ -2,7 +2,7 @@
 use Rattle.std.proofs.Common.{◌≡◌, ℕ, ◌+◌, ◌≤◌, List, [], ◌∷◌, ◌++◌, length, Some, refl, sym, ap, subst, ◌∙◌, take, append_assoc}
 use Rattle.std.specs.Prelude.{slice_get}
 use Rattle.std.proofs.lemmas.List.{append-nil}
-use Rattle.value_core.proofs.Encoding.{list_next}
+use Rattle.value_core.proofs.Listing.{list_next}
 use Rattle.decl_core.specs.HoldForm.{HoldForm}
 use Rattle.world_core.specs.Scene.{Scene}
 use Rattle.guest_core.specs.Held.{HeldCall}

@@ -1,7 +1,7 @@
 -- What is held after some events more.
 use Rattle.std.proofs.Common.{◌≡◌, ℕ, zero, suc, ◌+◌, ◌-◌, ◌<◌, ◌≤◌, List, [], ◌∷◌, ◌++◌, length, Some, None, refl, sym, ap, subst, ◌∙◌, arith, take, drop}
 use Rattle.std.specs.Prelude.{slice_get}
-use Rattle.value_core.proofs.Encoding.{list_next}
+use Rattle.value_core.proofs.Listing.{list_next}
 use Rattle.decl_core.specs.HoldForm.{HoldForm}
 use Rattle.board_core.specs.declared.event.TraceEvent.{TraceEvent}
 use Rattle.board_core.specs.Calls.{AcceptedCall}

@@ -25,7 +25,7 @@ use Rattle.board_core.specs.Board.{Board, opened}
 use Rattle.board_core.specs.Chain.{ShowContents, Shows}
 use Rattle.board_core.specs.Sound.{IsSound, kinds_of}
 use Rattle.world_core.specs.declared.slot.Slot.{Slot}
-use Rattle.world_core.specs.declared.stage.Stage.{Stage}
+use Rattle.world_core.specs.declared.stage.WorldTables.{WorldTables}
 use Rattle.world_core.specs.Scene.{Scene, IsNew}
 use Rattle.world_core.specs.Kept.{IsKept, ArePinsShort, IsStaged}
 
@@ -107,7 +107,7 @@ opened_kept o pins files values sound served pinned = record {
   entries = λ a agrees. tt;
 }
 
-pub new_staged : (s : Stage) (o m : Object) (pins : List (List Stamp)) → m ≡ o → s.desk ≡ opened o pins → IsSound s.desk → ArePinsServed (λ p. Serves (files_of s.hand) p) pins
+pub new_staged : (s : WorldTables) (o m : Object) (pins : List (List Stamp)) → m ≡ o → s.desk ≡ opened o pins → IsSound s.desk → ArePinsServed (λ p. Serves (files_of s.hand) p) pins
     → ((a : Assignment) → HasFiles (files_of s.hand) a → ArePinned a m.parts.items pins s.opening.items) → s.runs.items ≡ [] → 256 ≤ vec_capacity s.runs → IsStaged s
 new_staged s o m pins same made sound served pinned none room = record {
   kept = subst (λ (b : Board). IsKept b (files_of s.hand) s.runs.items s.opening.items) (sym made)

@@ -14,7 +14,7 @@ use Rattle.board_core.specs.Calls.{Noted, AcceptedCall, RunningCall}
 use Rattle.board_core.specs.Board.{Board, joined, dismissed, released, marked, ended, entry_of}
 use Rattle.board_core.proofs.Resumed.{resumed_history}
 use Rattle.board_core.proofs.Lists.{Every-at, Every-snoc, Every-map, Every-filter, Every-set}
-use Rattle.world_core.specs.declared.event.Answer.TheVariants.{Stepped}
+use Rattle.world_core.specs.declared.event.WorldAnswer.TheVariants.{Stepped}
 use Rattle.world_core.specs.declared.event.EventAnswer.{EventAnswer}
 use Rattle.world_core.specs.declared.event.Event.{Event}
 use Rattle.world_core.specs.Events.{WorldEvent, step, event_of}

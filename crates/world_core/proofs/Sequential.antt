@@ -11,7 +11,7 @@ use Rattle.board_core.specs.Board.{call_at}
 use Rattle.board_core.specs.Chain.{ShowContents, history_of}
 use Rattle.board_core.specs.Sound.{IsNoted, kinds_of}
 use Rattle.board_core.proofs.Law.{chained_are_legal}
-use Rattle.world_core.specs.declared.stage.Stage.{Stage}
+use Rattle.world_core.specs.declared.stage.WorldTables.{WorldTables}
 use Rattle.world_core.specs.Kept.{IsStaged, scene_of}
 use Rattle.world_core.specs.Headline.{IsSequential}
 
@@ -33,12 +33,12 @@ once_each calls [] noted ordered = tt
 once_each calls (e ∷ es) noted ordered = (differs calls e es noted.0 noted.1 ordered.0, once_each calls es noted.1 ordered.1)
 
 -- what the published pins spell is what the history leads to
-pub contents_shown : (s : Stage) → IsStaged s → (a : Assignment) → HasFiles (files_of s.hand) a → ShowContents a (kinds_of s.desk.object) s.desk.pins (leads_to (history_of s.desk.history) s.opening.items)
+pub contents_shown : (s : WorldTables) → IsStaged s → (a : Assignment) → HasFiles (files_of s.hand) a → ShowContents a (kinds_of s.desk.object) s.desk.pins (leads_to (history_of s.desk.history) s.opening.items)
 contents_shown s staged a agrees =
     let kept = staged.kept in
     (chained_are_legal a (kinds_of s.desk.object) s.desk.opening s.desk.pins s.desk.history s.opening.items kept.sound.pinned.entries kept.sound.pinned.chained (kept.opening a agrees) (kept.entries a agrees)).1
 
-pub staged_is_sequential : (s : Stage) → IsStaged s → IsSequential (scene_of s)
+pub staged_is_sequential : (s : WorldTables) → IsStaged s → IsSequential (scene_of s)
 staged_is_sequential s staged =
     let kept = staged.kept in
     let some = some_map s.hand.files.items in

@@ -29,9 +29,9 @@ use Rattle.board_core.specs.declared.answer.CallState.TheVariants as states
 use Rattle.board_core.specs.Answers.{Asked, IsNamedAt}
 use Rattle.board_core.specs.Keyed.{IsStateOf}
 use Rattle.world_core.specs.Events.{WorldEvent, call, call_key, step, finish, cancel, leave, resume, look}
-use Rattle.world_core.specs.declared.event.Refusal.{Refusal}
-use Rattle.world_core.specs.declared.event.Refusal.TheVariants as refusals
-use Rattle.world_core.specs.declared.event.Answer.TheVariants.{Ended, Refused}
+use Rattle.world_core.specs.declared.event.EventRefusal.{EventRefusal}
+use Rattle.world_core.specs.declared.event.EventRefusal.TheVariants as refusals
+use Rattle.world_core.specs.declared.event.WorldAnswer.TheVariants.{Ended, Refused}
 use Rattle.world_core.specs.declared.event.EventAnswer.{EventAnswer}
 use Rattle.world_core.specs.Names.{refusal_name}
 use Rattle.world_core.specs.Scene.{Scene, Standing, Goes, IsNew, call_running}
@@ -241,7 +241,7 @@ not_by_look : (n : ℕ) → look ≡ step n false → ⊥
 not_by_look n is = cc
 
 -- a refusal is no end
-not_ended : (refusal : Refusal) (reply : Reply) → Refused refusal ≡ Ended reply → ⊥
+not_ended : (refusal : EventRefusal) (reply : Reply) → Refused refusal ≡ Ended reply → ⊥
 not_ended refusal reply is = cc
 
 -- What the sequential object makes of a line that says this, and that it is the world still.

@@ -25,7 +25,7 @@ use Rattle.board_core.specs.Keyed.{SubmitsKeyed}
 use Rattle.guest_core.specs.declared.answer.KeyedFault.{KeyedFault}
 use Rattle.guest_core.specs.declared.answer.KeyedFault.TheVariants as faults
 use Rattle.world_core.specs.declared.slot.Slot.{Slot}
-use Rattle.world_core.specs.declared.stage.Stage.{Stage}
+use Rattle.world_core.specs.declared.stage.WorldTables.{WorldTables}
 use Rattle.world_core.specs.Scene.{Scene, Standing, AreBegun, Goes, call_running, collected}
 use Rattle.world_core.specs.Kept.{IsKept, ArePinsShort, IsReady, IsStaged, HasNew, standing_of, scene_of}
 use Rattle.world_core.proofs.Beginning.{all_collected}
@@ -140,7 +140,7 @@ event_new old between settled m from is settles all before =
     has_new between settled m from settles.ones settles.started (all ∙ ap (λ (rs : List RunningCall). length rs) (sym is.running)) (before ∙ ap (λ (es : List TraceEvent). length es) (sym is.trace))
 
 -- the runs of the calls that started behind an event
-pub event_goes : (old new : Stage) (between settled : Board) (runs : List Slot) (from starts : ℕ) (settles : Settles between settled) → HasNew settled (length runs) from settles.ones → IsStaged new → collected new.desk ≡ collected settled
+pub event_goes : (old new : WorldTables) (between settled : Board) (runs : List Slot) (from starts : ℕ) (settles : Settles between settled) → HasNew settled (length runs) from settles.ones → IsStaged new → collected new.desk ≡ collected settled
     → ((ones : List WaitingCall) → HasNew settled (length runs) from ones → (starts ≡ length ones) × ((begun : List Standing) × AreBegun (map (run_of settled.pins) ones) begun × (map standing_of new.runs.items ≡ map standing_of runs ++ begun)))
     → files_of new.hand ≡ files_of old.hand → new.opening.items ≡ old.opening.items → Goes (scene_of old) between (map standing_of runs) starts (scene_of new)
 event_goes old new between settled runs from starts settles has staged same made files opening =

@@ -4,8 +4,8 @@ use Rattle.std.specs.Prelude.{slice_get}
 use Rattle.std.specs.Global.{Vec}
 use Rattle.value_core.specs.declared.kind.Kind.{Kind}
 use Rattle.value_core.specs.Contents.{Contents}
-use Rattle.value_core.specs.Spelling.{Spells}
-use Rattle.value_core.proofs.Unique.{unique}
+use Rattle.value_bytes.specs.Spelling.{Spells}
+use Rattle.value_bytes.proofs.Unique.{unique}
 use Rattle.device_core.specs.declared.file.File.{File}
 use Rattle.device_core.specs.declared.hand.Stamp.{Stamp}
 use Rattle.device_core.specs.Device.{Assignment}
@@ -18,11 +18,11 @@ use Rattle.decl_core.specs.declared.object.Part.{Part}
 use Rattle.board_core.specs.Board.{Board}
 use Rattle.board_core.specs.Chain.{Shows, history_of}
 use Rattle.board_core.specs.Sound.{kinds_of}
-use Rattle.world_core.specs.declared.stage.Stage.{Stage}
+use Rattle.world_core.specs.declared.stage.WorldTables.{WorldTables}
 use Rattle.world_core.specs.Scene.{Scene}
 use Rattle.world_core.specs.declared.event.EventAnswer.{EventAnswer}
-use Rattle.world_core.specs.declared.event.Answer.TheVariants.{Shown, Refused}
-use Rattle.world_core.specs.declared.event.Refusal.TheVariants.{Memory}
+use Rattle.world_core.specs.declared.event.WorldAnswer.TheVariants.{Shown, Refused}
+use Rattle.world_core.specs.declared.event.EventRefusal.TheVariants.{Memory}
 use Rattle.world_core.specs.Events.{look}
 use Rattle.world_core.specs.Answers.{Answers, with_starts, shown, not_shown}
 use Rattle.world_core.specs.Kept.{IsStaged}
@@ -43,7 +43,7 @@ one_value files kind pin v value bytes shows are spells =
     unique bytes kind kind v value spells (spells_it some.0 kind pin value bytes (shows some.0 some.1) (are some.0 some.1))
 
 -- Some parts are shown: of the tables only the hand was used, and its files are the same.
-pub record Showing (old new : Stage) (values : List Contents) (part : ℕ) : Type 0 where
+pub record Showing (old new : WorldTables) (values : List Contents) (part : ℕ) : Type 0 where
   pub desk : new.desk ≡ old.desk
   pub files : files_of new.hand ≡ files_of old.hand
   pub runs : new.runs ≡ old.runs
@@ -56,7 +56,7 @@ take_at (y ∷ xs) zero x at = ap (λ z. z ∷ []) (some_is at)
 take_at (y ∷ xs) (suc k) x at = ap (λ zs. y ∷ zs) (take_at xs k x at)
 
 -- with one part more
-pub one_more : (old mid new : Stage) (before values : List Contents) (part : ℕ) (value : Contents) → Showing old mid before part → new.desk ≡ mid.desk → files_of new.hand ≡ files_of mid.hand → new.runs ≡ mid.runs → new.opening ≡ mid.opening
+pub one_more : (old mid new : WorldTables) (before values : List Contents) (part : ℕ) (value : Contents) → Showing old mid before part → new.desk ≡ mid.desk → files_of new.hand ≡ files_of mid.hand → new.runs ≡ mid.runs → new.opening ≡ mid.opening
     → values ≡ before ++ value ∷ [] → slice_get (leads_to (history_of old.desk.history) old.opening.items) part ≡ Some value → Showing old new values (part + 1)
 one_more old mid new before values part value so desk files runs opening more at = let next : suc part ≡ part + 1 = omega arith in record {
   desk = desk ∙ so.desk;
@@ -68,7 +68,7 @@ one_more old mid new before values part value so desk files runs opening more at
 }
 
 -- the value of a part, which its pin shows whatever assignment agrees
-pub part_shown : (s : Stage) (k : ℕ) (kind : Kind) (pin : List Stamp) → IsStaged s → slice_get (kinds_of s.desk.object) k ≡ Some kind → slice_get s.desk.pins k ≡ Some pin
+pub part_shown : (s : WorldTables) (k : ℕ) (kind : Kind) (pin : List Stamp) → IsStaged s → slice_get (kinds_of s.desk.object) k ≡ Some kind → slice_get s.desk.pins k ≡ Some pin
     → (value : Contents) × (slice_get (leads_to (history_of s.desk.history) s.opening.items) k ≡ Some value) × ((a : Assignment) → HasFiles (files_of s.hand) a → Shows a kind pin value)
 part_shown s k kind pin staged at there = (
   first.1,
@@ -89,7 +89,7 @@ kind_at (p ∷ parts) zero part at = ap (λ (q : Part). Some q.kind) (some_is at
 kind_at (p ∷ parts) (suc k) part at = kind_at parts k part at
 
 -- the value that stands at the next place, which its pin shows
-pub value_of : (old mid : Stage) (values : List Contents) (k : ℕ) (o : Object) (part : Part) (pins : List (List Stamp)) (pin : List Stamp) → IsStaged old → Showing old mid values k → o ≡ mid.desk.object → pins ≡ old.desk.pins
+pub value_of : (old mid : WorldTables) (values : List Contents) (k : ℕ) (o : Object) (part : Part) (pins : List (List Stamp)) (pin : List Stamp) → IsStaged old → Showing old mid values k → o ≡ mid.desk.object → pins ≡ old.desk.pins
     → slice_get o.parts.items k ≡ Some part → slice_get pins k ≡ Some pin
     → (value : Contents) × (slice_get (leads_to (history_of old.desk.history) old.opening.items) k ≡ Some value) × ((a : Assignment) → HasFiles (files_of mid.hand) a → Shows a part.kind pin value)
 value_of old mid values k o part pins pin staged so same its there stands =
@@ -99,7 +99,7 @@ value_of old mid values k o part pins pin staged so same its there stands =
     (its_value.0, its_value.1, λ a agrees. its_value.2 a (subst (λ fs. HasFiles fs a) so.files agrees))
 
 -- all parts are shown
-pub all_shown : (old new : Stage) (values : List Contents) (part : ℕ) → IsStaged old → Showing old new values part → length old.desk.pins ≤ part → values ≡ leads_to (history_of old.desk.history) old.opening.items
+pub all_shown : (old new : WorldTables) (values : List Contents) (part : ℕ) → IsStaged old → Showing old new values part → length old.desk.pins ≤ part → values ≡ leads_to (history_of old.desk.history) old.opening.items
 all_shown old new values part staged so all =
     let some = some_map old.hand.files.items in
     let spelled = contents_shown old staged some.0 some.1 in

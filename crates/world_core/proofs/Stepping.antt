@@ -8,7 +8,7 @@ use Rattle.decl_core.specs.Bodies.{body_of}
 use Rattle.decl_core.specs.Touched.{Reads}
 use Rattle.value_core.specs.declared.kind.Kind.{Kind}
 use Rattle.value_core.specs.Contents.{Contents}
-use Rattle.value_core.specs.Spelling.{Spells}
+use Rattle.value_bytes.specs.Spelling.{Spells}
 use Rattle.device_core.specs.declared.file.File.{File}
 use Rattle.device_core.specs.declared.hand.Stamp.{Stamp}
 use Rattle.device_core.specs.Device.{Assignment, IsFree}
@@ -38,7 +38,7 @@ use Rattle.board_core.specs.Sound.{IsMadeOf, IsPinned, IsRunningIn, kinds_of}
 use Rattle.board_core.proofs.Lists.{Every-at, Every-both, among_at}
 use Rattle.board_core.specs.Answers.{runs_in}
 use Rattle.world_core.specs.declared.slot.Slot.{Slot}
-use Rattle.world_core.specs.declared.event.Answer.TheVariants.{Stepped}
+use Rattle.world_core.specs.declared.event.WorldAnswer.TheVariants.{Stepped}
 use Rattle.world_core.specs.declared.event.EventAnswer.{EventAnswer}
 use Rattle.world_core.specs.Answers.{Answers, Moves, stepped, with_starts}
 use Rattle.world_core.specs.Events.{step}

@@ -22,23 +22,23 @@ use Rattle.board_core.specs.Keys as keys
 use Rattle.board_core.specs.Keys.{next_key}
 use Rattle.guest_core.specs.declared.answer.SubmitFault.{SubmitFault}
 use Rattle.guest_core.specs.declared.answer.KeyedFault.{KeyedFault}
-use Rattle.board_core.specs.declared.answer.Kept.{Kept as KeptCall}
+use Rattle.board_core.specs.declared.answer.EarlierCall.{EarlierCall as KeptCall}
 use Rattle.guest_core.specs.declared.answer.Cancelled.{Cancelled}
 use Rattle.guest_core.specs.declared.answer.Cancelled.TheVariants as cancels
 use Rattle.board_core.specs.Answers.{Asked, IsGone, IsTaken, IsRefused, Cancels, waits_in, runs_in}
 use Rattle.board_core.specs.Keyed.{IsKeptCall, SubmitsKeyed}
-use Rattle.world_core.specs.declared.event.Refusal.TheVariants.{Submit, Keyed, NotRunning, NoStep, NotDone, NoSession}
-use Rattle.world_core.specs.declared.event.Refusal.TheVariants.{Memory}
-use Rattle.world_core.specs.declared.event.Answer.{Answer}
-use Rattle.world_core.specs.declared.event.Answer.TheVariants.{Number, Stepped, Ended, Cancel, Dropped, Resumed, Kept}
-use Rattle.world_core.specs.declared.event.Answer.TheVariants.{Shown, Refused}
+use Rattle.world_core.specs.declared.event.EventRefusal.TheVariants.{Submit, Keyed, NotRunning, NoStep, NotDone, NoSession}
+use Rattle.world_core.specs.declared.event.EventRefusal.TheVariants.{Memory}
+use Rattle.world_core.specs.declared.event.WorldAnswer.{WorldAnswer}
+use Rattle.world_core.specs.declared.event.WorldAnswer.TheVariants.{Number, Stepped, Ended, Cancel, Dropped, Resumed, Kept}
+use Rattle.world_core.specs.declared.event.WorldAnswer.TheVariants.{Shown, Refused}
 use Rattle.world_core.specs.declared.event.EventAnswer.{EventAnswer}
 use Rattle.world_core.specs.Events.{WorldEvent, call, call_key, step, finish, cancel, leave, resume, look}
 use Rattle.world_core.specs.Scene.{Scene, Standing, AgreesWith, Goes, IsRunAt, call_running}
 use Rattle.world_core.specs.Work.{work_at}
 
 -- an answer, and how many calls the event started
-abbrev pub with_starts : Answer → ℕ → EventAnswer
+abbrev pub with_starts : WorldAnswer → ℕ → EventAnswer
 with_starts answer starts = record { answer = answer; starts = starts }
 
 -- A step of a run by the rule of steps: one that works does not fail for the device, one that does not work fails, and

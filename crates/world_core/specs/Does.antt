@@ -18,11 +18,11 @@ use Rattle.guest_core.specs.declared.answer.Cancelled.{Cancelled}
 use Rattle.guest_core.specs.declared.answer.Cancelled.TheVariants as cancels
 use Rattle.board_core.specs.Answers.{runs_in}
 use Rattle.desk_core.specs.Told.{lines_told}
-use Rattle.world_core.specs.declared.event.Refusal.{Refusal}
-use Rattle.world_core.specs.declared.event.Refusal.TheVariants.{Submit, Keyed, NotRunning, NoStep, Memory}
-use Rattle.world_core.specs.declared.event.Answer.{Answer}
-use Rattle.world_core.specs.declared.event.Answer.TheVariants.{Number, Stepped, Ended, Cancel, Dropped, Resumed, Kept}
-use Rattle.world_core.specs.declared.event.Answer.TheVariants.{Shown, Refused}
+use Rattle.world_core.specs.declared.event.EventRefusal.{EventRefusal}
+use Rattle.world_core.specs.declared.event.EventRefusal.TheVariants.{Submit, Keyed, NotRunning, NoStep, Memory}
+use Rattle.world_core.specs.declared.event.WorldAnswer.{WorldAnswer}
+use Rattle.world_core.specs.declared.event.WorldAnswer.TheVariants.{Number, Stepped, Ended, Cancel, Dropped, Resumed, Kept}
+use Rattle.world_core.specs.declared.event.WorldAnswer.TheVariants.{Shown, Refused}
 use Rattle.world_core.specs.declared.event.EventAnswer.{EventAnswer}
 use Rattle.world_core.specs.Names.{refusal_name}
 use Rattle.world_core.specs.Events.{WorldEvent, call, call_key, step, finish, cancel, leave, resume, look}
@@ -56,7 +56,7 @@ repeat_line number states.Cancelled = kept_line (codes "cancelled") number
 repeat_line number (states.Ended reply) = repeated_line number reply
 
 -- the lines that tell an answer to an event of this call or session, over this object
-abbrev pub answer_lines : Object → ℕ → Answer → List ℕ
+abbrev pub answer_lines : Object → ℕ → WorldAnswer → List ℕ
 answer_lines o number (Number given) = called_line given
 answer_lines o number (Stepped need went) = stepped_line number need (has_gone went)
 answer_lines o number (Ended reply) = finished_line number reply
@@ -68,14 +68,14 @@ answer_lines o number (Shown values) = shown_lines (object_of o).parts values.it
 answer_lines o number (Refused refusal) = refused_line (refusal_name refusal)
 
 -- a refusal that is no want of memory
-pub record IsNoWant (refusal : Refusal) : Type 0 where
+pub record IsNoWant (refusal : EventRefusal) : Type 0 where
   pub event : refusal ≢ Memory
   pub submit : refusal ≢ Submit faults.Memory
   pub keyed : refusal ≢ Keyed (keyed.Submit faults.Memory)
 
 -- an answer is told, and a want of memory is not
-abbrev pub IsTold : Answer → Type 0
-IsTold answer = (refusal : Refusal) → answer ≡ Refused refusal → IsNoWant refusal
+abbrev pub IsTold : WorldAnswer → Type 0
+IsTold answer = (refusal : EventRefusal) → answer ≡ Refused refusal → IsNoWant refusal
 
 -- `started N` for each of the last events of a trace
 abbrev pub started_lines : ℕ → List TraceEvent → List ℕ

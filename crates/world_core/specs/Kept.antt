@@ -18,14 +18,14 @@ use Rattle.board_core.specs.Board.{Board}
 use Rattle.board_core.specs.Chain.{ShowContents, IsTrueEntry}
 use Rattle.board_core.specs.Sound.{IsSound, kinds_of}
 use Rattle.world_core.specs.declared.slot.Slot.{Slot}
-use Rattle.world_core.specs.declared.stage.Stage.{Stage}
+use Rattle.world_core.specs.declared.stage.WorldTables.{WorldTables}
 use Rattle.world_core.specs.Scene.{Scene, Standing, call_running}
 
 -- what a run is to whoever drives a world
 abbrev pub standing_of : Slot → Standing
 standing_of slot = record { call = run_call slot.run; place = run_place slot.run }
 
-abbrev pub scene_of : Stage → Scene
+abbrev pub scene_of : WorldTables → Scene
 scene_of s =
     record { board = s.desk; opening = s.opening.items; files = files_of s.hand; runs = map standing_of s.runs.items }
 
@@ -73,7 +73,7 @@ pub record HasNew (b : Board) (begun from : ℕ) (ones : List WaitingCall) : Typ
   pub within : from ≤ length b.trace
 
 -- the tables of a world, where each running call has its run
-pub record IsStaged (s : Stage) : Type 0 where
+pub record IsStaged (s : WorldTables) : Type 0 where
   pub kept : IsKept s.desk (files_of s.hand) s.runs.items s.opening.items
   pub all : length s.runs.items ≡ length s.desk.running
   pub room : 256 ≤ vec_capacity s.runs

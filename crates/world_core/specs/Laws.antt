@@ -7,7 +7,7 @@ use Rattle.apply_core.specs.declared.need.Need.{Need}
 use Rattle.run_core.specs.declared.step.StepAnswer.{StepAnswer}
 use Rattle.board_core.specs.Lists.{Every}
 use Rattle.board_core.specs.Calls.{Noted}
-use Rattle.world_core.specs.declared.event.Answer.TheVariants.{Stepped}
+use Rattle.world_core.specs.declared.event.WorldAnswer.TheVariants.{Stepped}
 use Rattle.world_core.specs.declared.event.EventAnswer.{EventAnswer}
 use Rattle.world_core.specs.Answers.{Answers}
 use Rattle.world_core.specs.Events.{WorldEvent, step}

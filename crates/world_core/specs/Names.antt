@@ -4,9 +4,9 @@ use Rattle.guest_core.specs.declared.answer.SubmitFault.{SubmitFault}
 use Rattle.guest_core.specs.declared.answer.SubmitFault.TheVariants as faults
 use Rattle.guest_core.specs.declared.answer.KeyedFault.{KeyedFault}
 use Rattle.guest_core.specs.declared.answer.KeyedFault.TheVariants as keyed
-use Rattle.world_core.specs.declared.event.Refusal.{Refusal}
-use Rattle.world_core.specs.declared.event.Refusal.TheVariants.{Submit, Keyed, NotRunning, NoStep, NotDone, NoSession}
-use Rattle.world_core.specs.declared.event.Refusal.TheVariants.{Memory}
+use Rattle.world_core.specs.declared.event.EventRefusal.{EventRefusal}
+use Rattle.world_core.specs.declared.event.EventRefusal.TheVariants.{Submit, Keyed, NotRunning, NoStep, NotDone, NoSession}
+use Rattle.world_core.specs.declared.event.EventRefusal.TheVariants.{Memory}
 
 abbrev pub fault_name : SubmitFault → List ℕ
 fault_name faults.Gone = codes "Gone"
@@ -23,7 +23,7 @@ keyed_name keyed.BadKey = codes "BadKey"
 keyed_name keyed.KeyReused = codes "KeyReused"
 keyed_name (keyed.Submit fault) = fault_name fault
 
-abbrev pub refusal_name : Refusal → List ℕ
+abbrev pub refusal_name : EventRefusal → List ℕ
 refusal_name (Submit fault) = fault_name fault
 refusal_name (Keyed fault) = keyed_name fault
 refusal_name NotRunning = codes "NotRunning"

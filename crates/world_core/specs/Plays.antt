@@ -4,9 +4,9 @@ use Rattle.apply_core.specs.declared.reply.Reply.{Reply}
 use Rattle.apply_core.specs.declared.need.Need.{Need}
 use Rattle.run_core.specs.declared.step.StepAnswer.TheVariants as steps
 use Rattle.device_core.specs.declared.hand.HandFault.TheVariants as faults
-use Rattle.world_core.specs.declared.event.Answer.{Answer}
-use Rattle.world_core.specs.declared.event.Answer.TheVariants.{Number, Stepped, Ended, Cancel, Dropped, Resumed, Kept}
-use Rattle.world_core.specs.declared.event.Answer.TheVariants.{Shown, Refused}
+use Rattle.world_core.specs.declared.event.WorldAnswer.{WorldAnswer}
+use Rattle.world_core.specs.declared.event.WorldAnswer.TheVariants.{Number, Stepped, Ended, Cancel, Dropped, Resumed, Kept}
+use Rattle.world_core.specs.declared.event.WorldAnswer.TheVariants.{Shown, Refused}
 use Rattle.world_core.specs.declared.event.EventAnswer.{EventAnswer}
 use Rattle.world_core.specs.Events.{WorldEvent, call, call_key, step, finish, cancel, leave, resume, look}
 use Rattle.world_core.specs.Scene.{Scene}
@@ -20,7 +20,7 @@ Plays old [] (a ∷ answers) new = ⊥
 Plays old (e ∷ events) [] new = ⊥
 
 -- one more, if a finish was answered by an end
-abbrev pub if_ended : WorldEvent → Answer → List (ℕ × Reply) → List (ℕ × Reply)
+abbrev pub if_ended : WorldEvent → WorldAnswer → List (ℕ × Reply) → List (ℕ × Reply)
 if_ended (finish number) (Ended reply) more = (number, reply) ∷ more
 if_ended (finish number) (Number n) more = more
 if_ended (finish number) (Stepped need answer) more = more

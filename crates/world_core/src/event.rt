@@ -5,7 +5,7 @@ ghost use Rattle.world_core.specs.Names.{fault_name, keyed_name, refusal_name};
 
 use apply_core::need::Need;
 use apply_core::reply::Reply;
-use board_core::answer::Kept;
+use board_core::answer::EarlierCall;
 use guest_core::answer::{Cancelled, KeyedFault, SubmitFault};
 use run_core::step::StepAnswer;
 use value_core::datum::Datum;
@@ -34,7 +34,7 @@ pub enum Event<'a> {
 
 /// Why an event is refused. It has changed nothing then.
 #[derive(Clone, Copy, Debug, PartialEq, Eq)]
-pub enum Refusal {
+pub enum EventRefusal {
     /// A call is refused by the desk, or for want of memory.
     Submit(SubmitFault),
     /// A call under a key is refused by the desk, or for want of memory.
@@ -78,30 +78,30 @@ fn keyed_name(fault: KeyedFault) -> &'static str
     }
 }
 
-impl Refusal {
+impl EventRefusal {
     /// Its name, as in `NotRunning`.
     pub fn name(&self) -> &'static str
         ensures { result.now ≡ refusal_name self.now }
     {
         match self {
-            Refusal::Submit(fault) => fault_name(*fault),
-            Refusal::Keyed(fault) => keyed_name(*fault),
-            Refusal::NotRunning => "NotRunning",
-            Refusal::NoStep => "NoStep",
-            Refusal::NotDone => "NotDone",
-            Refusal::NoSession => "NoSession",
-            Refusal::Memory => "Memory",
+            EventRefusal::Submit(fault) => fault_name(*fault),
+            EventRefusal::Keyed(fault) => keyed_name(*fault),
+            EventRefusal::NotRunning => "NotRunning",
+            EventRefusal::NoStep => "NoStep",
+            EventRefusal::NotDone => "NotDone",
+            EventRefusal::NoSession => "NoSession",
+            EventRefusal::Memory => "Memory",
         }
     }
 }
 
 /// What an event is answered.
 #[derive(Drop)]
-pub enum Answer {
+pub enum WorldAnswer {
     /// The call was accepted, with this number.
     Number(u32),
     /// The session made the call before, under this number, and this became of it. Nothing was changed.
-    Kept(Kept),
+    Kept(EarlierCall),
     /// The run made its step: the device call that it needed, and how that went.
     Stepped(Need, StepAnswer),
     /// The call has finished, with this reply.
@@ -115,14 +115,14 @@ pub enum Answer {
     /// The published contents, part by part.
     Shown(Vec<Value>),
     /// The event was refused, and changed nothing.
-    Refused(Refusal),
+    Refused(EventRefusal),
 }
 
 /// What an event did.
 #[derive(Drop)]
 pub struct EventAnswer {
     /// What it is answered.
-    pub answer: Answer,
+    pub answer: WorldAnswer,
     /// How many calls it started: so many starts are the last events of the trace.
     pub starts: usize,
 }

@@ -48,4 +48,5 @@ pub mod script;
 pub mod script_laws;
 mod slot;
 mod stage;
+pub mod uncalled;
 pub mod world;

@@ -11,7 +11,7 @@ use device_core::hand::{Hand, Stamp};
 use device_core::memory::MemHand;
 use page_core::page_list::PageList;
 use std::alloc::{AllocError, Global};
-use value_core::decode::{DecodeFault, decode};
+use value_bytes::decode::{DecodeFault, decode};
 use value_core::kind::Kind;
 use value_core::value::Value;
 

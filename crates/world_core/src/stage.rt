@@ -24,7 +24,7 @@ ghost use Rattle.world_core.specs.Scene.{Standing, AreBegun, collected, call_run
 ghost use Rattle.world_core.specs.Answers.{Answers};
 ghost use Rattle.world_core.specs.Kept.{IsKept, IsStaged, HasNew, standing_of, scene_of};
 
-use crate::event::{Answer, EventAnswer, Refusal};
+use crate::event::{EventAnswer, EventRefusal, WorldAnswer};
 use crate::pens::{pens_are_open, pens_stay};
 use crate::read::read_value;
 use crate::slot::Slot;
@@ -47,7 +47,7 @@ use value_core::value::Value;
 pub(crate) const MOST_OPEN: usize = 256;
 
 // The tables of a world.
-pub(crate) struct Stage {
+pub(crate) struct WorldTables {
     pub(crate) alloc: Global,
     pub(crate) desk: Desk,
     pub(crate) opening: Vec<Value>,
@@ -56,7 +56,7 @@ pub(crate) struct Stage {
 }
 
 // An answer to an event that started no call.
-fn only(answer: Answer) -> EventAnswer
+fn only(answer: WorldAnswer) -> EventAnswer
     ensures { result ≡ record { answer = answer; starts = 0 } }
 {
     EventAnswer { answer, starts: 0 }
@@ -117,7 +117,7 @@ fn step_run(alloc: Global, hand: &mut MemHand, run: &mut Run, works: bool) -> St
     answer
 }
 
-impl Stage {
+impl WorldTables {
     // Begins the run of a call that has started.
     fn begin_run(&mut self, number: u32)
         requires kept { IsKept self.old.desk (files_of self.old.hand) self.old.runs.items self.old.opening.items }
@@ -190,11 +190,11 @@ impl Stage {
                 self.desk.history();
                 let starts = self.begin(before);
                 EventAnswer {
-                    answer: Answer::Number(number),
+                    answer: WorldAnswer::Number(number),
                     starts,
                 }
             }
-            Err(fault) => only(Answer::Refused(Refusal::Submit(fault))),
+            Err(fault) => only(WorldAnswer::Refused(EventRefusal::Submit(fault))),
         }
     }
 
@@ -218,12 +218,12 @@ impl Stage {
                 self.desk.history();
                 let starts = self.begin(before);
                 EventAnswer {
-                    answer: Answer::Number(number),
+                    answer: WorldAnswer::Number(number),
                     starts,
                 }
             }
-            Ok(Keyed::Kept(kept)) => only(Answer::Kept(kept)),
-            Err(fault) => only(Answer::Refused(Refusal::Keyed(fault))),
+            Ok(Keyed::Kept(kept)) => only(WorldAnswer::Kept(kept)),
+            Err(fault) => only(WorldAnswer::Refused(EventRefusal::Keyed(fault))),
         }
     }
 
@@ -236,11 +236,11 @@ impl Stage {
     {
         let place = match place_of(&self.runs, number) {
             Some(place) => place,
-            None => return only(Answer::Refused(Refusal::NotRunning)),
+            None => return only(WorldAnswer::Refused(EventRefusal::NotRunning)),
         };
         let need = self.runs[place].run.next();
         if is_done(need) {
-            return only(Answer::Refused(Refusal::NoStep));
+            return only(WorldAnswer::Refused(EventRefusal::NoStep));
         }
         let slot = &mut self.runs[place];
         let answer = step_run(self.alloc, &mut self.hand, &mut slot.run, works);
@@ -249,7 +249,7 @@ impl Stage {
         pens_stay();
         pens_are_open();
         chained_are_legal();
-        only(Answer::Stepped(need, answer))
+        only(WorldAnswer::Stepped(need, answer))
     }
 
     // The call of the run at this place, which has ended, finishes.
@@ -273,7 +273,7 @@ impl Stage {
                 let _all = self.desk.trace().len();
                 let starts = self.begin(before + 1);
                 EventAnswer {
-                    answer: Answer::Ended(reply),
+                    answer: WorldAnswer::Ended(reply),
                     starts,
                 }
             }
@@ -290,11 +290,11 @@ impl Stage {
     {
         let place = match place_of(&self.runs, number) {
             Some(place) => place,
-            None => return only(Answer::Refused(Refusal::NotRunning)),
+            None => return only(WorldAnswer::Refused(EventRefusal::NotRunning)),
         };
         let need = self.runs[place].run.next();
         if !is_done(need) {
-            return only(Answer::Refused(Refusal::NotDone));
+            return only(WorldAnswer::Refused(EventRefusal::NotDone));
         }
         self.publish(place)
     }
@@ -313,11 +313,11 @@ impl Stage {
                 self.desk.history();
                 let starts = self.begin(before);
                 EventAnswer {
-                    answer: Answer::Cancel(Cancelled::Cancelled),
+                    answer: WorldAnswer::Cancel(Cancelled::Cancelled),
                     starts,
                 }
             }
-            _ => only(Answer::Cancel(answer)),
+            _ => only(WorldAnswer::Cancel(answer)),
         }
     }
 
@@ -329,14 +329,14 @@ impl Stage {
         ensures rests { Rests self.old.desk → Rests self.new.desk }
     {
         if session == 0 || session > 1024 {
-            return only(Answer::Refused(Refusal::NoSession));
+            return only(WorldAnswer::Refused(EventRefusal::NoSession));
         }
         let before = self.desk.trace().len();
         self.desk.disconnect(session);
         self.desk.history();
         let starts = self.begin(before);
         EventAnswer {
-            answer: Answer::Dropped,
+            answer: WorldAnswer::Dropped,
             starts,
         }
     }
@@ -349,11 +349,11 @@ impl Stage {
         ensures rests { Rests self.old.desk → Rests self.new.desk }
     {
         if !self.desk.resume(session) {
-            return only(Answer::Refused(Refusal::NoSession));
+            return only(WorldAnswer::Refused(EventRefusal::NoSession));
         }
         // The board is sound.
         self.desk.history();
-        only(Answer::Resumed)
+        only(WorldAnswer::Resumed)
     }
 
     // The contents under the published pins.
@@ -386,8 +386,8 @@ impl Stage {
         ensures rests { Rests self.old.desk → Rests self.new.desk }
     {
         match self.contents() {
-            Ok(values) => only(Answer::Shown(values)),
-            Err(AllocError) => only(Answer::Refused(Refusal::Memory)),
+            Ok(values) => only(WorldAnswer::Shown(values)),
+            Err(AllocError) => only(WorldAnswer::Refused(EventRefusal::Memory)),
         }
     }
 }

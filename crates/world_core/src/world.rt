@@ -1,16 +1,14 @@
 //! Worlds.
 
-ghost use Rattle.std.specs.Prelude.{◌≡◌, List, IfOk, map};
+ghost use Rattle.std.specs.Prelude.{◌≡◌, IfOk};
 ghost use Rattle.board_core.specs.Board.{Rests};
-ghost use Rattle.world_core.specs.declared.event.EventAnswer.{EventAnswer as AnAnswer};
 ghost use Rattle.world_core.specs.Events.{event_of};
 ghost use Rattle.world_core.specs.Scene.{IsNew};
 ghost use Rattle.world_core.specs.Answers.{Answers};
-ghost use Rattle.world_core.specs.Headline.{IsSequential, EveryHistoryIsSequential};
+ghost use Rattle.world_core.specs.Headline.{IsSequential};
 
 use crate::event::{Event, EventAnswer};
-use crate::laws::{fails_only_with_its_device, replies_are_told};
-use crate::stage::{MOST_OPEN, Stage};
+use crate::stage::{MOST_OPEN, WorldTables};
 use decl_core::analyse::Accepted;
 use desk_core::desk::Desk;
 use device_core::mem_shelf::MemShelf;
@@ -22,7 +20,7 @@ use value_core::value::Value;
 
 /// An object, its desk, the runs of its calls, and one device in memory. It has to be spent, by [`World::end`].
 pub struct World {
-    stage: Stage,
+    stage: WorldTables,
 }
 
 impl Model for World {
@@ -60,7 +58,7 @@ impl World {
         // The board is sound.
         desk.history();
         Ok(World {
-            stage: Stage {
+            stage: WorldTables {
                 alloc,
                 desk,
                 opening,
@@ -86,32 +84,6 @@ impl World {
         }
     }
 
-    /// The world of an object after a list of events.
-    ///
-    /// This is the main theorem: whatever the events, in any order, each finished call has the reply that the
-    /// sequential object gives at its place in the history, the published contents are the sequential object's after
-    /// that history, each session's finished calls stand there once and in its order, each as the call that was
-    /// accepted under its number, and every prefix of starts and finishes satisfies every path. The error is that
-    /// memory was refused for the world; an event for which it is refused says so.
-    pub fn play(
-        alloc: Global,
-        accepted: Accepted,
-        events: &[Event<'_>],
-    ) -> Result<World, AllocError>
-        ensures { IfOk result (λ w. (answers : List AnAnswer)
-            × EveryHistoryIsSequential accepted (map event_of events.now) answers w) }
-    {
-        let mut world = World::new(alloc, accepted)?;
-        for event in events {
-            let _answer = world.event(*event);
-        }
-        // Its history is sequential, and it is what was told.
-        world.desk();
-        replies_are_told();
-        fails_only_with_its_device();
-        Ok(world)
-    }
-
     /// The desk, on which no waiting call may start.
     pub fn desk(&self) -> &Desk
         ensures desk { result.now ≡ self.now.board }
@@ -133,7 +105,7 @@ impl World {
         ensures { result ≡ self.board }
     {
         let World { stage } = self;
-        let Stage {
+        let WorldTables {
             alloc: _,
             desk,
             opening: _,

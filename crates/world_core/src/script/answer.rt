@@ -9,15 +9,15 @@ ghost use Rattle.word_core.specs.Said.{a_do, all_steps, a_trace};
 ghost use Rattle.word_core.specs.ScriptView.{said_view};
 ghost use Rattle.world_core.specs.Names.{refusal_name};
 ghost use Rattle.world_core.specs.Scene.{Scene};
-ghost use Rattle.world_core.specs.declared.event.Answer.TheVariants.{Number};
+ghost use Rattle.world_core.specs.declared.event.WorldAnswer.TheVariants.{Number};
 ghost use Rattle.world_core.specs.Events.{event_of, finish};
 ghost use Rattle.world_core.specs.Does.{Does, Happens, IsNoWant, IsTold, StepsOn, answer_lines, call_of, cancel_name};
 ghost use Rattle.world_core.specs.Does.{event_lines, has_gone, next_number, repeat_line};
 
-use crate::event::{Answer, Event, EventAnswer, Refusal};
+use crate::event::{Event, EventAnswer, EventRefusal, WorldAnswer};
 use crate::script::steps::step_to_end;
 use crate::world::World;
-use board_core::answer::{CallState, Kept};
+use board_core::answer::{CallState, EarlierCall};
 use board_core::event::TraceEvent;
 use decl_core::object::Object;
 use desk_core::desk::Desk;
@@ -51,23 +51,23 @@ fn has_gone(answer: StepAnswer) -> bool
 }
 
 // Adds the line of a refusal. Want of memory is an error.
-fn push_refusal(out: &mut Vec<u8>, refusal: Refusal) -> Result<(), AllocError>
+fn push_refusal(out: &mut Vec<u8>, refusal: EventRefusal) -> Result<(), AllocError>
     ensures told { OnOk result (out.new.items ≡ out.old.items ++ refused_line (refusal_name refusal)) }
     ensures memory { OnOk result (IsNoWant refusal) }
 {
     match refusal {
-        Refusal::Submit(SubmitFault::Memory)
-        | Refusal::Keyed(KeyedFault::Submit(SubmitFault::Memory))
-        | Refusal::Memory => Err(AllocError),
+        EventRefusal::Submit(SubmitFault::Memory)
+        | EventRefusal::Keyed(KeyedFault::Submit(SubmitFault::Memory))
+        | EventRefusal::Memory => Err(AllocError),
         _ => push_refused(out, refusal.name()),
     }
 }
 
 // Adds the line of a call that was made before under the same key.
-fn push_repeat(out: &mut Vec<u8>, kept: Kept) -> Result<(), AllocError>
+fn push_repeat(out: &mut Vec<u8>, kept: EarlierCall) -> Result<(), AllocError>
     ensures { OnOk result (out.new.items ≡ out.old.items ++ repeat_line kept.number kept.state) }
 {
-    let Kept { number, state } = kept;
+    let EarlierCall { number, state } = kept;
     match state {
         CallState::Waiting => push_kept(out, "waiting", number),
         CallState::Running => push_kept(out, "running", number),
@@ -82,21 +82,21 @@ fn push_answer(
     out: &mut Vec<u8>,
     object: &Object,
     number: u32,
-    answer: &Answer,
+    answer: &WorldAnswer,
 ) -> Result<(), AllocError>
     ensures told { OnOk result (out.new.items ≡ out.old.items ++ answer_lines object.now number answer.now) }
     ensures memory { OnOk result (IsTold answer.now) }
 {
     match answer {
-        Answer::Number(call) => push_called(out, *call),
-        Answer::Stepped(need, went) => push_stepped(out, number, *need, has_gone(*went)),
-        Answer::Ended(reply) => push_finished(out, number, reply),
-        Answer::Cancel(became) => push_cancelled(out, number, cancel_name(*became)),
-        Answer::Dropped => push_dropped(out, number),
-        Answer::Resumed => push_resumed(out, number),
-        Answer::Kept(kept) => push_repeat(out, *kept),
-        Answer::Shown(values) => push_shown(alloc, out, object, values),
-        Answer::Refused(refusal) => push_refusal(out, *refusal),
+        WorldAnswer::Number(call) => push_called(out, *call),
+        WorldAnswer::Stepped(need, went) => push_stepped(out, number, *need, has_gone(*went)),
+        WorldAnswer::Ended(reply) => push_finished(out, number, reply),
+        WorldAnswer::Cancel(became) => push_cancelled(out, number, cancel_name(*became)),
+        WorldAnswer::Dropped => push_dropped(out, number),
+        WorldAnswer::Resumed => push_resumed(out, number),
+        WorldAnswer::Kept(kept) => push_repeat(out, *kept),
+        WorldAnswer::Shown(values) => push_shown(alloc, out, object, values),
+        WorldAnswer::Refused(refusal) => push_refusal(out, *refusal),
     }
 }
 
@@ -163,7 +163,7 @@ fn running(world: &World, told: &EventAnswer) -> Option<u32>
         ((number : ℕ) → told.now.answer ≡ Number number → runs_in world.now.board number ≡ false)
         (λ number. (told.now.answer ≡ Number number) × (runs_in world.now.board number ≡ true)) }
 {
-    let Answer::Number(number) = told.answer else {
+    let WorldAnswer::Number(number) = told.answer else {
         return None;
     };
     if world.desk().runs(number) {
@@ -237,7 +237,7 @@ fn tell_steps(world: &mut World, number: u32, out: &mut Vec<u8>) -> Result<(), A
         × Does (all_steps number) world.old text world.new) }
 {
     if !world.desk().runs(number) {
-        return push_refused(out, Refusal::NotRunning.name());
+        return push_refused(out, EventRefusal::NotRunning.name());
     }
     let count = step_to_end(world, number);
     push_all_stepped(out, number, count)

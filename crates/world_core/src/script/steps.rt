@@ -4,7 +4,7 @@ ghost use Rattle.std.specs.Prelude.{◌≡◌, true, false};
 ghost use Rattle.board_core.specs.Answers.{runs_in};
 ghost use Rattle.world_core.specs.Does.{IsStep, IsOver, StepsOn};
 
-use crate::event::{Answer, Event};
+use crate::event::{Event, WorldAnswer};
 use crate::laws::steps_take_work;
 use crate::world::World;
 
@@ -16,7 +16,7 @@ fn step_once(world: &mut World, number: u32) -> bool
     ensures over { result ≡ false → IsOver number world.old world.new }
 {
     match world.event(Event::Step(number, true)).answer {
-        Answer::Stepped(_, _) => true,
+        WorldAnswer::Stepped(_, _) => true,
         _ => false,
     }
 }

@@ -4,7 +4,7 @@ use Rattle.std.specs.FinMap.{FinMap, entries}
 use Rattle.text_core.specs.TextOrder.{text_cmp}
 use Rattle.value_core.specs.declared.datum.Datum.{Datum}
 use Rattle.value_core.specs.declared.format.Format.TheVariants.{Second}
-use Rattle.value_core.specs.Spelling.{SpellRows}
+use Rattle.value_bytes.specs.Spelling.{SpellRows}
 use Rattle.apply_core.specs.Cuts.{StandsIn, GapIn}
 use Rattle.apply_core.proofs.find.find_text.Goals as goal
 

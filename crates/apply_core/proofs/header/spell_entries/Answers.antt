@@ -1,6 +1,6 @@
 use Rattle.std.proofs.Common.{◌++◌, sym, subst, arith}
 use Rattle.value_core.specs.Contents.{Contents}
-use Rattle.value_core.specs.Spelling.{header, Spells}
+use Rattle.value_bytes.specs.Spelling.{header, Spells}
 use Rattle.apply_core.proofs.Shapes.{array_there, queue_there, table_there, rows_of_table}
 use Rattle.apply_core.proofs.header.spell_entries.Goals as goal
 

@@ -1,7 +1,7 @@
 use Rattle.std.proofs.Common.{◌≡◌, drop, ap, ◌∙◌, arith}
 use Rattle.std.specs.List.{flat_map}
 use Rattle.value_core.specs.declared.kind.Elem.TheVariants as elem
-use Rattle.value_core.specs.Spelling.{spelled_datum}
+use Rattle.value_bytes.specs.Spelling.{spelled_datum}
 use Rattle.apply_core.proofs.Skips.{one_passed, none_to_pass}
 use Rattle.apply_core.proofs.skip.behind_texts.Goals as goal
 

@@ -1,5 +1,5 @@
 use Rattle.std.proofs.Common.{arith, rules}
-use Rattle.value_core.specs.Spelling.{IsAfter}
+use Rattle.value_bytes.specs.Spelling.{IsAfter}
 use Rattle.apply_core.specs.There.{last_key}
 use Rattle.apply_core.proofs.Strips.{no_row_yet, one_row_more, no_row_more, does_not_rise, all_rows, too_many_rows}
 use Rattle.apply_core.proofs.strip.are_rows.Goals as goal

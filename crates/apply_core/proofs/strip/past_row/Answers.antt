@@ -1,6 +1,6 @@
 use Rattle.std.proofs.Common.{sym, ◌∙◌}
 use Rattle.value_core.specs.declared.format.Format.TheVariants.{Second}
-use Rattle.value_core.proofs.Apart.{row_behind}
+use Rattle.value_bytes.proofs.Apart.{row_behind}
 use Rattle.apply_core.proofs.strip.past_row.Goals as goal
 
 pub returns-in_default-past_datum-clause-none : goal.returns-in_default-past_datum-clause-none

@@ -1,7 +1,7 @@
 use Rattle.std.proofs.Common.{◌≡◌, ◌++◌, ◌-◌, ap, ◌∙◌, rules, arith}
 use Rattle.std.specs.Prelude.{IsTrue, IsFalse}
 use Rattle.value_core.specs.declared.kind.Kind.TheVariants as kinds
-use Rattle.value_core.specs.Spelling.{header}
+use Rattle.value_bytes.specs.Spelling.{header}
 use Rattle.apply_core.proofs.Tables.{none_gone, no_value_there, gone, gone_ok}
 use Rattle.apply_core.proofs.table.erase.Goals as goal
 

@@ -1,6 +1,6 @@
 use Rattle.std.proofs.Common.{rules, Err, ap, ◌∙◌}
 use Rattle.std.specs.Prelude.{IsErrOf}
-use Rattle.value_core.specs.declared.decode.DecodeFault.TheVariants.{Damaged}
+use Rattle.value_bytes.specs.declared.decode.DecodeFault.TheVariants.{Damaged}
 use Rattle.audit_core.specs.Tells.{IsHex}
 use Rattle.audit_core.proofs.PartsRead.{no_value}
 use Rattle.audit_core.proofs.part.read_spelled.Goals as goal

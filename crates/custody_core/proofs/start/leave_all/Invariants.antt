@@ -1,6 +1,6 @@
 use Rattle.std.proofs.Common.{◌≢◌, ℕ, [], Some}
 use Rattle.std.specs.Prelude.{All, slice_get}
-use Rattle.guest_core.specs.declared.seats.Seat.TheVariants.{Free}
+use Rattle.guest_core.specs.declared.seats.SeatHolder.TheVariants.{Free}
 use Rattle.hosted_core.specs.Steps.{Steps}
 use Rattle.custody_core.proofs.start.leave_all.Given as goal
 

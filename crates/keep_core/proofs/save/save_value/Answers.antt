@@ -2,7 +2,7 @@ use Rattle.std.proofs.Common.{◌≡◌, ◌∙◌, List, ℕ, inl, inr, ap, ref
 use Rattle.std.specs.FinMap.{insert}
 use Rattle.device_core.specs.Papers.{part_key}
 use Rattle.value_core.specs.Contents.{kind_of}
-use Rattle.value_core.specs.Spelling.{Spells}
+use Rattle.value_bytes.specs.Spelling.{Spells}
 use Rattle.keep_core.proofs.save.save_value.Goals as goal
 
 pub returns-in_default-clause-left : goal.returns-in_default-clause-left

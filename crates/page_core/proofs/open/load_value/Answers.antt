@@ -1,7 +1,7 @@
 use Rattle.std.proofs.Common.{◌≡◌, Some, Ok, Err, sym, ap, subst, ◌∙◌, refl, rules}
 use Rattle.std.specs.Prelude.{IsErrOf}
 use Rattle.std.specs.FinMap.{get}
-use Rattle.value_core.specs.declared.decode.DecodeFault.TheVariants.{Damaged}
+use Rattle.value_bytes.specs.declared.decode.DecodeFault.TheVariants.{Damaged}
 use Rattle.device_core.specs.Papers.{Papers, LoadAgrees, found_bytes}
 use Rattle.page_core.proofs.open.load_value.Goals as goal
 

@@ -1,8 +1,8 @@
 use Rattle.std.proofs.Common.{◌≡◌, sym, ap, ◌∙◌, subst}
 use Rattle.value_core.specs.declared.format.Format.TheVariants.{Second}
 use Rattle.value_core.specs.Contents.{kind_of}
-use Rattle.value_core.specs.Spelling.{Spells, spelling_in}
-use Rattle.value_core.proofs.Unique.{unique_in}
+use Rattle.value_bytes.specs.Spelling.{Spells, spelling_in}
+use Rattle.value_bytes.proofs.Unique.{unique_in}
 use Rattle.recover_core.proofs.chain.is_same_value.Goals as goal
 
 pub returns : goal.returns

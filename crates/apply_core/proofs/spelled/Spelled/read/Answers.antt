@@ -1,6 +1,6 @@
 use Rattle.std.proofs.Common.{◌≡◌, sym, subst, rules}
 use Rattle.std.specs.Prelude.{IsTrue}
-use Rattle.value_core.specs.Spelling.{Spells}
+use Rattle.value_bytes.specs.Spelling.{Spells}
 use Rattle.apply_core.specs.There.{contents_there}
 use Rattle.apply_core.proofs.Holding.{found}
 use Rattle.apply_core.proofs.spelled.Spelled.read.Goals as goal

@@ -4,7 +4,7 @@ use Rattle.std.proofs.lemmas.List.{length-set}
 use Rattle.std.proofs.lemmas.Option.{slice_get-get_or, slice_get_within}
 use Rattle.std.specs.Global.{Vec}
 use Rattle.std.specs.Prelude.{drop, slice_get, slice_set}
-use Rattle.device_core.specs.declared.reads.Kept.{Kept}
+use Rattle.device_core.specs.declared.reads.KeptRead.{KeptRead}
 use Rattle.device_core.specs.Reads.{IsAmong}
 use Rattle.device_core.proofs.Among.{set_here, set_there, among_set, among_front}
 use Rattle.device_core.proofs.reads.Reads.forget.Goals as goal
@@ -25,7 +25,7 @@ loop-kept-preserved c =
       gone = λ p x s k less there of. elim (cases_eq p i) [
         | inl here ↦
             let same : x ≡ new = set_here now i new x (subst (λ q. slice_get (slice_set now i new) q ≡ Some x) here there) in
-            c.forget.ensures.gone s k (subst (λ (r : Kept). r.of ≡ Some (s, k)) same of)
+            c.forget.ensures.gone s k (subst (λ (r : KeptRead). r.of ≡ Some (s, k)) same of)
         | inr other ↦ c.loop-kept.invariant.gone p x s k (omega (arith, less, other)) (sym (set_there now i p new other) ∙ there) of
       ];
     }

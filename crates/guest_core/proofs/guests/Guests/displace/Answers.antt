@@ -1,7 +1,7 @@
 use Rattle.std.proofs.Common.{◌≡◌, ◌∙◌, ◌<◌, List, Some, length, sym, ap, subst}
 use Rattle.std.specs.Prelude.{slice_get, slice_set}
-use Rattle.guest_core.specs.declared.seats.Seat.{Seat}
-use Rattle.guest_core.specs.declared.seats.Seat.TheVariants.{Free, Named, Retired}
+use Rattle.guest_core.specs.declared.seats.SeatHolder.{SeatHolder}
+use Rattle.guest_core.specs.declared.seats.SeatHolder.TheVariants.{Free, Named, Retired}
 use Rattle.guest_core.specs.Guests.{Guests, IsUnknown, guest_of}
 use Rattle.guest_core.specs.GuestsView.{guests_of}
 use Rattle.guest_core.proofs.Items.{get_some}
@@ -14,5 +14,5 @@ invariant_of-self-2 c =
     let unknown = subst (λ (w : Guests). IsUnknown w c.args.name.now) (sym c.self.view_is) c.requires.new in
     let free = subst (λ (w : Guests). slice_get w.seats c.args.session ≡ Some Free) (sym c.self.view_is) c.requires.free in
     let known = get_some v.guests c.args.place (subst (λ (w : Guests). c.args.place < length w.guests) (sym c.self.view_is) c.requires.within) in
-    let set = c.set-2.ensures ∙ ap (λ (ss : List Seat). slice_set ss c.args.session (Named c.args.place)) (c.set.ensures ∙ ap (λ n. slice_set v.seats n Retired) (c.in_ok-old.ensures.old known.0 known.1)) in
+    let set = c.set-2.ensures ∙ ap (λ (ss : List SeatHolder). slice_set ss c.args.session (Named c.args.place)) (c.set.ensures ∙ ap (λ n. slice_set v.seats n Retired) (c.in_ok-old.ensures.old known.0 known.1)) in
     sound_placed v c.replace.new.self c.set-2.new.self known.0 (guest_of c.args.name.now c.args.session c.args.away c.args.first) c.args.place c.self.invariant known.1 free (λ q h is same. absurd (unknown q h is same)) c.in_ok-old.ensures.ok set

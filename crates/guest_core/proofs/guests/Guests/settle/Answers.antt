@@ -1,6 +1,6 @@
 use Rattle.std.proofs.Common.{◌≡◌, Some, sym, subst}
 use Rattle.std.specs.Prelude.{slice_get}
-use Rattle.guest_core.specs.declared.seats.Seat.TheVariants.{Free}
+use Rattle.guest_core.specs.declared.seats.SeatHolder.TheVariants.{Free}
 use Rattle.guest_core.specs.Guests.{Guests, IsUnknown, guest_of}
 use Rattle.guest_core.specs.GuestsView.{guests_of}
 use Rattle.guest_core.proofs.Whole.{sound_settled}

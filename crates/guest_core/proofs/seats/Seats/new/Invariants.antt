@@ -1,5 +1,5 @@
 use Rattle.std.proofs.Common.{◌≡◌, ◌≤◌, ◌+◌, ◌∷◌, replicate, vec_capacity}
-use Rattle.guest_core.specs.declared.seats.Seat.TheVariants.{Void, Free}
+use Rattle.guest_core.specs.declared.seats.SeatHolder.TheVariants.{Void, Free}
 use Rattle.guest_core.proofs.seats.Seats.new.Given as goal
 
 abbrev pub invariant-loop : goal.invariant-loop

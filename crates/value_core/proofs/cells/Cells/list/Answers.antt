@@ -1,6 +1,6 @@
 use Rattle.std.proofs.Common.{◌∷◌, [], ◌++◌, sym, ap, ◌∙◌, arith}
 use Rattle.value_core.specs.Cells.{cells_data}
-use Rattle.value_core.proofs.Encoding.{list_next, none_within}
+use Rattle.value_core.proofs.Listing.{list_next, none_within}
 use Rattle.value_core.proofs.cells.Cells.list.Goals as goal
 use Rattle.value_core.proofs.cells.Cells.list.Goals.{in-Some+in_ok-push, in_default}
 

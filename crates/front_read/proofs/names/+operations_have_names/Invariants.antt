@@ -1,5 +1,0 @@
-use Rattle.std.proofs.Common.{length}
-use Rattle.front_read.proofs.names.+operations_have_names.Given as goal
-
-abbrev pub decreases-operations_have_names : goal.decreases-operations_have_names
-decreases-operations_have_names l = length l.operations.now

@@ -1,7 +1,0 @@
-use Rattle.std.proofs.Common.{take}
-use Rattle.board_core.specs.Lists.{Every}
-use Rattle.office_core.specs.Closing.{Stands}
-use Rattle.office_core.proofs.by_receipts.first_mismatch.Given as goal
-
-abbrev pub invariant-loop-k : goal.invariant-loop-k
-invariant-loop-k l = Every (Stands l.history) (take l.k l.receipts)

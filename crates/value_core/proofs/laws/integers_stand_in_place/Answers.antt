@@ -1,5 +1,0 @@
-use Rattle.value_core.proofs.Unique.{stand_in_place}
-use Rattle.value_core.proofs.laws.integers_stand_in_place.Goals as goal
-
-pub returns : goal.returns
-returns c = stand_in_place

@@ -1,5 +1,0 @@
-use Rattle.value_core.proofs.Unique.{unique_in}
-use Rattle.value_core.proofs.laws.spelling_unique.Goals as goal
-
-pub returns : goal.returns
-returns c = unique_in
