@@ -2,7 +2,7 @@
 
 usage: gate/public_calls                  looks whether gate/public_calls.txt fits the sources
        gate/public_calls --count [--list] counts: it builds a program that notes which of its functions run, and runs all
-                                          cases on it, file by file, and gate/try_crash and gate/try_holds
+                                          cases on it, some files at once, and gate/try_crash and gate/try_holds
 
 gate/public_calls.txt lists each public function that no case runs, with what runs it in its place: a crate with tests
 that call it (`CRATE by NAME`: that call NAME, which does), a part of the gate, or `proof` where nothing runs it, since it
@@ -24,6 +24,7 @@ The last line is `public_calls: N passed, M failed`; the exit status is 0 where 
 """
 import argparse
 import bisect
+import concurrent.futures
 import os
 import pathlib
 import re
@@ -42,6 +43,8 @@ PROGRAM = "pathserve"
 TESTS = "_vectors"
 # Parts of the gate that count as cases: what they try no case can say.
 PARTS = ("try_crash", "try_holds")
+# So many of them run at once: beside other parts of the gate, where it is that which runs them.
+LANES = max(2, len(os.sched_getaffinity(0)) // 2)
 # What tells of the enum of a fault or a refusal.
 TOLD = re.compile(r"Fault|Refusal|Refused|Failure|NotTaken|Cancelled|Stranger")
 MODULE = re.compile(r"pub mod (\w+);")
@@ -194,21 +197,23 @@ def counted(program: pathlib.Path, folder: pathlib.Path) -> dict[str, str]:
     """The functions that run in the cases, each with the first file of cases in which it does."""
     starts, paths, base = symbols(program)
     found: dict[str, str] = {}
-    notes = folder / "notes"
     runs: list[tuple[str, list[str | pathlib.Path]]] = [(f"gate/{it}", [TOP / "gate" / it, "--program", program]) for it in PARTS]
     for file in sorted((TOP / "cases").rglob("*.cases")):
         name = str(file.relative_to(TOP))
         tool = "run_sessions" if file.parent.name == "serve" else "run_cases"
         runs.append((name, [TOP / "gate" / tool, "--program", program, name]))
-    for name, words in runs:
+
+    def run(at: int) -> bytes:
+        notes = folder / f"notes-{at}"
         env = {**os.environ, "COUNTED": str(notes)}
-        subprocess.run(words, env=env, stdout=subprocess.DEVNULL, stderr=subprocess.DEVNULL)
-        if notes.exists():
-            noted = notes.read_bytes()
+        subprocess.run(runs[at][1], env=env, stdout=subprocess.DEVNULL, stderr=subprocess.DEVNULL)
+        return notes.read_bytes() if notes.exists() else b""
+
+    with concurrent.futures.ThreadPoolExecutor(LANES) as lanes:
+        for (name, _), noted in zip(runs, lanes.map(run, range(len(runs)))):
             for (caller,) in struct.iter_unpack("<q", noted[: len(noted) // 8 * 8]):
                 if caller:
                     found.setdefault(paths[bisect.bisect_right(starts, caller + base) - 1], name)
-            notes.unlink()
     return found
 
 

@@ -37,10 +37,10 @@ BUILD = Part(("tools/make_ready",), counts=False)
 PROVE = Part(("rt", "ci"), is_shown=True)
 TRY = Part(("gate/try_wrong_bodies",), may_rest=True, is_shown=True)
 CHECK = Part(("gate/try_wrong_bodies", "--check"))
-# These need no program.
+# These need no program. First the one that builds a program of its own behind a proof, and so takes longest.
 FREE = (
-    *(Part((it,)) for it in ("gate/crash_journal", "gate/draw_schedules", "gate/try_asked", "gate/try_cases", "gate/try_crates", "gate/try_editors", "gate/try_timeline", "gate/try_types", "gate/try_wrapper")),
     Part(("gate/public_calls",), more=("--count",)),
+    *(Part((it,)) for it in ("gate/crash_journal", "gate/draw_schedules", "gate/try_asked", "gate/try_cases", "gate/try_crates", "gate/try_editors", "gate/try_timeline", "gate/try_types", "gate/try_wrapper")),
 )
 # In the order in which they are begun: first those that take long, or wait much.
 PARTS = tuple(
