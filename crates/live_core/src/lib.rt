@@ -25,6 +25,5 @@ pub mod lines;
 pub mod live;
 pub mod past;
 pub mod source;
-pub mod uncalled;
 mod waiting;
 pub mod write;
