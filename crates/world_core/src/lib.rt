@@ -34,6 +34,7 @@ pub mod answer;
 mod asked;
 mod back;
 pub mod event;
+mod first;
 pub mod hold_script;
 pub mod laws;
 mod machine;

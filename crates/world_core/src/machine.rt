@@ -1,22 +1,21 @@
 //! The state of a script of an object with holds, and its answers.
 
-ghost use Rattle.std.specs.Prelude.{◌≡◌, ◌++◌, ◌↔◌, ℕ, List, IfOk, IsTrue, true, false};
+ghost use Rattle.std.specs.Prelude.{◌≡◌, ◌++◌, ℕ, List, IfOk, true, false};
 ghost use Rattle.decl_core.specs.HoldMap.{holds_of};
-ghost use Rattle.world_core.specs.Writes.{IsOther, NamesObject};
+ghost use Rattle.world_core.specs.Writes.{IsOther};
 ghost use Rattle.world_core.specs.HoldWrites.{IsHeldBegun, HeldWrites, told_of};
 
 use crate::acts::answer_held;
 use crate::asked::answer_asked;
+use crate::first::names_object;
 use crate::question::question_of;
 use crate::world::World;
 use decl_core::analyse::Accepted;
 use decl_core::hold::Hold;
-use decl_core::object::Object;
 use guest_core::held::Holds;
 use std::alloc::{AllocError, Global};
 use text_core::Machine;
 use word_core::answers::push_bad_line;
-use word_core::first::object_line;
 use word_core::said::{is_skipped, read_line};
 
 /// What the lines of a script have done so far. It has to be spent, by [`HeldScript::end`].
@@ -30,16 +29,6 @@ pub struct HeldScript {
     holds: Holds,
     // The sessions that are gone, as they left.
     gone: Vec<u32>,
-}
-
-// Whether a line names this object.
-fn names_object(object: &Object, line: &[u8]) -> bool
-    ensures { IsTrue result ↔ NamesObject object.now line.now }
-{
-    match object_line(line) {
-        Some(name) => object.name.is_spelled_by(name),
-        None => false,
-    }
 }
 
 impl HeldScript {

@@ -1,18 +1,17 @@
 //! The state of a script, and its answers.
 
-ghost use Rattle.std.specs.Prelude.{◌≡◌, ◌++◌, ◌↔◌, ℕ, List, IfOk, IsTrue, true, false};
-ghost use Rattle.world_core.specs.Writes.{IsBegun, IsOther, NamesObject, Writes, told_of};
+ghost use Rattle.std.specs.Prelude.{◌≡◌, ◌++◌, ℕ, List, IfOk, true, false};
+ghost use Rattle.world_core.specs.Writes.{IsBegun, IsOther, Writes, told_of};
 
 use crate::answer::push_answer;
+use crate::first::names_object;
 use crate::question::question_of;
 use crate::script::answer::answer_said;
 use crate::world::World;
 use decl_core::analyse::Accepted;
-use decl_core::object::Object;
 use std::alloc::{AllocError, Global};
 use text_core::Machine;
 use word_core::answers::push_bad_line;
-use word_core::first::object_line;
 use word_core::said::{is_skipped, read_line};
 
 /// What the lines of a script have done so far. It has to be spent, by [`Script::end`].
@@ -21,16 +20,6 @@ pub struct Script {
     // Whether the first line has named the object.
     named: bool,
     world: World,
-}
-
-// Whether a line names this object.
-fn names_object(object: &Object, line: &[u8]) -> bool
-    ensures { IsTrue result ↔ NamesObject object.now line.now }
-{
-    match object_line(line) {
-        Some(name) => object.name.is_spelled_by(name),
-        None => false,
-    }
 }
 
 impl Script {
