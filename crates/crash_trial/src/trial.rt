@@ -3,7 +3,7 @@
 use crate::crash::{SurvivingBytes, mixed};
 use crate::device::{Happened, RecordedFile};
 use crate::drive::{Drive, JournalCall, LIMITS, ScenarioStop, cut_line};
-use crate::judge::{CrashOutcome, follow, judge, standing_behind};
+use crate::judge::{CrashOutcome, Standing, follow, judge, standing_behind};
 use crate::tell::front_behind;
 use check_core::open::{OpenedScript, open_script};
 use decl_core::object::Object;
@@ -96,18 +96,14 @@ struct PlayedScenario {
     calls: Vec<JournalCall>,
 }
 
-// Plays a scenario, and gives what became of the file; or the number of the line that ended it.
-fn play_scenario(
+// Plays a scenario on an object, over a new file; where it cannot be begun, the number is 0.
+fn play_in(
     alloc: Global,
-    object: Object,
+    drive: &mut Drive,
     scenario: &[u8],
     seed: u64,
 ) -> Result<Result<PlayedScenario, u64>, AllocError> {
-    let Some(mut drive) = Drive::new(alloc, object)? else {
-        return Ok(Err(0));
-    };
-    let file = RecordedFile::new(alloc, Vec::new(alloc), seed);
-    let Some(mut journal) = drive.begin(file)? else {
+    let Some(mut journal) = drive.begin(RecordedFile::new(alloc, Vec::new(alloc), seed))? else {
         return Ok(Err(0));
     };
     match drive.play_all(&mut journal, scenario, 1) {
@@ -120,7 +116,58 @@ fn play_scenario(
     }
 }
 
-// Tells a state, where it was not told before.
+// Plays a scenario, and gives what became of the file; or the number of the line that ended it.
+fn play_scenario(
+    alloc: Global,
+    object: Object,
+    scenario: &[u8],
+    seed: u64,
+) -> Result<Result<PlayedScenario, u64>, AllocError> {
+    match Drive::new(alloc, object)? {
+        Some(drive) => {
+            let mut drive = drive;
+            play_in(alloc, &mut drive, scenario, seed)
+        }
+        None => Ok(Err(0)),
+    }
+}
+
+// Whether a state was told before.
+fn was_told(tried: &TrialTally, epoch: u64, length: usize) -> bool {
+    for state in &tried.states {
+        if state.0 == epoch && state.1 == length {
+            return true;
+        }
+    }
+    false
+}
+
+// The front with which the object would go on.
+fn front_of(
+    alloc: Global,
+    asked: &TrialInput,
+    recovered: Recovered,
+) -> Result<Option<Vec<u8>>, AllocError> {
+    match object_of(alloc, asked)? {
+        Some(object) => front_behind(alloc, object, recovered, LIMITS),
+        None => Ok(None),
+    }
+}
+
+// Tells the front of a state.
+fn tell_front<W: Write>(
+    alloc: Global,
+    epoch: u64,
+    length: usize,
+    front: &[u8],
+    writer: &mut W,
+) -> Result<(), TrialFault> {
+    let line = format!(in alloc; "state {epoch} {length}\n")?;
+    tell(writer, line.as_bytes())?;
+    tell(writer, front)
+}
+
+// Tells a state, where it was not told before. False: the object cannot go on with it.
 fn tell_state<W: Write>(
     alloc: Global,
     asked: &TrialInput,
@@ -130,22 +177,17 @@ fn tell_state<W: Write>(
     writer: &mut W,
 ) -> Result<bool, TrialFault> {
     let length = recovered.length;
-    for state in &tried.states {
-        if state.0 == epoch && state.1 == length {
-            return Ok(true);
-        }
+    if was_told(tried, epoch, length) {
+        return Ok(true);
     }
-    tried.states.push((epoch, length))?;
-    let Some(object) = object_of(alloc, asked)? else {
-        return Ok(false);
-    };
-    let Some(front) = front_behind(alloc, object, recovered, LIMITS)? else {
-        return Ok(false);
-    };
-    let line = format!(in alloc; "state {epoch} {length}\n")?;
-    tell(writer, line.as_bytes())?;
-    tell(writer, &front)?;
-    Ok(true)
+    match front_of(alloc, asked, recovered)? {
+        Some(front) => {
+            tell_front(alloc, epoch, length, &front, writer)?;
+            tried.states.push((epoch, length))?;
+            Ok(true)
+        }
+        None => Ok(false),
+    }
 }
 
 // Tries a crash behind these calls.
@@ -238,6 +280,54 @@ fn try_drawn<W: Write>(
     Ok(())
 }
 
+// Tells the lines of an epoch, and that the next one begins.
+fn tell_epoch<W: Write>(
+    alloc: Global,
+    standing: &Standing,
+    writer: &mut W,
+) -> Result<(), TrialFault> {
+    let epoch = standing.epochs.saturating_add(1);
+    let line = format!(in alloc; "epoch {epoch}\n")?;
+    tell(writer, &standing.text)?;
+    tell(writer, line.as_bytes())
+}
+
+// Follows a call, and tells the epoch that it ends.
+fn tell_call<W: Write>(
+    alloc: Global,
+    standing: &mut Standing,
+    call: &Happened,
+    writer: &mut W,
+) -> Result<(), TrialFault> {
+    if let Happened::Replaced(_) = call {
+        tell_epoch(alloc, standing, writer)?;
+    }
+    follow(alloc, standing, call)?;
+    Ok(())
+}
+
+// How often no new epoch could begin.
+fn refused_in(happened: &[Happened]) -> u64 {
+    let mut refused: u64 = 0;
+    for call in happened {
+        if let Happened::Refused = call {
+            refused = refused.saturating_add(1);
+        }
+    }
+    refused
+}
+
+// Tells how often no new epoch could begin.
+fn tell_refused<W: Write>(
+    alloc: Global,
+    happened: &[Happened],
+    writer: &mut W,
+) -> Result<(), TrialFault> {
+    let refused = refused_in(happened);
+    let line = format!(in alloc; "refused {refused}\n")?;
+    tell(writer, line.as_bytes())
+}
+
 // Tells the lines of each epoch, and how often no new one could begin.
 fn tell_epochs<W: Write>(
     alloc: Global,
@@ -245,22 +335,86 @@ fn tell_epochs<W: Write>(
     writer: &mut W,
 ) -> Result<(), TrialFault> {
     let mut standing = standing_behind(alloc, &[])?;
-    let mut refused: u64 = 0;
     for call in file.happened() {
-        if let Happened::Refused = call {
-            refused = refused.saturating_add(1);
-        }
-        if let Happened::Replaced(_) = call {
-            tell(writer, &standing.text)?;
-            let epoch = standing.epochs.saturating_add(1);
-            let line = format!(in alloc; "epoch {epoch}\n")?;
-            tell(writer, line.as_bytes())?;
-        }
-        follow(alloc, &mut standing, call)?;
+        tell_call(alloc, &mut standing, call, writer)?;
     }
     tell(writer, &standing.text)?;
-    let line = format!(in alloc; "refused {refused}\n")?;
-    tell(writer, line.as_bytes())
+    tell_refused(alloc, file.happened(), writer)
+}
+
+// Tells what is wrong.
+fn tell_wrong<W: Write>(writer: &mut W, line: &[u8]) -> Result<TrialEnd, TrialFault> {
+    tell(writer, line)?;
+    Ok(TrialEnd::Wrong)
+}
+
+// Tells how many crashes were tried, and how many were wrong.
+fn tell_tried<W: Write>(
+    alloc: Global,
+    tried: &TrialTally,
+    writer: &mut W,
+) -> Result<TrialEnd, TrialFault> {
+    let (crashes, wrong) = (tried.crashes, tried.wrong);
+    let line = format!(in alloc; "crashes {crashes} wrong {wrong}\n")?;
+    tell(writer, line.as_bytes())?;
+    if wrong > 0 {
+        return Ok(TrialEnd::Wrong);
+    }
+    Ok(TrialEnd::Right)
+}
+
+// Tries crashes of the file of a scenario that was played.
+fn try_all<W: Write>(
+    alloc: Global,
+    asked: &TrialInput,
+    object: &Object,
+    file: &RecordedFile,
+    writer: &mut W,
+) -> Result<TrialEnd, TrialFault> {
+    tell_epochs(alloc, file, writer)?;
+    let mut tried = TrialTally {
+        crashes: 0,
+        wrong: 0,
+        states: Vec::new(alloc),
+    };
+    try_each(alloc, asked, object, file, &mut tried, writer)?;
+    try_drawn(alloc, asked, object, file, &mut tried, writer)?;
+    tell_tried(alloc, &tried, writer)
+}
+
+// Tries crashes in a scenario that was played, where the file heard the calls of the journal.
+fn try_played<W: Write>(
+    alloc: Global,
+    asked: &TrialInput,
+    object: &Object,
+    played: &PlayedScenario,
+    writer: &mut W,
+) -> Result<TrialEnd, TrialFault> {
+    if is_each_done(&played.calls, played.file.happened()) {
+        return try_all(alloc, asked, object, &played.file, writer);
+    }
+    tell_wrong(
+        writer,
+        b"wrong, the file heard other calls than the journal\n",
+    )
+}
+
+// Plays a scenario on an object, and tries crashes in it.
+fn try_on<W: Write>(
+    alloc: Global,
+    asked: &TrialInput,
+    object: Object,
+    judged: &Object,
+    writer: &mut W,
+) -> Result<TrialEnd, TrialFault> {
+    let (_, scenario) = cut_line(&asked.scenario);
+    match play_scenario(alloc, object, scenario, asked.seed)? {
+        Ok(played) => try_played(alloc, asked, judged, &played, writer),
+        Err(number) => {
+            let line = format!(in alloc; "line {number} ends the scenario\n")?;
+            tell_wrong(writer, line.as_bytes())
+        }
+    }
 }
 
 /// Plays a scenario, and tries crashes in it. An `Err` is that memory was refused, or a line could not be written.
@@ -269,39 +423,11 @@ pub fn run_trial<W: Write>(
     asked: &TrialInput,
     writer: &mut W,
 ) -> Result<TrialEnd, TrialFault> {
-    let (Some(object), Some(judged)) = (object_of(alloc, asked)?, object_of(alloc, asked)?) else {
-        tell(writer, b"no object\n")?;
-        return Ok(TrialEnd::Wrong);
-    };
-    let (_, scenario) = cut_line(&asked.scenario);
-    let PlayedScenario { file, calls } = match play_scenario(alloc, object, scenario, asked.seed)? {
-        Ok(played) => played,
-        Err(number) => {
-            let line = format!(in alloc; "line {number} ends the scenario\n")?;
-            tell(writer, line.as_bytes())?;
-            return Ok(TrialEnd::Wrong);
-        }
-    };
-    if !is_each_done(&calls, file.happened()) {
-        tell(
-            writer,
-            b"wrong, the file heard other calls than the journal\n",
-        )?;
-        return Ok(TrialEnd::Wrong);
+    match object_of(alloc, asked)? {
+        Some(judged) => match object_of(alloc, asked)? {
+            Some(object) => try_on(alloc, asked, object, &judged, writer),
+            None => tell_wrong(writer, b"no object\n"),
+        },
+        None => tell_wrong(writer, b"no object\n"),
     }
-    tell_epochs(alloc, &file, writer)?;
-    let mut tried = TrialTally {
-        crashes: 0,
-        wrong: 0,
-        states: Vec::new(alloc),
-    };
-    try_each(alloc, asked, &judged, &file, &mut tried, writer)?;
-    try_drawn(alloc, asked, &judged, &file, &mut tried, writer)?;
-    let (crashes, wrong) = (tried.crashes, tried.wrong);
-    let line = format!(in alloc; "crashes {crashes} wrong {wrong}\n")?;
-    tell(writer, line.as_bytes())?;
-    if wrong > 0 {
-        return Ok(TrialEnd::Wrong);
-    }
-    Ok(TrialEnd::Right)
 }

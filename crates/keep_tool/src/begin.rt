@@ -57,6 +57,15 @@ enum Begun {
     Told(Vec<u8>),
 }
 
+// In which folder objects begin, what was done of them before, and how many seconds who is gone holds something.
+#[derive(Clone, Copy)]
+struct StartPlace<'a, 'b> {
+    rt: &'a HostRuntime,
+    folder: &'a str,
+    pasts: &'a [Past<'b>],
+    away: u64,
+}
+
 // The lines of a journal in a folder, which is made where it is missing.
 fn journal_lines(rt: &HostRuntime, folder: &str, name: &str) -> Result<Vec<u8>, ToolFailure> {
     let mut file = FolderFile::open(*rt, folder, name)?;
@@ -69,30 +78,40 @@ fn journal_lines(rt: &HostRuntime, folder: &str, name: &str) -> Result<Vec<u8>, 
 
 // Begins one object: behind its journal, or where that has no line yet with the parts in the folder.
 fn begin_one<E: Write>(
-    rt: &HostRuntime,
+    place: StartPlace<'_, '_>,
     object: Object,
     name: &str,
-    folder: &str,
-    pasts: &[Past<'_>],
     rules: &Rules,
     shelf: &mut DirShelf<HostRuntime>,
     log: &mut Log<HostRuntime, E>,
 ) -> Result<Begun, ToolFailure> {
-    let alloc = rt.alloc();
-    let lines = journal_lines(rt, folder, name)?;
+    let alloc = place.rt.alloc();
+    let lines = journal_lines(place.rt, place.folder, name)?;
     if lines.is_empty() {
-        let begun = begin_new(alloc, object, name, pasts, shelf)?;
+        let begun = begin_new(alloc, object, name, place.pasts, shelf)?;
         if let Begun::Ready(_, _) = &begun {
             log.begun(name.as_bytes());
         }
         return Ok(begun);
     }
-    if let Some(past) = first_past(&object, pasts) {
+    if let Some(past) = first_past(&object, place.pasts) {
         return Err(told_twice(alloc, name, past)?);
     }
-    match begin_held(alloc, object, rules, &lines)? {
+    begin_recovered(alloc, object, name, rules, &lines, log)
+}
+
+// Begins one object behind the lines of its journal.
+fn begin_recovered<E: Write>(
+    alloc: Global,
+    object: Object,
+    name: &str,
+    rules: &Rules,
+    lines: &[u8],
+    log: &mut Log<HostRuntime, E>,
+) -> Result<Begun, ToolFailure> {
+    match begin_held(alloc, object, rules, lines)? {
         Ok((hosted, held)) => {
-            log.recovered(name.as_bytes(), lines.len() as u64, count_lines(&lines));
+            log.recovered(name.as_bytes(), lines.len() as u64, count_lines(lines));
             Ok(Begun::Ready(hosted, held))
         }
         Err(NotBegun::Refused(fault)) => Ok(Begun::Told(refused_line(alloc, name, fault)?)),
@@ -131,57 +150,126 @@ fn name_of(alloc: Global, object: &Object) -> Result<String, ToolFailure> {
     }
 }
 
-// Begins the objects, in order, by these rules, or gives the lines of those that are not.
-fn begin_all<E: Write>(
-    rt: &HostRuntime,
-    accepted: Vec<Accepted>,
-    rules: Vec<Rules>,
-    folder: &str,
-    pasts: &[Past<'_>],
-    away: u64,
-    log: &mut Log<HostRuntime, E>,
-) -> Result<Result<KeptObjects, Vec<u8>>, ToolFailure> {
-    let alloc = rt.alloc();
-    let mut rules = AllRules::new(rules);
-    let unknown = strangers(alloc, &accepted, pasts)?;
-    if !unknown.is_empty() {
-        return Ok(Err(unknown));
+// A start: the rules of the objects that are still to begin, those that have begun, and the lines of those that have not.
+#[derive(Drop)]
+struct KeepStart {
+    rules: AllRules,
+    kept: KeptObjects,
+    told: Vec<u8>,
+}
+
+impl KeepStart {
+    // Before the first object.
+    fn new(alloc: Global, rules: Vec<Rules>) -> KeepStart {
+        KeepStart {
+            rules: AllRules::new(rules),
+            kept: KeptObjects {
+                objects: Vec::new(alloc),
+                names: Vec::new(alloc),
+                fronts: Vec::new(alloc),
+                custody: AllHeld::new(alloc),
+            },
+            told: Vec::new(alloc),
+        }
     }
-    let mut shelf = DirShelf::new(*rt, folder)?;
-    let mut kept = KeptObjects {
-        objects: Vec::new(alloc),
-        names: Vec::new(alloc),
-        fronts: Vec::new(alloc),
-        custody: AllHeld::new(alloc),
-    };
-    let mut told = Vec::new(alloc);
-    for one in accepted {
-        let object = one.into_object();
-        let name = name_of(alloc, &object)?;
-        let own = rules.next(alloc);
-        match begin_one(
-            rt,
-            object,
-            name.as_str(),
-            folder,
-            pasts,
-            &own,
-            &mut shelf,
-            log,
-        )? {
-            Begun::Told(line) => told.extend_from_slice(&line)?,
+
+    // Takes what became of an object of this name and these rules.
+    fn take(
+        &mut self,
+        alloc: Global,
+        name: String,
+        own: Rules,
+        begun: Begun,
+        away: u64,
+    ) -> Result<(), AllocError> {
+        match begun {
+            Begun::Told(line) => self.told.extend_from_slice(&line),
             Begun::Ready(hosted, held) => {
-                let ruled = if rules.any { Some((own, held)) } else { None };
-                if let Some(line) = add(alloc, &mut kept, hosted, name, ruled, away)? {
-                    told.extend_from_slice(&line)?;
-                }
+                let ruled = if self.rules.any {
+                    Some((own, held))
+                } else {
+                    None
+                };
+                self.add(alloc, hosted, name, ruled, away)
             }
         }
     }
-    if told.is_empty() {
-        return Ok(Ok(kept));
+
+    // Adds an object with its rules and what is held of it, where any object has rules; or the line that says why it is not
+    // kept.
+    fn add(
+        &mut self,
+        alloc: Global,
+        hosted: Hosted,
+        name: String,
+        ruled: Option<(Rules, Holds)>,
+        away: u64,
+    ) -> Result<(), AllocError> {
+        match add(alloc, &mut self.kept, hosted, name, ruled, away)? {
+            Some(line) => self.told.extend_from_slice(&line),
+            None => Ok(()),
+        }
     }
-    Ok(Err(told))
+
+    // Begins one object more.
+    fn begin<E: Write>(
+        &mut self,
+        place: StartPlace<'_, '_>,
+        object: Object,
+        shelf: &mut DirShelf<HostRuntime>,
+        log: &mut Log<HostRuntime, E>,
+    ) -> Result<(), ToolFailure> {
+        let alloc = place.rt.alloc();
+        let name = name_of(alloc, &object)?;
+        let own = self.rules.next(alloc);
+        let begun = begin_one(place, object, name.as_str(), &own, shelf, log)?;
+        self.take(alloc, name, own, begun, place.away)?;
+        Ok(())
+    }
+
+    // The objects, or the lines of those that have not begun.
+    fn end(self) -> Result<KeptObjects, Vec<u8>> {
+        let KeepStart {
+            rules: _,
+            kept,
+            told,
+        } = self;
+        if told.is_empty() {
+            return Ok(kept);
+        }
+        Err(told)
+    }
+}
+
+// Begins the objects, in order.
+fn begin_each<E: Write>(
+    place: StartPlace<'_, '_>,
+    accepted: Vec<Accepted>,
+    start: &mut KeepStart,
+    log: &mut Log<HostRuntime, E>,
+) -> Result<(), ToolFailure> {
+    let mut shelf = DirShelf::new(*place.rt, place.folder)?;
+    for one in accepted {
+        start.begin(place, one.into_object(), &mut shelf, log)?;
+    }
+    Ok(())
+}
+
+// Begins the objects, in order, by these rules, or gives the lines of those that are not.
+fn begin_all<E: Write>(
+    place: StartPlace<'_, '_>,
+    accepted: Vec<Accepted>,
+    rules: Vec<Rules>,
+    log: &mut Log<HostRuntime, E>,
+) -> Result<Result<KeptObjects, Vec<u8>>, ToolFailure> {
+    let alloc = place.rt.alloc();
+    let unknown = strangers(alloc, &accepted, place.pasts)?;
+    if !unknown.is_empty() {
+        return Ok(Err(unknown));
+    }
+    let mut start = KeepStart::new(alloc, rules);
+    begin_each(place, accepted, &mut start, log)?;
+    Ok(start.end())
 }
 
 // Adds an object with its rules and what is held of it, where any object has rules; or gives the line that says why it is
@@ -210,27 +298,35 @@ fn add(
             &mut front,
         )?;
     }
+    put(kept, hosted, name, front)?;
+    Ok(None)
+}
+
+// Puts an object behind the others.
+fn put(
+    kept: &mut KeptObjects,
+    hosted: Hosted,
+    name: String,
+    front: Vec<u8>,
+) -> Result<(), AllocError> {
     kept.fronts.push(front)?;
     kept.names.push(name)?;
     kept.objects.push(hosted)?;
-    Ok(None)
+    Ok(())
 }
 
 // Begins objects that are accepted. Where each has begun `error` gets a line of each that is known to get stuck, else
 // `writer` gets a line of each that has not, and none is given.
 fn begin_accepted<W: Write, E: Write, L: Write>(
-    rt: &HostRuntime,
+    place: StartPlace<'_, '_>,
     accepted: Vec<Accepted>,
     rules: Vec<Rules>,
-    asked: Keeping<'_>,
-    away: u64,
-    pasts: &[Past<'_>],
     writer: &mut W,
     error: &mut E,
     log: &mut Log<HostRuntime, L>,
 ) -> Result<Option<KeptObjects>, ToolFailure> {
-    let stuck = stuck_lines(rt.alloc(), &accepted)?;
-    match begin_all(rt, accepted, rules, asked.folder, pasts, away, log)? {
+    let stuck = stuck_lines(place.rt.alloc(), &accepted)?;
+    match begin_all(place, accepted, rules, log)? {
         Ok(kept) => {
             let _ = write_whole(error, &stuck);
             Ok(Some(kept))
@@ -264,7 +360,13 @@ pub fn begin_source<W: Write, E: Write, L: Write>(
     let alloc = rt.alloc();
     match judge(alloc, source)? {
         JudgedSource::Ready(accepted) => {
-            begin_accepted(rt, accepted, rules, asked, away, pasts, writer, error, log)
+            let place = StartPlace {
+                rt,
+                folder: asked.folder,
+                pasts,
+                away,
+            };
+            begin_accepted(place, accepted, rules, writer, error, log)
         }
         JudgedSource::Told(lines) => {
             let ended = written(&lines, REFUSED, writer);
