@@ -1,5 +1,8 @@
 //! What is told of a state that was recovered.
 
+ghost use Rattle.std.specs.Prelude.{IfOk, IfSome};
+ghost use Rattle.crash_trial.specs.GoesOn.{IsFrontBehind};
+
 use audit_core::epoch_replay::ReplayedEpoch;
 use decl_core::object::Object;
 use hosted_core::start::{EndedEpoch, begin_again};
@@ -15,7 +18,9 @@ pub fn front_behind(
     object: Object,
     recovered: Recovered,
     limits: Limits,
-) -> Result<Option<Vec<u8>>, AllocError> {
+) -> Result<Option<Vec<u8>>, AllocError>
+    ensures { IfOk result (λ found. IfSome found (λ front. IsFrontBehind object recovered limits front.items)) }
+{
     let source = source_of(&object);
     let Recovered {
         epoch,
@@ -43,10 +48,11 @@ pub fn front_behind(
         None => Ok(None),
         Some(hosted) => {
             let mut front = Vec::new(alloc);
-            if !hosted.push_first(&mut front)? {
-                return Ok(None);
+            let is_whole = hosted.push_first(&mut front)?;
+            if is_whole {
+                return Ok(Some(front));
             }
-            Ok(Some(front))
+            Ok(None)
         }
     }
 }
