@@ -76,6 +76,10 @@ class Progress:
         under_way = [it for it in self.below if it not in self.ended and self.stood(it) is not None]
         return self.line(f"next {' or '.join(under_way[:3])}" if under_way else "all proved, building", now)
 
+    def is_at(self, last: str) -> bool:
+        """Whether only this crate is left."""
+        return all(it in self.ended for it in self.below if it != last)
+
     def keep(self) -> None:
         """Keeps the times for the next run, but those of crates that are gone."""
         known = {*self.below, *repository.crates()}

@@ -6,11 +6,12 @@ usage: tools/test [--program FILE]    in minutes: on a program that is built wit
                                       crates that changed are tried and recorded; then all of it on the proved program
 
 Each part runs, also where one before it failed; as many run at once as there are processors (two at least), and what
-each said comes whole, in a fixed order. Every 20 seconds a line says how far it is. Before it proves, it says which
-crates, and how long that took last. At the end stands what each part took, in minutes on the clock and of the
-processors, and what it passed and failed; of each part that failed the lines that it printed last come once more. A part
-whose tool of the system is not there is not run, and fails nothing. The last line is `N passed, M failed`, over all
-parts; the exit status is 0 only where M is 0.
+each said comes whole, in a fixed order. Where a proof has only the program left, which takes a processor or two for
+many minutes, the parts that need none begin beside it, below its priority. Every 20 seconds a line says how far it is.
+Before it proves, it says which crates, and how long that took last. At the end stands what each part took, in minutes
+on the clock and of the processors, and what it passed and failed; of each part that failed the lines that it printed
+last come once more. A part whose tool of the system is not there is not run, and fails nothing. The last line is `N
+passed, M failed`, over all parts; the exit status is 0 only where M is 0.
 """
 import collections
 import contextlib
@@ -37,7 +38,8 @@ BUILD = Part(("tools/make_ready",), counts=False)
 PROVE = Part(("rt", "ci"), is_shown=True)
 TRY = Part(("gate/try_wrong_bodies",), may_rest=True, is_shown=True)
 CHECK = Part(("gate/try_wrong_bodies", "--check"))
-# These need no program. First the one that builds a program of its own behind a proof, and so takes longest.
+# These need no program, nor anything that a proof makes. First the one that builds a program of its own behind a proof,
+# and so takes longest.
 FREE = (
     Part(("gate/public_calls",), more=("--count",)),
     *(Part((it,)) for it in ("gate/crash_journal", "gate/draw_schedules", "gate/try_asked", "gate/try_cases", "gate/try_crates", "gate/try_editors", "gate/try_timeline", "gate/try_types", "gate/try_wrapper")),
@@ -87,6 +89,8 @@ Result = collections.namedtuple("Result", "name wall processor passed failed sai
 LINES_SAID = 30
 # Seconds after which a line says how far it is, and between two looks at the parts.
 SILENCE, LOOKS = 20, 0.05
+# So far below a proof are the parts beside it.
+NICE = 10
 
 
 def say(text: object) -> None:
@@ -112,6 +116,12 @@ def counted(part: Part, status: int, last: bytes) -> tuple[int, int, str | None]
     return passed, failed, None
 
 
+def begin_group(nice: int) -> None:
+    """Makes this process the first of a group, so far below what began it in priority."""
+    os.setpgrp()
+    os.nice(nice)
+
+
 class Run:
     """A run of a part. What it says goes to a file, so that none waits for another one to be shown."""
 
@@ -121,7 +131,8 @@ class Run:
         self.result: Result | None = None
         self.output, self.shown, self.rest = tempfile.TemporaryFile(), 0, b""
 
-    def begin(self, words: Sequence[str]) -> None:
+    def begin(self, words: Sequence[str], nice: int) -> None:
+        """Begins it, so far below this tool in priority."""
         self.begun = time.monotonic()
         # A tool in Python would else keep what it prints to itself until it ends.
         env = {**os.environ, "PYTHONUNBUFFERED": "1"}
@@ -129,7 +140,7 @@ class Run:
         try:
             # (what a terminal sends comes to this tool alone, which hands it on)
             self.process = subprocess.Popen(
-                words, cwd=TOP, env=env, preexec_fn=os.setpgrp, stdin=null, stdout=self.output, stderr=same
+                words, cwd=TOP, env=env, preexec_fn=lambda: begin_group(nice), stdin=null, stdout=self.output, stderr=same
             )
         except OSError as error:
             self.result = Result(self.name, 0, 0, 0, 1, [f"did not run: {error.strerror}".encode()])
@@ -188,9 +199,9 @@ class Gate:
         self.due = self.begun + SILENCE
         self.results: list[Result] = []
         self.runs: list[Run] = []
-        # The program that is tried, whether it is proved, and how far a proof of it is.
+        # The program that is tried, whether its crates are proved, and how far a proof of them is.
         self.program: pathlib.Path | None = None
-        self.is_proved = False
+        self.proves = False
         self.proof: progress.Progress | None = None
         # How many signals came that end this tool, and how many were handed on.
         self.signals, self.handed_on = 0, 0
@@ -203,14 +214,20 @@ class Gate:
     def words(self, part: Part) -> list[str]:
         """The command of a part."""
         program = ("--program", str(self.program)) if part.takes_program else ()
-        return [*part.words, *program, *(part.more if self.is_proved else ())]
+        return [*part.words, *program, *(part.more if self.proves else ())]
 
     def under_way(self) -> list[Run]:
         return [it for it in self.runs if it.is_under_way()]
 
+    def is_proving(self) -> bool:
+        return any(it.part is PROVE for it in self.under_way())
+
     def can_begin(self, run: Run) -> bool:
-        is_new = run.process is None and run.result is None and not self.signals
-        return is_new and len(self.under_way()) < self.lanes and bool(self.program or not run.part.takes_program)
+        if run.process or run.result or self.signals or len(self.under_way()) >= self.lanes:
+            return False
+        if self.is_proving() and not (self.proof and self.proof.is_at(ready.PROGRAM)):
+            return False
+        return bool(self.program or not run.part.takes_program)
 
     def run(self, *parts: Part) -> None:
         """Runs these parts, as many at once as there are processors, and tells of them in their order."""
@@ -221,7 +238,7 @@ class Gate:
             for it in filter(self.can_begin, self.runs):
                 if it.part.is_shown:
                     print(f"\n==== {it.name}", flush=True)
-                it.begin(self.words(it.part))
+                it.begin(self.words(it.part), NICE if self.is_proving() else 0)
             time.sleep(LOOKS)
             self.hand_on()
             for it in self.under_way():
@@ -292,17 +309,17 @@ def plan() -> progress.Progress:
 
 
 def prove(gate: Gate) -> None:
-    """Proves all crates. Where that is done ./pathserve runs the proved program."""
-    gate.proof = plan()
+    """Proves all crates, and runs what needs no program. Where all are proved ./pathserve runs the proved program."""
+    gate.proof, gate.proves = plan(), True
     of_sources = ready.digest(TOP, ready.kit())
-    gate.run(PROVE)
+    gate.run(PROVE, *FREE)
     gate.proof.keep()
     if not gate.results:
         return
     made = TOP / "crates" / ready.PROGRAM / "out" / ready.PROGRAM
     if made.exists():
-        gate.program, gate.is_proved = made, True
-    if not gate.results[-1].failed and ready.digest(TOP, ready.kit()) == of_sources:
+        gate.program = made
+    if not gate.results[0].failed and ready.digest(TOP, ready.kit()) == of_sources:
         ready.put(ready.PROVED, made, of_sources)
         gate.program = ready.OUT / ready.PROVED / ready.PROGRAM
 
@@ -354,10 +371,11 @@ def run_all(gate: Gate, is_gate: bool) -> None:
         prove(gate)
         gate.run(TRY)
         gate.run(CHECK)
-    elif not gate.program:
+        gate.run(*PARTS)
+    elif gate.program:
+        gate.run(*FREE, *PARTS)
+    else:
         gate.run(BUILD, *FREE, *PARTS)
-        return
-    gate.run(*FREE, *PARTS)
 
 
 def end(gate: Gate, wanted: Iterable[Part]) -> int:
