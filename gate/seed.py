@@ -191,7 +191,11 @@ def ahead(rt: ModuleType, lanes: int) -> None:
             running[name] = build, all_crates[name].stamp()
         if not running and not ready:
             return
-        time.sleep(5)
+        # To look at all files takes a second: that is done where one has ended, and each minute.
+        for _ in range(12):
+            time.sleep(5)
+            if any(build.poll() is not None for build, _ in running.values()):
+                break
 
 
 def main() -> int:

@@ -7,7 +7,7 @@ use crate::stream::ClientListener;
 use keep_loop::{Fault, Outside, ReadEnd};
 use mio::unix::SourceFd;
 use mio::{Events, Interest, Poll, Token};
-use std::alloc::AllocError;
+use std::alloc::{AllocError, Global};
 use std::fs::File;
 use std::io::{self, ErrorKind, Input, Read as _, Write};
 use std::net::Net;
@@ -68,6 +68,57 @@ pub struct ServeOptions {
     pub stops_with_input: bool,
 }
 
+// Room for connections, and for what the system tells of them.
+#[derive(Drop)]
+struct WireRoom {
+    places: Places,
+    events: Events,
+    ready: Vec<u64>,
+}
+
+// What a loop has before it begins.
+#[derive(Drop)]
+struct WireParts {
+    poll: Poll,
+    watch: Watch,
+    room: WireRoom,
+}
+
+// Room for so many connections.
+fn room_for(alloc: Global, count: usize) -> Result<WireRoom, AllocError> {
+    let places = Places::new(alloc, count, PIECE)?;
+    let events = Events::with_capacity(alloc, MOST_EVENTS)?;
+    let ready = Vec::with_capacity(alloc, MOST_EVENTS)?;
+    Ok(WireRoom {
+        places,
+        events,
+        ready,
+    })
+}
+
+// What tells of connections, and first of those that this listener has.
+fn poll_of(net: &impl Net, listener: &mut ClientListener) -> io::Result<Poll> {
+    let poll = Poll::new(net)?;
+    listener.register(poll.registry(), LISTENER)?;
+    Ok(poll)
+}
+
+// What a loop has before it begins, or the error of the system, or a want of memory.
+fn parts_of(
+    net: &impl Net,
+    clock: &impl Clock,
+    alloc: Global,
+    listener: &mut ClientListener,
+    serving: ServeOptions,
+) -> io::Result<WireParts> {
+    let poll = poll_of(net, listener)?;
+    let watch = Watch::begin(clock, serving.pace)?;
+    match room_for(alloc, serving.places) {
+        Ok(room) => Ok(WireParts { poll, watch, room }),
+        Err(error) => Err(io::Error::from(error)),
+    }
+}
+
 // A file that stands for nothing.
 fn spare_of<R: Files>(rt: &R) -> Option<R::File> {
     File::open(rt, "/dev/null").ok()
@@ -84,13 +135,34 @@ impl<R: Files + AllocGlobal + Input + Clock + Eprint + Drop, E: Write + Drop> Wi
         serving: ServeOptions,
         errors: E,
     ) -> io::Result<Wires<R, E>> {
-        let alloc = rt.alloc();
-        let poll = Poll::new(net)?;
-        listener.register(poll.registry(), LISTENER)?;
-        let watch = Watch::begin(&rt, serving.pace)?;
-        let places = Places::new(alloc, serving.places, PIECE)?;
-        let events = Events::with_capacity(alloc, MOST_EVENTS)?;
-        let ready = Vec::with_capacity(alloc, MOST_EVENTS)?;
+        match parts_of(net, &rt, rt.alloc(), &mut listener, serving) {
+            Ok(parts) => Ok(Wires::of(
+                rt,
+                listener,
+                journals,
+                errors,
+                parts,
+                serving.stops_with_input,
+            )),
+            Err(error) => Err(error),
+        }
+    }
+
+    // A loop over what the system gave.
+    fn of(
+        rt: R,
+        listener: ClientListener,
+        journals: Journals<R>,
+        errors: E,
+        parts: WireParts,
+        stops_with_input: bool,
+    ) -> Wires<R, E> {
+        let WireParts { poll, watch, room } = parts;
+        let WireRoom {
+            places,
+            events,
+            ready,
+        } = room;
         let spare = spare_of(&rt);
         let mut wires = Wires {
             rt,
@@ -109,10 +181,10 @@ impl<R: Files + AllocGlobal + Input + Clock + Eprint + Drop, E: Write + Drop> Wi
             ends: false,
             journals,
         };
-        if serving.stops_with_input {
+        if stops_with_input {
             wires.listen_to_input();
         }
-        Ok(wires)
+        wires
     }
 }
 
