@@ -55,42 +55,6 @@ fn lines_of(lines: &[u8]) -> Option<Lines> {
     })
 }
 
-// Which epoch the lines of a file tell of, if it has some; or nothing where it cannot be read.
-fn ending_of<R: Files + AllocGlobal + Drop>(
-    alloc: Global,
-    file: &mut FolderFile<R>,
-) -> Option<Option<Lines>> {
-    match recover(alloc, file) {
-        Ok(before) => Some(lines_of(&before)),
-        Err(_) => None,
-    }
-}
-
-// A file, and which epoch its lines tell of; or nothing where it cannot be read.
-fn read_of<R: Files + AllocGlobal + Drop>(
-    alloc: Global,
-    file: FolderFile<R>,
-) -> Option<(FolderFile<R>, Option<Lines>)> {
-    let mut file = file;
-    match ending_of(alloc, &mut file) {
-        Some(ending) => Some((file, ending)),
-        None => None,
-    }
-}
-
-// The file of this name in a folder, and which epoch its lines tell of; or nothing where it cannot be opened or read.
-fn opened<R: Files + AllocGlobal + Drop>(
-    rt: R,
-    alloc: Global,
-    folder: &str,
-    name: &str,
-) -> Option<(FolderFile<R>, Option<Lines>)> {
-    match FolderFile::open(rt, folder, name) {
-        Ok(file) => read_of(alloc, file),
-        Err(_) => None,
-    }
-}
-
 // A journal that begins with this front, or nothing where it cannot.
 fn begin_one<R: Files + AllocGlobal + Drop>(
     alloc: Global,
@@ -197,25 +161,23 @@ impl<R: Files + AllocGlobal + Copy + Eprint + Drop> Journals<R> {
 
     // Begins one more.
     fn add(&mut self, rt: R, folder: &str, name: &str, front: &[u8]) -> Option<()> {
-        let (file, ending) = opened(rt, self.alloc, folder, name)?;
         let at = self.journals.len();
+        let mut file = FolderFile::open(rt, folder, name).ok()?;
+        let before = recover(self.alloc, &mut file).ok()?;
+        let ending = lines_of(&before);
         let is_linked = self.link(at, ending);
         let begun = begin_one(self.alloc, file, front, self.room)?;
         if is_linked {
             self.ended(at, ending);
         }
-        self.keep(begun, lines_of(front))
-    }
-
-    // Keeps one that has begun with these lines.
-    fn keep(&mut self, begun: Ordered<R>, lines: Option<Lines>) -> Option<()> {
-        match lines {
-            Some(lines) => {
-                self.lines.push(lines).ok()?;
-                self.journals.push(Some(begun)).ok()
-            }
-            None => None,
-        }
+        let lines = lines_of(front)?;
+        let Ok(()) = self.journals.push(Some(begun)) else {
+            return None;
+        };
+        let Ok(()) = self.lines.push(lines) else {
+            return None;
+        };
+        Some(())
     }
 }
 
