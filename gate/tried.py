@@ -6,6 +6,7 @@ import sys
 import time
 import unittest
 import unittest.mock
+import warnings
 from collections.abc import Callable, Iterable, Sequence
 from types import TracebackType
 from typing import Any, Optional, TypeVar, Union
@@ -67,7 +68,10 @@ class Trial(unittest.TestCase):
         self.title, self.work = title, work
 
     def tries(self) -> None:
-        wrong = self.work()
+        with warnings.catch_warnings():
+            # A fake leaves its sockets to the collector, and a warning of one would stand in what the tool says that is tried.
+            warnings.simplefilter("ignore", ResourceWarning)
+            wrong = self.work()
         if isinstance(wrong, str) and wrong:
             raise Wrong(wrong)
 
