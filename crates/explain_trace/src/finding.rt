@@ -1,0 +1,177 @@
+//! What is found, as data, and what writes it.
+
+use decl_core::object::{Object, Operation};
+use itoa::Buffer;
+use note_core::finding::shown;
+use note_core::line_words::LineWords;
+use note_core::page::{Page, push_help, push_note};
+use note_core::said::{Message, MessageWords};
+use note_core::span::{Span, text_at};
+use std::alloc::{AllocError, Global};
+use value_core::kind::Elem;
+use value_core::value::Value;
+use word_core::show::push_value;
+
+// The most bytes of a value that are shown.
+const MOST_SHOWN: usize = 200;
+
+/// What stands in the sentences of a finding for one of their signs.
+#[derive(Clone, Copy)]
+pub(crate) enum Piece<'a> {
+    /// Bytes as they are, or as a sentence shows a word of a text.
+    Bytes(&'a [u8]),
+    Word(&'a [u8]),
+    Number(u64),
+    /// The parameters of an operation, as they are declared.
+    Params(&'a Operation),
+    /// The names of the operations of an object.
+    Names(&'a Object),
+    /// A value as it is shown, or its front.
+    Value(&'a Value),
+}
+
+pub(crate) const NO_PIECE: Piece<'static> = Piece::Bytes(b"");
+
+/// What is found: a place, a sentence, and what helps. In both sentences `%`, `$` and `@` stand for pieces.
+#[derive(Clone, Copy)]
+pub(crate) struct Diagnostic<'a> {
+    /// Where it stands. Without a place its sentence is one that helps, too.
+    pub place: Option<Span>,
+    /// What helps is empty where nothing is said of that.
+    pub said: Message,
+    pub first: Piece<'a>,
+    pub second: Piece<'a>,
+    pub third: Piece<'a>,
+}
+
+/// A finding, if something is wrong, and one that stands behind it.
+pub(crate) type Both<'a> = (Option<Diagnostic<'a>>, Option<Diagnostic<'a>>);
+
+impl<'a> Diagnostic<'a> {
+    /// What is found at a place, where `%` stands for these bytes.
+    pub(crate) fn at(place: Option<Span>, said: Message, first: &'a [u8]) -> Diagnostic<'a> {
+        Diagnostic {
+            place,
+            said,
+            first: Piece::Bytes(first),
+            second: NO_PIECE,
+            third: NO_PIECE,
+        }
+    }
+
+    /// What is found where this stands in a line, which `%` stands for.
+    pub(crate) fn there(words: &LineWords<'a>, span: Span, said: Message) -> Diagnostic<'a> {
+        Diagnostic {
+            first: Piece::Word(text_at(words.text, span)),
+            ..Diagnostic::at(Some(span), said, b"")
+        }
+    }
+
+    /// The same, where `$` and `@` stand for these pieces.
+    pub(crate) fn with(self, second: Piece<'a>, third: Piece<'a>) -> Diagnostic<'a> {
+        Diagnostic {
+            second,
+            third,
+            ..self
+        }
+    }
+}
+
+// Adds the parameters of an operation, as they are declared.
+fn push_params(out: &mut Vec<u8>, operation: &Operation) -> Result<(), AllocError> {
+    for (place, param) in operation.params.iter().enumerate() {
+        out.extend_from_slice(if place == 0 { b"" } else { b"; " })?;
+        out.extend_from_slice(param.name.as_bytes())?;
+        out.extend_from_slice(match param.kind {
+            Elem::Integer => b" : integer",
+            Elem::Text => b" : text",
+        })?;
+    }
+    Ok(())
+}
+
+// Adds the names of the operations of an object, with commas between them.
+fn push_names(out: &mut Vec<u8>, object: &Object) -> Result<(), AllocError> {
+    for (place, operation) in object.operations.iter().enumerate() {
+        out.extend_from_slice(if place == 0 { b"" } else { b", " })?;
+        out.extend_from_slice(operation.name.as_bytes())?;
+    }
+    Ok(())
+}
+
+// A value as it is shown, or its front.
+fn value_shown(alloc: Global, value: &Value) -> Result<Vec<u8>, AllocError> {
+    let mut text = Vec::new(alloc);
+    push_value(alloc, &mut text, value)?;
+    if text.len() > MOST_SHOWN {
+        text.truncate(MOST_SHOWN);
+        text.extend_from_slice(b" ..")?;
+    }
+    Ok(text)
+}
+
+// The text of a piece.
+fn text_of(alloc: Global, piece: Piece<'_>) -> Result<Vec<u8>, AllocError> {
+    let mut text = Vec::new(alloc);
+    let mut buffer = Buffer::new();
+    match piece {
+        Piece::Word(bytes) => return shown(alloc, bytes),
+        Piece::Value(value) => return value_shown(alloc, value),
+        Piece::Bytes(bytes) => text.extend_from_slice(bytes)?,
+        Piece::Number(number) => text.extend_from_slice(buffer.format(number).as_bytes())?,
+        Piece::Params(operation) => push_params(&mut text, operation)?,
+        Piece::Names(object) => push_names(&mut text, object)?,
+    }
+    Ok(text)
+}
+
+// Adds a finding whose pieces have these texts.
+fn push_with(
+    out: &mut Vec<u8>,
+    page: Page<'_>,
+    found: Diagnostic<'_>,
+    words: MessageWords<'_>,
+) -> Result<(), AllocError> {
+    match found.place {
+        Some(span) => push_note(out, page, span, found.said.sentence, words)?,
+        None => push_help(out, found.said.sentence, words)?,
+    }
+    if found.said.help.is_empty() {
+        return Ok(());
+    }
+    push_help(out, found.said.help, words)
+}
+
+/// Adds a finding. In its sentences `#` stands for itself.
+pub(crate) fn push(
+    out: &mut Vec<u8>,
+    page: Page<'_>,
+    found: Diagnostic<'_>,
+) -> Result<(), AllocError> {
+    let alloc = *out.allocator();
+    let first = text_of(alloc, found.first)?;
+    let second = text_of(alloc, found.second)?;
+    let third = text_of(alloc, found.third)?;
+    let words = MessageWords {
+        first: &first,
+        second: &second,
+        third: &third,
+        fourth: b"#",
+    };
+    push_with(out, page, found, words)
+}
+
+/// Adds two findings, as far as there are some.
+pub(crate) fn push_both(
+    out: &mut Vec<u8>,
+    page: Page<'_>,
+    found: Both<'_>,
+) -> Result<(), AllocError> {
+    if let Some(first) = found.0 {
+        push(out, page, first)?;
+    }
+    match found.1 {
+        Some(second) => push(out, page, second),
+        None => Ok(()),
+    }
+}
