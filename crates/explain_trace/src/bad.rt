@@ -145,7 +145,7 @@ fn wrong_start<'a>(faulty: FaultyLine<'a>) -> Both<'a> {
     let help = if operation.params.is_empty() {
         "`%` has no parameters"
     } else {
-        "`%` is declared with ($)"
+        "`%` is declared with $"
     };
     let said = say("`%` takes other arguments", help);
     let found = Diagnostic::at(Some(words.span_from(3)), said, operation.name.as_bytes());

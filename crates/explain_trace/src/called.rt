@@ -82,16 +82,10 @@ fn wrong_arguments<'a>(
     first: usize,
 ) -> Option<Diagnostic<'a>> {
     let (number, param, sentence) = misfit_of(operation, words, first)?;
-    let help = if operation.params.is_empty() {
-        "the operation is declared as `$`"
-    } else {
-        "the operation is declared as `$(@)`"
-    };
+    let said = say(sentence, "the operation is declared as `$@`");
+    let found = Diagnostic::at(Some(words.span(number)), said, param);
     let name = Piece::Bytes(operation.name.as_bytes());
-    Some(Diagnostic::at(Some(words.span(number)), say(sentence, help), param).with(
-        name,
-        Piece::Params(operation),
-    ))
+    Some(found.with(name, Piece::Params(operation)))
 }
 
 // The number of the word that names an operation, in a line that calls.

@@ -2,7 +2,7 @@
 
 use decl_core::object::{Object, Operation};
 use itoa::Buffer;
-use note_core::finding::shown;
+use note_core::finding::push_shown;
 use note_core::line_words::LineWords;
 use note_core::page::{Page, push_help, push_note};
 use note_core::said::{Message, MessageWords};
@@ -22,7 +22,7 @@ pub(crate) enum Piece<'a> {
     Bytes(&'a [u8]),
     Word(&'a [u8]),
     Number(u64),
-    /// The parameters of an operation, as they are declared.
+    /// The parameters of an operation, as they are declared, in parentheses.
     Params(&'a Operation),
     /// The names of the operations of an object.
     Names(&'a Object),
@@ -77,15 +77,18 @@ impl<'a> Diagnostic<'a> {
     }
 }
 
-// Adds the parameters of an operation, as they are declared.
+// Adds the parameters of an operation, as they are declared, in parentheses, if it has some.
 fn push_params(out: &mut Vec<u8>, operation: &Operation) -> Result<(), AllocError> {
     for (place, param) in operation.params.iter().enumerate() {
-        out.extend_from_slice(if place == 0 { b"" } else { b"; " })?;
+        out.extend_from_slice(if place == 0 { b"(" } else { b"; " })?;
         out.extend_from_slice(param.name.as_bytes())?;
         out.extend_from_slice(match param.kind {
             Elem::Integer => b" : integer",
             Elem::Text => b" : text",
         })?;
+    }
+    if !operation.params.is_empty() {
+        out.push(b')')?;
     }
     Ok(())
 }
@@ -99,29 +102,33 @@ fn push_names(out: &mut Vec<u8>, object: &Object) -> Result<(), AllocError> {
     Ok(())
 }
 
-// A value as it is shown, or its front.
-fn value_shown(alloc: Global, value: &Value) -> Result<Vec<u8>, AllocError> {
-    let mut text = Vec::new(alloc);
-    push_value(alloc, &mut text, value)?;
-    if text.len() > MOST_SHOWN {
-        text.truncate(MOST_SHOWN);
-        text.extend_from_slice(b" ..")?;
+// Adds a value as it is shown, or its front, to an empty text.
+fn push_front(out: &mut Vec<u8>, value: &Value) -> Result<(), AllocError> {
+    push_value(*out.allocator(), out, value)?;
+    if out.len() > MOST_SHOWN {
+        out.truncate(MOST_SHOWN);
+        out.extend_from_slice(b" ..")?;
     }
-    Ok(text)
+    Ok(())
+}
+
+// Adds a piece to an empty text.
+fn push_piece(out: &mut Vec<u8>, piece: Piece<'_>) -> Result<(), AllocError> {
+    let mut buffer = Buffer::new();
+    match piece {
+        Piece::Bytes(bytes) => out.extend_from_slice(bytes),
+        Piece::Word(bytes) => push_shown(out, bytes),
+        Piece::Number(number) => out.extend_from_slice(buffer.format(number).as_bytes()),
+        Piece::Params(operation) => push_params(out, operation),
+        Piece::Names(object) => push_names(out, object),
+        Piece::Value(value) => push_front(out, value),
+    }
 }
 
 // The text of a piece.
 fn text_of(alloc: Global, piece: Piece<'_>) -> Result<Vec<u8>, AllocError> {
     let mut text = Vec::new(alloc);
-    let mut buffer = Buffer::new();
-    match piece {
-        Piece::Word(bytes) => return shown(alloc, bytes),
-        Piece::Value(value) => return value_shown(alloc, value),
-        Piece::Bytes(bytes) => text.extend_from_slice(bytes)?,
-        Piece::Number(number) => text.extend_from_slice(buffer.format(number).as_bytes())?,
-        Piece::Params(operation) => push_params(&mut text, operation)?,
-        Piece::Names(object) => push_names(&mut text, object)?,
-    }
+    push_piece(&mut text, piece)?;
     Ok(text)
 }
 

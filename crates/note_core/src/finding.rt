@@ -3,7 +3,7 @@
 use crate::line_words::LineWords;
 use crate::said::MessageWords;
 use crate::span::{Span, front};
-use std::alloc::{AllocError, Global};
+use std::alloc::AllocError;
 
 // The most bytes of a word that a sentence shows.
 const MOST_SHOWN: usize = 64;
@@ -16,16 +16,15 @@ fn shown_byte(byte: u8) -> u8 {
     }
 }
 
-/// Some bytes of a text as a sentence shows them: of many the first ones, and `?` for what is no character of ASCII.
-pub fn shown(alloc: Global, bytes: &[u8]) -> Result<Vec<u8>, AllocError> {
-    let mut text = Vec::new(alloc);
+/// Adds some bytes of a text as a sentence shows them: of many the first ones, and `?` for what is no character of ASCII.
+pub fn push_shown(out: &mut Vec<u8>, bytes: &[u8]) -> Result<(), AllocError> {
     for byte in front(bytes, MOST_SHOWN) {
-        text.push(shown_byte(*byte))?;
+        out.push(shown_byte(*byte))?;
     }
     if bytes.len() > MOST_SHOWN {
-        text.extend_from_slice(b" ..")?;
+        out.extend_from_slice(b" ..")?;
     }
-    Ok(text)
+    Ok(())
 }
 
 /// The words of a sentence that has two.
