@@ -21,6 +21,14 @@ pub(crate) fn call_of(faulty: FaultyLine<'_>) -> Option<SeenCall> {
     }
 }
 
+// The name of the operation of a call.
+fn name_of<'a>(faulty: FaultyLine<'a>, call: SeenCall) -> &'a [u8] {
+    match faulty.object.operations.get(call.operation) {
+        Some(operation) => operation.name.as_bytes(),
+        None => b"",
+    }
+}
+
 /// A finding at a line of a call: `%` stands for its operation, `$` for the number of the line, `@` for its own.
 pub(crate) fn of_call<'a>(
     faulty: FaultyLine<'a>,
@@ -28,12 +36,8 @@ pub(crate) fn of_call<'a>(
     line: Span,
     sentence: &'static str,
 ) -> Diagnostic<'a> {
-    let name = match faulty.object.operations.get(call.operation) {
-        Some(operation) => operation.name.as_bytes(),
-        None => b"",
-    };
     let number = place_of(faulty.page.source, line.start).line as u64;
-    let found = Diagnostic::at(Some(line), say(sentence, ""), name);
+    let found = Diagnostic::at(Some(line), say(sentence, ""), name_of(faulty, call));
     found.with(Piece::Number(number), Piece::Number(call.number))
 }
 
@@ -70,6 +74,12 @@ fn reply_text(
     Ok(text)
 }
 
+// That the object gives this reply to a call of the operation of this name.
+fn given_reply<'a>(span: Span, name: &'a [u8], reply: &'a [u8]) -> Diagnostic<'a> {
+    let said = say("the object gives another reply to this `%`:$", "");
+    Diagnostic::at(Some(span), said, name).with(Piece::Bytes(reply), NO_PIECE)
+}
+
 // Adds what the parts held that the operation of a call names, and where it started.
 fn push_before(
     out: &mut Vec<u8>,
@@ -102,10 +112,13 @@ pub(crate) fn push_wrong_reply(
     let Some(call) = call_of(faulty) else {
         return Ok(());
     };
-    let sentence = "the object gives another reply to this `%`:$";
-    let found = of_call(faulty, call, faulty.words.span_from(2), sentence);
     let text = reply_text(*out.allocator(), faulty, call)?;
-    push(out, faulty.page, found.with(Piece::Bytes(&text), NO_PIECE))?;
+    let place = faulty.words.span_from(2);
+    push(
+        out,
+        faulty.page,
+        given_reply(place, name_of(faulty, call), &text),
+    )?;
     push_before(out, faulty, call)
 }
 
