@@ -3,12 +3,11 @@
 use crate::called::{misfit_of, operation_named, unknown};
 use crate::finding::{Both, Diagnostic, NO_PIECE, Piece};
 use crate::reply::{call_of, of_call, of_number};
-use crate::rules::Want::{
-    Bare, Cause, Data, Ending, KnownNumber, KnownSession, Nothing, Number, Refusal, Session,
+use crate::rules::{
+    DATA, FORM, FirstWords, NOTHING, NUMBER, Rules, SESSION, Want, WordRule, told_of, wrong_in,
 };
-use crate::rules::{FORM, FirstWords, Rules, told_of, wrong_in};
 use crate::story::{FaultyLine, value_of};
-use decl_core::object::Part;
+use decl_core::object::{Operation, Part};
 use note_core::line_words::LineWords;
 use note_core::said::{Message, say};
 use note_core::span::Span;
@@ -16,28 +15,76 @@ use std::alloc::{AllocError, Global};
 use text_core::words::is_same_word;
 use value_core::kind::{Elem, Kind};
 
+const KNOWN_NUMBER: WordRule = WordRule(
+    Want::KnownNumber,
+    "",
+    "",
+    "`%` cannot be the number of a call",
+    "calls are numbered from 1 to 65536",
+);
+
+const KNOWN_SESSION: WordRule = WordRule(
+    Want::KnownSession,
+    "",
+    "",
+    "there is no session `%`",
+    "sessions are s1 to s1024",
+);
+
+const BARE: WordRule = WordRule(
+    Want::Bare,
+    "the name of an operation is missing here",
+    "after the session come an operation and its arguments, as in `s1 put 7`",
+    "`%` cannot be the name of an operation",
+    "a name is a letter, and then letters, digits and `_`, at most 64 bytes",
+);
+
+const ENDING: WordRule = WordRule(
+    Want::OneOf("done refused failed"),
+    "how the call ended is missing here",
+    FORM,
+    "a call does not end by `%`",
+    FORM,
+);
+
+const REFUSAL: WordRule = WordRule(
+    Want::Refusal,
+    "the word of the refusal is missing here",
+    FORM,
+    "`%` is not a word to refuse by",
+    "it has 1 to 16 lower-case letters",
+);
+
+const CAUSE: WordRule = WordRule(
+    Want::OneOf("device memory damaged"),
+    "the cause of the failure is missing here",
+    "it is `device`, `memory` or `damaged`",
+    "`%` is not a cause of a failure",
+    "it is `device`, `memory` or `damaged`",
+);
+
 const START: Rules = &[
-    (1, Number),
-    (1, KnownNumber),
-    (2, Session),
-    (2, KnownSession),
-    (3, Bare),
-    (4, Data),
+    (1, NUMBER),
+    (1, KNOWN_NUMBER),
+    (2, SESSION),
+    (2, KNOWN_SESSION),
+    (3, BARE),
+    (4, DATA),
 ];
 
 const DONE: Rules = &[
-    (1, Number),
-    (1, KnownNumber),
-    (2, Ending),
-    (3, Data),
-    (4, Nothing),
+    (1, NUMBER),
+    (1, KNOWN_NUMBER),
+    (2, ENDING),
+    (3, DATA),
+    (4, NOTHING),
 ];
 
-const REFUSED: Rules = &[(1, Number), (1, KnownNumber), (3, Refusal), (4, Nothing)];
+const REFUSED: Rules = &[(1, NUMBER), (1, KNOWN_NUMBER), (3, REFUSAL), (4, NOTHING)];
 
-const FAILED: Rules = &[(1, Number), (1, KnownNumber), (3, Cause), (4, Nothing)];
+const FAILED: Rules = &[(1, NUMBER), (1, KNOWN_NUMBER), (3, CAUSE), (4, NOTHING)];
 
-const PART: Rules = &[(3, Nothing)];
+const PART: Rules = &[(3, NOTHING)];
 
 const END_FORM: &str =
     "`end N done`, `end N done VALUE`, `end N refused WORD` or `end N failed CAUSE`";
@@ -98,28 +145,50 @@ fn wrong_front(part: &Part, words: &LineWords<'_>) -> Option<(Span, Message)> {
     None
 }
 
+// What is said of a word that has to be the bytes of a part as `pathserve run` writes them, and is not.
+fn of_bytes(alloc: Global, part: &Part, word: &[u8]) -> Result<Message, AllocError> {
+    match value_of(alloc, part, word)? {
+        Ok(_) => Ok(say("the digits a to f have to be lower-case letters", "")),
+        Err(said) => Ok(said),
+    }
+}
+
+// What is found where the line of a part is wrong: `%` stands for the part, `@` for what it holds.
+fn of_part<'a>(part: &'a Part, span: Span, said: Message) -> Diagnostic<'a> {
+    let form = Piece::Bytes(PART_FORM.as_bytes());
+    let kind = Piece::Bytes(kind_word(part.kind));
+    Diagnostic::at(Some(span), said, part.name.as_bytes()).with(form, kind)
+}
+
 // What is wrong with a line where the one of this part is due.
 fn wrong_part<'a>(
     alloc: Global,
     part: &'a Part,
     words: &LineWords<'a>,
 ) -> Result<Diagnostic<'a>, AllocError> {
-    let (span, said) = match wrong_front(part, words) {
-        Some(found) => found,
-        None => match wrong_in(words, PART_FORM, PART) {
-            Some(found) => return Ok(found),
-            None => match value_of(alloc, part, words.bare(2))? {
-                Ok(_) => (
-                    words.span(2),
-                    say("the digits a to f have to be lower-case letters", ""),
-                ),
-                Err(said) => (words.span(2), said),
-            },
-        },
+    if let Some((span, said)) = wrong_front(part, words) {
+        return Ok(of_part(part, span, said));
+    }
+    if let Some(found) = wrong_in(words, PART_FORM, PART) {
+        return Ok(found);
+    }
+    let said = of_bytes(alloc, part, words.bare(2))?;
+    Ok(of_part(part, words.span(2), said))
+}
+
+// What is wrong with the arguments of a start, which are integers and texts.
+fn other_arguments<'a>(operation: &'a Operation, words: &LineWords<'a>) -> Option<Diagnostic<'a>> {
+    if misfit_of(operation, words, 4).is_none() {
+        return None;
+    }
+    let help = if operation.params.is_empty() {
+        "`%` has no parameters"
+    } else {
+        "`%` is declared with $"
     };
-    let found = Diagnostic::at(Some(span), said, part.name.as_bytes());
-    let form = Piece::Bytes(PART_FORM.as_bytes());
-    Ok(found.with(form, Piece::Bytes(kind_word(part.kind))))
+    let said = say("`%` takes other arguments", help);
+    let found = Diagnostic::at(Some(words.span_from(3)), said, operation.name.as_bytes());
+    Some(found.with(Piece::Params(operation), NO_PIECE))
 }
 
 // What is wrong with a line `start`.
@@ -136,20 +205,24 @@ fn wrong_start<'a>(faulty: FaultyLine<'a>) -> Both<'a> {
             Some(of_call(faulty, call, call.started, sentence)),
         );
     }
-    let Some((_, operation)) = operation_named(faulty.object, words.bare(3)) else {
-        return unknown(faulty.object, words, 3, "");
-    };
-    if misfit_of(operation, words, 4).is_none() {
-        return (None, None);
+    match operation_named(faulty.object, words.bare(3)) {
+        Some((_, operation)) => (other_arguments(operation, words), None),
+        None => unknown(faulty.object, words, 3, ""),
     }
-    let help = if operation.params.is_empty() {
-        "`%` has no parameters"
-    } else {
-        "`%` is declared with $"
-    };
-    let said = say("`%` takes other arguments", help);
-    let found = Diagnostic::at(Some(words.span_from(3)), said, operation.name.as_bytes());
-    (Some(found.with(Piece::Params(operation), NO_PIECE)), None)
+}
+
+// What the words of a line `end` have to be, by how it says that the call ended; of any other line nothing is asked.
+fn rules_of(words: &LineWords<'_>) -> Rules {
+    if !is_same_word(words.bare(0), b"end") {
+        return &[];
+    }
+    if is_same_word(words.bare(2), b"refused") {
+        return REFUSED;
+    }
+    if is_same_word(words.bare(2), b"failed") {
+        return FAILED;
+    }
+    DONE
 }
 
 // What is said of a line behind those of the parts that begins with another word.
@@ -172,18 +245,14 @@ pub(crate) fn bad_line<'a>(alloc: Global, faulty: FaultyLine<'a>) -> Result<Both
         let found = wrong_part(alloc, part, words)?;
         return Ok((Some(found), None));
     }
-    let rules = match (words.bare(0), words.bare(2)) {
-        (b"start", _) => return Ok(wrong_start(faulty)),
-        (b"end", b"refused") => REFUSED,
-        (b"end", b"failed") => FAILED,
-        (b"end", _) => DONE,
-        _ => &[],
-    };
-    match wrong_in(words, END_FORM, rules) {
+    if is_same_word(words.bare(0), b"start") {
+        return Ok(wrong_start(faulty));
+    }
+    match wrong_in(words, END_FORM, rules_of(words)) {
         Some(found) => Ok((Some(found), None)),
-        None => {
-            let found = Diagnostic::there(words, words.span(0), of_first_word(words));
-            Ok((Some(found), None))
-        }
+        None => Ok((
+            Some(Diagnostic::there(words, words.span(0), of_first_word(words))),
+            None,
+        )),
     }
 }

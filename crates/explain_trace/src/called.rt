@@ -90,8 +90,8 @@ fn wrong_arguments<'a>(
 
 // The number of the word that names an operation, in a line that calls.
 fn operation_at(words: &LineWords<'_>) -> Option<usize> {
-    for (number, want) in verb_of(words)?.rules {
-        if let Want::Name = *want {
+    for (number, rule) in verb_of(words)?.rules {
+        if let Want::Name = rule.0 {
             return Some(*number);
         }
     }

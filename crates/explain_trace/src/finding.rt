@@ -1,6 +1,6 @@
 //! What is found, as data, and what writes it.
 
-use decl_core::object::{Object, Operation};
+use decl_core::object::{Object, Operation, Param};
 use itoa::Buffer;
 use note_core::finding::push_shown;
 use note_core::line_words::LineWords;
@@ -77,27 +77,36 @@ impl<'a> Diagnostic<'a> {
     }
 }
 
+// Adds a parameter as it is declared, behind this sign.
+fn push_param(out: &mut Vec<u8>, sign: &[u8], param: &Param) -> Result<(), AllocError> {
+    out.extend_from_slice(sign)?;
+    out.extend_from_slice(param.name.as_bytes())?;
+    match param.kind {
+        Elem::Integer => out.extend_from_slice(b" : integer"),
+        Elem::Text => out.extend_from_slice(b" : text"),
+    }
+}
+
 // Adds the parameters of an operation, as they are declared, in parentheses, if it has some.
 fn push_params(out: &mut Vec<u8>, operation: &Operation) -> Result<(), AllocError> {
-    for (place, param) in operation.params.iter().enumerate() {
-        out.extend_from_slice(if place == 0 { b"(" } else { b"; " })?;
-        out.extend_from_slice(param.name.as_bytes())?;
-        out.extend_from_slice(match param.kind {
-            Elem::Integer => b" : integer",
-            Elem::Text => b" : text",
-        })?;
+    let mut sign: &[u8] = b"(";
+    for param in operation.params.iter() {
+        push_param(out, sign, param)?;
+        sign = b"; ";
     }
-    if !operation.params.is_empty() {
-        out.push(b')')?;
+    if operation.params.is_empty() {
+        return Ok(());
     }
-    Ok(())
+    out.extend_from_slice(b")")
 }
 
 // Adds the names of the operations of an object, with commas between them.
 fn push_names(out: &mut Vec<u8>, object: &Object) -> Result<(), AllocError> {
-    for (place, operation) in object.operations.iter().enumerate() {
-        out.extend_from_slice(if place == 0 { b"" } else { b", " })?;
+    let mut sign: &[u8] = b"";
+    for operation in &object.operations {
+        out.extend_from_slice(sign)?;
         out.extend_from_slice(operation.name.as_bytes())?;
+        sign = b", ";
     }
     Ok(())
 }

@@ -2,8 +2,9 @@
 
 use crate::called::operation_named;
 use crate::finding::{Both, Diagnostic, NO_PIECE, Piece};
-use crate::rules::Want::{Data, Key, Name, NoKey, Nothing, Number, Outcome, Session};
-use crate::rules::{FORM, FirstWords, Rules, told_of, wrong_in};
+use crate::rules::{
+    DATA, FORM, FirstWords, NOTHING, NUMBER, Rules, SESSION, Want, WordRule, told_of, wrong_in,
+};
 use decl_core::object::Object;
 use note_core::alike::are_alike;
 use note_core::line_words::LineWords;
@@ -19,19 +20,54 @@ pub(crate) struct Verb {
     pub rules: Rules,
 }
 
-const CALLS: Rules = &[(1, Session), (2, Name), (3, Data)];
+const NAME: WordRule = WordRule(
+    Want::Name,
+    "the name of an operation is missing here",
+    "after the session come an operation and its arguments, as in `s1 put 7`",
+    "`%` cannot be the name of an operation",
+    "a name is a letter, and then letters, digits and `_`, at most 64 bytes",
+);
 
-const KEYED: Rules = &[(1, Session), (2, Key), (3, Name), (4, Data)];
+const KEY: WordRule = WordRule(
+    Want::Key,
+    "",
+    "",
+    "`%` is not the key of a call",
+    "a key is `#` and a number: `#1` for the first call of the session, `#2` for its second one and so on",
+);
 
-const DOES: Rules = &[(1, Session), (2, NoKey), (2, Name), (3, Data)];
+const NO_KEY: WordRule = WordRule(
+    Want::NoKey,
+    "",
+    "",
+    "`do` takes no key, and `%` is one",
+    "a call under a key is `call sK #J OP ARG ..`; `steps N` and `finish N` bring it to its end",
+);
 
-const STEP: Rules = &[(1, Number), (2, Outcome), (3, Nothing)];
+const OUTCOME: WordRule = WordRule(
+    Want::OneOf("ok fail"),
+    "`ok` or `fail` is missing here",
+    STEPS,
+    "`%` is neither `ok` nor `fail`",
+    STEPS,
+);
 
-const OF_CALL: Rules = &[(1, Number), (2, Nothing)];
+const STEPS: &str =
+    "`step N ok` makes one step of call N, in `step N fail` its device fails; `steps N` makes all that are left";
 
-const OF_SESSION: Rules = &[(1, Session), (2, Nothing)];
+const CALLS: Rules = &[(1, SESSION), (2, NAME), (3, DATA)];
 
-const ALONE: Rules = &[(1, Nothing)];
+const KEYED: Rules = &[(1, SESSION), (2, KEY), (3, NAME), (4, DATA)];
+
+const DOES: Rules = &[(1, SESSION), (2, NO_KEY), (2, NAME), (3, DATA)];
+
+const STEP: Rules = &[(1, NUMBER), (2, OUTCOME), (3, NOTHING)];
+
+const OF_CALL: Rules = &[(1, NUMBER), (2, NOTHING)];
+
+const OF_SESSION: Rules = &[(1, SESSION), (2, NOTHING)];
+
+const ALONE: Rules = &[(1, NOTHING)];
 
 const CALL_FORM: &str = "`call sK OP ARG ..`, as in `call s1 put 7`";
 

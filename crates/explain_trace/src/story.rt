@@ -206,12 +206,17 @@ fn hear(
     line: Span,
 ) -> Result<(), AllocError> {
     let words = words_at(alloc, text, line)?;
-    match words.bare(0) {
-        b"part" => hear_part(alloc, object, &mut story.values, words.bare(2)),
-        b"start" => hear_start(object, &mut story.calls, &words, line),
-        b"end" => hear_end(alloc, object, story, &words, line),
-        _ => Ok(()),
+    let verb = words.bare(0);
+    if is_same_word(verb, b"part") {
+        return hear_part(alloc, object, &mut story.values, words.bare(2));
     }
+    if is_same_word(verb, b"start") {
+        return hear_start(object, &mut story.calls, &words, line);
+    }
+    if is_same_word(verb, b"end") {
+        return hear_end(alloc, object, story, &words, line);
+    }
+    Ok(())
 }
 
 /// What the lines of a text before the one of this number tell.
