@@ -4,7 +4,7 @@ use crate::called::{misfit_of, operation_named, unknown};
 use crate::finding::{Both, Diagnostic, NO_PIECE, Piece};
 use crate::reply::{call_of, of_call, of_number};
 use crate::rules::{
-    DATA, FORM, FirstWords, NOTHING, NUMBER, Rules, SESSION, Want, WordRule, told_of, wrong_in,
+    DATA, FORM, FirstWords, NOTHING, NUMBER, SESSION, Want, WordRule, WordRules, told_of, wrong_in,
 };
 use crate::story::{FaultyLine, value_of};
 use decl_core::object::{Operation, Part};
@@ -63,7 +63,7 @@ const CAUSE: WordRule = WordRule(
     "it is `device`, `memory` or `damaged`",
 );
 
-const START: Rules = &[
+const START: WordRules = &[
     (1, NUMBER),
     (1, KNOWN_NUMBER),
     (2, SESSION),
@@ -72,7 +72,7 @@ const START: Rules = &[
     (4, DATA),
 ];
 
-const DONE: Rules = &[
+const DONE: WordRules = &[
     (1, NUMBER),
     (1, KNOWN_NUMBER),
     (2, ENDING),
@@ -80,11 +80,11 @@ const DONE: Rules = &[
     (4, NOTHING),
 ];
 
-const REFUSED: Rules = &[(1, NUMBER), (1, KNOWN_NUMBER), (3, REFUSAL), (4, NOTHING)];
+const REFUSED: WordRules = &[(1, NUMBER), (1, KNOWN_NUMBER), (3, REFUSAL), (4, NOTHING)];
 
-const FAILED: Rules = &[(1, NUMBER), (1, KNOWN_NUMBER), (3, CAUSE), (4, NOTHING)];
+const FAILED: WordRules = &[(1, NUMBER), (1, KNOWN_NUMBER), (3, CAUSE), (4, NOTHING)];
 
-const PART: Rules = &[(3, NOTHING)];
+const PART: WordRules = &[(3, NOTHING)];
 
 const END_FORM: &str =
     "`end N done`, `end N done VALUE`, `end N refused WORD` or `end N failed CAUSE`";
@@ -212,7 +212,7 @@ fn wrong_start<'a>(faulty: FaultyLine<'a>) -> Both<'a> {
 }
 
 // What the words of a line `end` have to be, by how it says that the call ended; of any other line nothing is asked.
-fn rules_of(words: &LineWords<'_>) -> Rules {
+fn rules_of(words: &LineWords<'_>) -> WordRules {
     if !is_same_word(words.bare(0), b"end") {
         return &[];
     }

@@ -3,7 +3,7 @@
 use crate::called::operation_named;
 use crate::finding::{Both, Diagnostic, NO_PIECE, Piece};
 use crate::rules::{
-    DATA, FORM, FirstWords, NOTHING, NUMBER, Rules, SESSION, Want, WordRule, told_of, wrong_in,
+    DATA, FORM, FirstWords, NOTHING, NUMBER, SESSION, Want, WordRule, WordRules, told_of, wrong_in,
 };
 use decl_core::object::Object;
 use note_core::alike::are_alike;
@@ -17,7 +17,7 @@ use word_core::number::session_of;
 pub(crate) struct Verb {
     word: &'static str,
     form: &'static str,
-    pub rules: Rules,
+    pub rules: WordRules,
 }
 
 const NAME: WordRule = WordRule(
@@ -55,23 +55,23 @@ const OUTCOME: WordRule = WordRule(
 const STEPS: &str =
     "`step N ok` makes one step of call N, in `step N fail` its device fails; `steps N` makes all that are left";
 
-const CALLS: Rules = &[(1, SESSION), (2, NAME), (3, DATA)];
+const CALLS: WordRules = &[(1, SESSION), (2, NAME), (3, DATA)];
 
-const KEYED: Rules = &[(1, SESSION), (2, KEY), (3, NAME), (4, DATA)];
+const KEYED: WordRules = &[(1, SESSION), (2, KEY), (3, NAME), (4, DATA)];
 
-const DOES: Rules = &[(1, SESSION), (2, NO_KEY), (2, NAME), (3, DATA)];
+const DOES: WordRules = &[(1, SESSION), (2, NO_KEY), (2, NAME), (3, DATA)];
 
-const STEP: Rules = &[(1, NUMBER), (2, OUTCOME), (3, NOTHING)];
+const STEP: WordRules = &[(1, NUMBER), (2, OUTCOME), (3, NOTHING)];
 
-const OF_CALL: Rules = &[(1, NUMBER), (2, NOTHING)];
+const OF_CALL: WordRules = &[(1, NUMBER), (2, NOTHING)];
 
-const OF_SESSION: Rules = &[(1, SESSION), (2, NOTHING)];
+const OF_SESSION: WordRules = &[(1, SESSION), (2, NOTHING)];
 
-const ALONE: Rules = &[(1, NOTHING)];
+const ALONE: WordRules = &[(1, NOTHING)];
 
 const CALL_FORM: &str = "`call sK OP ARG ..`, as in `call s1 put 7`";
 
-const VERBS: &[(&str, &str, Rules)] = &[
+const VERBS: &[(&str, &str, WordRules)] = &[
     ("call", CALL_FORM, CALLS),
     ("do", "`do sK OP ARG ..`, as in `do s1 put 7`", DOES),
     (

@@ -49,8 +49,8 @@ pub(crate) struct WordRule(
     pub &'static str,
 );
 
-/// Rules for the words of a line, by their numbers; the first one that is broken is told.
-pub(crate) type Rules = &'static [(usize, WordRule)];
+/// WordRules for the words of a line, by their numbers; the first one that is broken is told.
+pub(crate) type WordRules = &'static [(usize, WordRule)];
 
 /// First words of lines, with a space between two, and what is said of each, and helps.
 pub(crate) type FirstWords = &'static [(&'static str, &'static str, &'static str)];
@@ -161,7 +161,7 @@ fn broken(words: &LineWords<'_>, number: usize, rule: WordRule) -> Option<(Span,
 pub(crate) fn wrong_in<'a>(
     words: &LineWords<'a>,
     form: &'static str,
-    rules: Rules,
+    rules: WordRules,
 ) -> Option<Diagnostic<'a>> {
     for (number, rule) in rules {
         if let Some((span, said)) = broken(words, *number, *rule) {
