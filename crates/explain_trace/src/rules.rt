@@ -49,7 +49,7 @@ pub(crate) struct WordRule(
     pub &'static str,
 );
 
-/// WordRules for the words of a line, by their numbers; the first one that is broken is told.
+/// Rules for the words of a line, by their numbers; the first one that is broken is told.
 pub(crate) type WordRules = &'static [(usize, WordRule)];
 
 /// First words of lines, with a space between two, and what is said of each, and helps.
