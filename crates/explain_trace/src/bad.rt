@@ -1,31 +1,110 @@
 //! Lines that are none of a trace, or have no place where they stand.
 
-use crate::reply::{call_of, number_in, operation_name, push_numbered};
-use crate::story::{FaultyLine, MOST_CALLS, Story, bytes_of, operation_named, value_of};
-use apply_core::fits::arguments_fit;
-use decl_core::object::{Object, Operation, Part};
-use note_core::alike::are_alike;
-use note_core::finding::{
-    Diagnostic, only, push_finding, shown, surplus, two, wrong_call, wrong_data, wrong_name,
-    wrong_session, wrong_word,
+use crate::called::{misfit_of, operation_named, unknown};
+use crate::finding::{Both, Diagnostic, NO_PIECE, Piece};
+use crate::reply::{call_of, of_call, of_number};
+use crate::rules::{
+    DATA, FORM, FirstWords, NOTHING, NUMBER, SESSION, Want, WordRule, WordRules, told_of, wrong_in,
 };
+use crate::story::{FaultyLine, value_of};
+use decl_core::object::{Operation, Part};
 use note_core::line_words::LineWords;
-use note_core::page::{Page, push_help, push_note};
 use note_core::said::{Message, say};
-use note_core::span::text_at;
+use note_core::span::Span;
 use std::alloc::{AllocError, Global};
 use text_core::words::is_same_word;
-use value_core::datum::Datum;
 use value_core::kind::{Elem, Kind};
-use word_core::number::{integer_of, session_of};
-use word_core::word::Word;
-use word_core::words::{data_of, words_of};
 
-const PART_FORM: &str =
-    "the line is `part NAME HEX`, as `pathserve run` writes it for the line `trace`";
+const KNOWN_NUMBER: WordRule = WordRule(
+    Want::KnownNumber,
+    "",
+    "",
+    "`%` cannot be the number of a call",
+    "calls are numbered from 1 to 65536",
+);
+
+const KNOWN_SESSION: WordRule = WordRule(
+    Want::KnownSession,
+    "",
+    "",
+    "there is no session `%`",
+    "sessions are s1 to s1024",
+);
+
+const BARE: WordRule = WordRule(
+    Want::Bare,
+    "the name of an operation is missing here",
+    "after the session come an operation and its arguments, as in `s1 put 7`",
+    "`%` cannot be the name of an operation",
+    "a name is a letter, and then letters, digits and `_`, at most 64 bytes",
+);
+
+const ENDING: WordRule = WordRule(
+    Want::OneOf("done refused failed"),
+    "how the call ended is missing here",
+    FORM,
+    "a call does not end by `%`",
+    FORM,
+);
+
+const REFUSAL: WordRule = WordRule(
+    Want::Refusal,
+    "the word of the refusal is missing here",
+    FORM,
+    "`%` is not a word to refuse by",
+    "it has 1 to 16 lower-case letters",
+);
+
+const CAUSE: WordRule = WordRule(
+    Want::OneOf("device memory damaged"),
+    "the cause of the failure is missing here",
+    "it is `device`, `memory` or `damaged`",
+    "`%` is not a cause of a failure",
+    "it is `device`, `memory` or `damaged`",
+);
+
+const START: WordRules = &[
+    (1, NUMBER),
+    (1, KNOWN_NUMBER),
+    (2, SESSION),
+    (2, KNOWN_SESSION),
+    (3, BARE),
+    (4, DATA),
+];
+
+const DONE: WordRules = &[
+    (1, NUMBER),
+    (1, KNOWN_NUMBER),
+    (2, ENDING),
+    (3, DATA),
+    (4, NOTHING),
+];
+
+const REFUSED: WordRules = &[(1, NUMBER), (1, KNOWN_NUMBER), (3, REFUSAL), (4, NOTHING)];
+
+const FAILED: WordRules = &[(1, NUMBER), (1, KNOWN_NUMBER), (3, CAUSE), (4, NOTHING)];
+
+const PART: WordRules = &[(3, NOTHING)];
 
 const END_FORM: &str =
-    "the line is `end N done`, `end N done VALUE`, `end N refused WORD` or `end N failed CAUSE`";
+    "`end N done`, `end N done VALUE`, `end N refused WORD` or `end N failed CAUSE`";
+
+const PART_FORM: &str = "`part NAME HEX`, as `pathserve run` writes it for the line `trace`";
+
+const LINES: &str = "after the parts come the lines `start N sK OP ARG ..` and `end N ..` alone";
+
+const OF_OTHER_LINES: FirstWords = &[
+    (
+        "object",
+        "line 1 alone names an object",
+        "a trace is of one object, and begins once: each trace is a file of its own",
+    ),
+    (
+        "part",
+        "all parts have had their line",
+        "after the parts come the lines `start` and `end` alone",
+    ),
+];
 
 // The word of a kind.
 fn kind_word(kind: Kind) -> &'static [u8] {
@@ -39,426 +118,141 @@ fn kind_word(kind: Kind) -> &'static [u8] {
     }
 }
 
-// Adds what is wrong with the bytes of a part.
-fn push_wrong_bytes(
-    alloc: Global,
-    out: &mut Vec<u8>,
-    page: Page<'_>,
-    part: &Part,
-    words: &LineWords<'_>,
-) -> Result<(), AllocError> {
-    let word = words.bare(2);
-    let named = two(part.name.as_bytes(), kind_word(part.kind));
-    if bytes_of(alloc, word)?.is_none() {
-        push_note(
-            out,
-            page,
-            words.span(2),
-            "these are not bytes in hexadecimal",
-            named,
-        )?;
-        return push_help(
-            out,
-            "a byte is two digits of 0 to 9 and a to f, with nothing between bytes",
-            named,
-        );
+// Where a line is none of this part by the words in front of its bytes, and what is said there.
+fn wrong_front(part: &Part, words: &LineWords<'_>) -> Option<(Span, Message)> {
+    if words.line.start == words.text.len() {
+        let said = say("the trace ends before the line of part `%`", FORM);
+        return Some((words.line, said));
     }
-    if value_of(alloc, part, word)?.is_none() {
-        push_note(
-            out,
-            page,
-            words.span(2),
-            "these bytes are not a value of `%`, which is: $",
-            named,
-        )?;
-        return push_help(out, "docs/FORMATS.md has the bytes of values", named);
-    }
-    push_note(
-        out,
-        page,
-        words.span(2),
-        "the digits a to f have to be lower-case letters",
-        named,
-    )
-}
-
-// Adds what is wrong with a line where the one of this part is due.
-fn push_wrong_part(
-    alloc: Global,
-    out: &mut Vec<u8>,
-    page: Page<'_>,
-    part: &Part,
-    words: &LineWords<'_>,
-) -> Result<(), AllocError> {
-    let named = only(part.name.as_bytes());
     if !is_same_word(words.bare(0), b"part") {
-        push_note(
-            out,
-            page,
-            words.line,
+        let said = say(
             "here the line of part `%` has to stand",
-            named,
-        )?;
-        return push_help(
-            out,
             "after line 1 each part has a line `part NAME HEX`, in the order of their declaration",
-            named,
         );
+        return Some((words.line, said));
     }
-    if words.bare(1) != part.name.as_bytes() {
-        push_note(out, page, words.span(1), "here part `%` is due", named)?;
-        return push_help(
-            out,
+    if !is_same_word(words.bare(1), part.name.as_bytes()) {
+        let said = say(
+            "here part `%` is due",
             "each part has one line, in the order of their declaration, by its name in lower case",
-            named,
         );
+        return Some((words.span(1), said));
     }
     if words.at(2).is_none() {
-        push_note(
-            out,
-            page,
-            words.span(2),
-            "the bytes of part `%` are missing",
-            named,
-        )?;
-        return push_help(out, PART_FORM, named);
-    }
-    match surplus(words, 3, PART_FORM) {
-        Some(found) => push_finding(alloc, out, page, found),
-        None => push_wrong_bytes(alloc, out, page, part, words),
-    }
-}
-
-// What is said of a number that no call may have.
-fn no_number() -> Message {
-    say(
-        "`%` cannot be the number of a call",
-        "calls are numbered from 1 to 65536",
-    )
-}
-
-// What is wrong with the words of a start up to its arguments, where that is seen by them alone.
-fn wrong_start(words: &LineWords<'_>) -> Option<Diagnostic> {
-    if let Some(found) = wrong_call(words, 1) {
-        return Some(found);
-    }
-    if number_in(words) == 0 || number_in(words) > MOST_CALLS {
-        return Some(Diagnostic {
-            span: words.span(1),
-            said: no_number(),
-        });
-    }
-    if let Some(found) = wrong_session(words, 2) {
-        return Some(found);
-    }
-    let session = session_of(words.bare(2)).unwrap_or(0);
-    if session == 0 || session > MOST_SESSIONS {
-        return Some(Diagnostic {
-            span: words.span(2),
-            said: say("there is no session `%`", "sessions are s1 to s1024"),
-        });
-    }
-    if let Some(found) = wrong_name(words, 3, !words.bare(3).is_empty()) {
-        return Some(found);
+        let said = say("the bytes of part `%` are missing", FORM);
+        return Some((words.span(2), said));
     }
     None
 }
 
-// The most sessions of a trace.
-const MOST_SESSIONS: u32 = 1_024;
+// What is said of a word that has to be the bytes of a part as `pathserve run` writes them, and is not.
+fn of_bytes(alloc: Global, part: &Part, word: &[u8]) -> Result<Message, AllocError> {
+    match value_of(alloc, part, word)? {
+        Ok(_) => Ok(say("the digits a to f have to be lower-case letters", "")),
+        Err(said) => Ok(said),
+    }
+}
 
-// Adds that an object has no operation of the name in a start.
-fn push_unknown(
+// What is found where the line of a part is wrong: `%` stands for the part, `@` for what it holds.
+fn of_part<'a>(part: &'a Part, span: Span, said: Message) -> Diagnostic<'a> {
+    let form = Piece::Bytes(PART_FORM.as_bytes());
+    let kind = Piece::Bytes(kind_word(part.kind));
+    Diagnostic::at(Some(span), said, part.name.as_bytes()).with(form, kind)
+}
+
+// What is wrong with a line where the one of this part is due.
+fn wrong_part<'a>(
     alloc: Global,
-    out: &mut Vec<u8>,
-    page: Page<'_>,
-    object: &Object,
-    words: &LineWords<'_>,
-) -> Result<(), AllocError> {
-    let name = words.bare(3);
-    let written = shown(alloc, name)?;
-    let said = two(&written, object.name.as_bytes());
-    push_note(
-        out,
-        page,
-        words.span(3),
-        "there is no operation `%` in object `$`",
-        said,
-    )?;
-    match object
-        .operations
-        .iter()
-        .find(|operation| are_alike(operation.name.as_bytes(), name))
-    {
-        Some(operation) => push_help(out, "is `%` meant?", only(operation.name.as_bytes())),
-        None => Ok(()),
+    part: &'a Part,
+    words: &LineWords<'a>,
+) -> Result<Diagnostic<'a>, AllocError> {
+    if let Some((span, said)) = wrong_front(part, words) {
+        return Ok(of_part(part, span, said));
     }
+    if let Some(found) = wrong_in(words, PART_FORM, PART) {
+        return Ok(found);
+    }
+    let said = of_bytes(alloc, part, words.bare(2))?;
+    Ok(of_part(part, words.span(2), said))
 }
 
-// The word of what an argument is.
-fn elem_word(elem: Elem) -> &'static [u8] {
-    match elem {
-        Elem::Integer => b"integer",
-        Elem::Text => b"text",
+// What is wrong with the arguments of a start, which are integers and texts.
+fn other_arguments<'a>(operation: &'a Operation, words: &LineWords<'a>) -> Option<Diagnostic<'a>> {
+    if misfit_of(operation, words, 4).is_none() {
+        return None;
     }
-}
-
-// What an operation takes, as it is declared.
-fn parameters_of(alloc: Global, operation: &Operation) -> Result<Vec<u8>, AllocError> {
-    let mut text = Vec::new(alloc);
-    for param in operation.params.iter() {
-        if !text.is_empty() {
-            text.extend_from_slice(b"; ")?;
-        }
-        text.extend_from_slice(param.name.as_bytes())?;
-        text.extend_from_slice(b" : ")?;
-        text.extend_from_slice(elem_word(param.kind))?;
-    }
-    Ok(text)
-}
-
-// The words from the one of this number on.
-fn words_from<'a, 'b>(words: &'b [Word<'a>], count: usize) -> &'b [Word<'a>] {
-    if count < words.len() {
-        &words[count..]
+    let help = if operation.params.is_empty() {
+        "`%` has no parameters"
     } else {
-        &[]
-    }
+        "`%` is declared with $"
+    };
+    let said = say("`%` takes other arguments", help);
+    let found = Diagnostic::at(Some(words.span_from(3)), said, operation.name.as_bytes());
+    Some(found.with(Piece::Params(operation), NO_PIECE))
 }
 
-// The arguments of a start.
-fn arguments_in(alloc: Global, words: &LineWords<'_>) -> Result<Vec<Datum>, AllocError> {
-    match words_of(alloc, text_at(words.text, words.line))? {
-        Some(all) => match data_of(alloc, words_from(&all, 4))? {
-            Some(data) => Ok(data),
-            None => Ok(Vec::new(alloc)),
-        },
-        None => Ok(Vec::new(alloc)),
+// What is wrong with a line `start`.
+fn wrong_start<'a>(faulty: FaultyLine<'a>) -> Both<'a> {
+    let words = faulty.words;
+    if let Some(found) = wrong_in(words, "", START) {
+        return (Some(found), None);
     }
-}
-
-// Adds what is wrong with the arguments of a start, which are integers and texts.
-fn push_wrong_arguments(
-    alloc: Global,
-    out: &mut Vec<u8>,
-    page: Page<'_>,
-    operation: &Operation,
-    words: &LineWords<'_>,
-) -> Result<(), AllocError> {
-    let arguments = arguments_in(alloc, words)?;
-    if arguments_fit(operation, &arguments) {
-        return Ok(());
-    }
-    let text = parameters_of(alloc, operation)?;
-    let named = two(operation.name.as_bytes(), &text);
-    push_note(
-        out,
-        page,
-        words.span_from(3),
-        "`%` takes other arguments",
-        named,
-    )?;
-    if text.is_empty() {
-        push_help(out, "`%` has no parameters", named)
-    } else {
-        push_help(out, "`%` is declared with ($)", named)
-    }
-}
-
-// Adds what is wrong with a line `start`.
-fn push_wrong_start(
-    alloc: Global,
-    out: &mut Vec<u8>,
-    page: Page<'_>,
-    object: &Object,
-    story: &Story,
-    words: &LineWords<'_>,
-) -> Result<(), AllocError> {
-    if let Some(found) = wrong_start(words) {
-        return push_finding(alloc, out, page, found);
-    }
-    if let Some(found) = wrong_data(words, 4) {
-        return push_finding(alloc, out, page, found);
-    }
-    if let Some(call) = call_of(story, number_in(words)) {
-        let written = only(words.bare(1));
-        push_note(
-            out,
-            page,
-            words.span(1),
-            "there is a call % already",
-            written,
-        )?;
-        let name = operation_name(object, call.operation);
-        return push_numbered(
-            out,
-            page,
-            call.started,
-            "this `%` started here, in line $",
-            name,
-            call.started.number,
+    if let Some(call) = call_of(faulty) {
+        let found = of_number(words, "there is a call % already", "");
+        let sentence = "this `%` started here, in line $";
+        return (
+            Some(found),
+            Some(of_call(faulty, call, call.started, sentence)),
         );
     }
-    match operation_named(object, words.bare(3)) {
-        None => push_unknown(alloc, out, page, object, words),
-        Some(place) => match object.operations.get(place) {
-            Some(operation) => push_wrong_arguments(alloc, out, page, operation, words),
-            None => Ok(()),
-        },
+    match operation_named(faulty.object, words.bare(3)) {
+        Some((_, operation)) => (other_arguments(operation, words), None),
+        None => unknown(faulty.object, words, 3, ""),
     }
 }
 
-// Whether a word can be one by which a call was refused.
-fn is_refusal(word: &[u8]) -> bool {
-    !word.is_empty() && word.len() <= 16 && word.iter().all(|byte| byte.is_ascii_lowercase())
+// What the words of a line `end` have to be, by how it says that the call ended; of any other line nothing is asked.
+fn rules_of(words: &LineWords<'_>) -> WordRules {
+    if !is_same_word(words.bare(0), b"end") {
+        return &[];
+    }
+    if is_same_word(words.bare(2), b"refused") {
+        return REFUSED;
+    }
+    if is_same_word(words.bare(2), b"failed") {
+        return FAILED;
+    }
+    DONE
 }
 
-// Whether a word can be the cause of a failure.
-fn is_cause(word: &[u8]) -> bool {
-    is_same_word(word, b"device") || is_same_word(word, b"memory") || is_same_word(word, b"damaged")
-}
-
-// What is wrong with the words of a reply.
-fn wrong_ending(words: &LineWords<'_>) -> Option<Diagnostic> {
-    let verb = words.bare(2);
-    let is_done = is_same_word(verb, b"done");
-    let is_refused = is_same_word(verb, b"refused");
-    let is_right = is_done || is_refused || is_same_word(verb, b"failed");
-    let missing = say("how the call ended is missing here", END_FORM);
-    let wrong = say("a call does not end by `%`", END_FORM);
-    if let Some(found) = wrong_word(words, 2, is_right, missing, wrong) {
-        return Some(found);
-    }
-    if is_done {
-        return match wrong_data(words, 3) {
-            Some(found) => Some(found),
-            None => surplus(words, 4, END_FORM),
-        };
-    }
-    let named = if is_refused {
-        wrong_word(
-            words,
-            3,
-            is_refusal(words.bare(3)),
-            say("the word of the refusal is missing here", END_FORM),
-            say(
-                "`%` is not a word to refuse by",
-                "it has 1 to 16 lower-case letters",
-            ),
-        )
-    } else {
-        wrong_word(
-            words,
-            3,
-            is_cause(words.bare(3)),
-            say(
-                "the cause of the failure is missing here",
-                "it is `device`, `memory` or `damaged`",
-            ),
-            say(
-                "`%` is not a cause of a failure",
-                "it is `device`, `memory` or `damaged`",
-            ),
-        )
-    };
-    match named {
-        Some(found) => Some(found),
-        None => surplus(words, 4, END_FORM),
-    }
-}
-
-// What is wrong with a line `end`.
-fn wrong_end(words: &LineWords<'_>) -> Option<Diagnostic> {
-    if let Some(found) = wrong_call(words, 1) {
-        return Some(found);
-    }
-    let number = integer_of(words.bare(1)).unwrap_or(0);
-    if number == 0 || number > MOST_CALLS {
-        return Some(Diagnostic {
-            span: words.span(1),
-            said: no_number(),
-        });
-    }
-    wrong_ending(words)
-}
-
-// What is said of a line that begins with another word.
+// What is said of a line behind those of the parts that begins with another word.
 fn of_first_word(words: &LineWords<'_>) -> Message {
-    let word = words.bare(0);
-    if is_same_word(word, b"object") {
-        return say(
-            "line 1 alone names an object",
-            "a trace is of one object, and begins once: each trace is a file of its own",
-        );
+    match told_of(OF_OTHER_LINES, words.bare(0)) {
+        Some(said) => said,
+        None if words.line.start == words.line.end => say("a trace has no empty lines", LINES),
+        None => say("no line of a trace begins with `%`", LINES),
     }
-    if is_same_word(word, b"part") {
-        return say(
-            "all parts have had their line",
-            "after the parts come the lines `start` and `end` alone",
-        );
-    }
-    if words.line.start == words.line.end {
-        return say(
-            "a trace has no empty lines",
-            "after the parts come the lines `start N sK OP ARG ..` and `end N ..` alone",
-        );
-    }
-    say(
-        "no line of a trace begins with `%`",
-        "after the parts come the lines `start N sK OP ARG ..` and `end N ..` alone",
-    )
 }
 
-// What is wrong with the first line, which names the object.
-fn of_line_one() -> Message {
-    say("line 1 is `object NAME` alone", "as in `object cell`")
-}
-
-/// Adds why a line has no place in a trace, behind lines that told this.
-pub(crate) fn push_bad(
-    alloc: Global,
-    out: &mut Vec<u8>,
-    faulty: FaultyLine<'_>,
-) -> Result<(), AllocError> {
-    let FaultyLine {
-        page,
-        object,
-        story,
-        words,
-        number,
-    } = faulty;
-    let whole = Diagnostic {
-        span: words.line,
-        said: of_line_one(),
-    };
-    if number == 1 {
-        return push_finding(alloc, out, page, whole);
+/// Why a line has no place in a trace, behind lines that told this.
+pub(crate) fn bad_line<'a>(alloc: Global, faulty: FaultyLine<'a>) -> Result<Both<'a>, AllocError> {
+    let words = faulty.words;
+    if faulty.number == 1 {
+        let said = say("line 1 is `object NAME` alone", "as in `object cell`");
+        return Ok((Some(Diagnostic::there(words, words.line, said)), None));
     }
-    if let Some(part) = object.parts.get(story.values.len()) {
-        if words.line.start == page.source.len() {
-            let named = only(part.name.as_bytes());
-            push_note(
-                out,
-                page,
-                words.line,
-                "the trace ends before the line of part `%`",
-                named,
-            )?;
-            return push_help(out, PART_FORM, named);
-        }
-        return push_wrong_part(alloc, out, page, part, words);
+    if let Some(part) = faulty.object.parts.get(faulty.story.values.len()) {
+        let found = wrong_part(alloc, part, words)?;
+        return Ok((Some(found), None));
     }
     if is_same_word(words.bare(0), b"start") {
-        return push_wrong_start(alloc, out, page, object, story, words);
+        return Ok(wrong_start(faulty));
     }
-    if is_same_word(words.bare(0), b"end") {
-        if let Some(found) = wrong_end(words) {
-            return push_finding(alloc, out, page, found);
-        }
+    match wrong_in(words, END_FORM, rules_of(words)) {
+        Some(found) => Ok((Some(found), None)),
+        None => Ok((
+            Some(Diagnostic::there(words, words.span(0), of_first_word(words))),
+            None,
+        )),
     }
-    let first = Diagnostic {
-        span: words.span(0),
-        said: of_first_word(words),
-    };
-    push_finding(alloc, out, page, first)
 }

@@ -1,157 +1,154 @@
 //! Lines of scripts: what is wrong with one that says nothing.
 
-use crate::verb::{Verb, verb_like, verb_of};
-use decl_core::object::Object;
-use note_core::finding::{
-    Diagnostic, surplus, wrong_call, wrong_data, wrong_name, wrong_session, wrong_word,
+use crate::called::operation_named;
+use crate::finding::{Both, Diagnostic, NO_PIECE, Piece};
+use crate::rules::{
+    DATA, FORM, FirstWords, NOTHING, NUMBER, SESSION, Want, WordRule, WordRules, told_of, wrong_in,
 };
+use decl_core::object::Object;
+use note_core::alike::are_alike;
 use note_core::line_words::LineWords;
 use note_core::said::{Message, say};
-use path_tree::name::is_identifier;
 use text_core::words::is_same_word;
-use word_core::number::{integer_of, session_of};
+use word_core::number::session_of;
 
-// What is wrong with a line that begins with `call`.
-fn wrong_call_line(words: &LineWords<'_>) -> Option<Diagnostic> {
-    if let Some(found) = wrong_session(words, 1) {
-        return Some(found);
-    }
-    let Some(key) = words.bare(2).strip_prefix(b"#") else {
-        return wrong_operation(words, 2);
-    };
-    if let Some(found) = wrong_key(words, integer_of(key).is_some()) {
-        return Some(found);
-    }
-    wrong_operation(words, 3)
+/// A kind of line: its first word, its form, as it is told, and what its words have to be.
+#[derive(Clone, Copy)]
+pub(crate) struct Verb {
+    word: &'static str,
+    form: &'static str,
+    pub rules: WordRules,
 }
 
-// What is wrong with the key of a call, which begins with `#`.
-fn wrong_key(words: &LineWords<'_>, is_right: bool) -> Option<Diagnostic> {
-    let wrong = say(
-        "`%` is not the key of a call",
-        "a key is `#` and a number: `#1` for the first call of the session, `#2` for its second one and so on",
-    );
-    wrong_word(words, 2, is_right, wrong, wrong)
-}
+const NAME: WordRule = WordRule(
+    Want::Name,
+    "the name of an operation is missing here",
+    "after the session come an operation and its arguments, as in `s1 put 7`",
+    "`%` cannot be the name of an operation",
+    "a name is a letter, and then letters, digits and `_`, at most 64 bytes",
+);
 
-// What is wrong with a line that begins with `do`.
-fn wrong_do_line(words: &LineWords<'_>) -> Option<Diagnostic> {
-    if let Some(found) = wrong_session(words, 1) {
-        return Some(found);
-    }
-    let no_key = say(
-        "`do` takes no key, and `%` is one",
-        "a call under a key is `call sK #J OP ARG ..`; `steps N` and `finish N` bring it to its end",
-    );
-    if words.bare(2).starts_with(b"#") {
-        return wrong_word(words, 2, false, no_key, no_key);
-    }
-    wrong_operation(words, 2)
-}
+const KEY: WordRule = WordRule(
+    Want::Key,
+    "",
+    "",
+    "`%` is not the key of a call",
+    "a key is `#` and a number: `#1` for the first call of the session, `#2` for its second one and so on",
+);
 
-// What is wrong with an operation, which is the word of this number, and its arguments.
-fn wrong_operation(words: &LineWords<'_>, number: usize) -> Option<Diagnostic> {
-    if let Some(found) = wrong_name(words, number, is_identifier(words.bare(number))) {
-        return Some(found);
-    }
-    wrong_data(words, number.saturating_add(1))
-}
+const NO_KEY: WordRule = WordRule(
+    Want::NoKey,
+    "",
+    "",
+    "`do` takes no key, and `%` is one",
+    "a call under a key is `call sK #J OP ARG ..`; `steps N` and `finish N` bring it to its end",
+);
 
-// What is wrong with a line that begins with `step`.
-fn wrong_step_line(words: &LineWords<'_>) -> Option<Diagnostic> {
-    if let Some(found) = wrong_call(words, 1) {
-        return Some(found);
-    }
-    let went = words.bare(2);
-    let is_right = is_same_word(went, b"ok") || is_same_word(went, b"fail");
-    let missing = say(
-        "`ok` or `fail` is missing here",
-        "`step N ok` makes one step of call N, in `step N fail` its device fails; `steps N` makes all that are left",
-    );
-    let wrong = say(
-        "`%` is neither `ok` nor `fail`",
-        "`step N ok` makes one step of call N, in `step N fail` its device fails; `steps N` makes all that are left",
-    );
-    if let Some(found) = wrong_word(words, 2, is_right, missing, wrong) {
-        return Some(found);
-    }
-    surplus(words, 3, Verb::Step.form())
-}
+const OUTCOME: WordRule = WordRule(
+    Want::OneOf("ok fail"),
+    "`ok` or `fail` is missing here",
+    STEPS,
+    "`%` is neither `ok` nor `fail`",
+    STEPS,
+);
 
-// What is wrong with a line that begins with this verb.
-fn wrong_line(verb: Verb, words: &LineWords<'_>) -> Option<Diagnostic> {
-    match verb {
-        Verb::Call => wrong_call_line(words),
-        Verb::Do => wrong_do_line(words),
-        Verb::Step => wrong_step_line(words),
-        Verb::Steps | Verb::Finish | Verb::Cancel | Verb::Why => match wrong_call(words, 1) {
-            Some(found) => Some(found),
-            None => surplus(words, 2, verb.form()),
-        },
-        Verb::Drop | Verb::Resume => match wrong_session(words, 1) {
-            Some(found) => Some(found),
-            None => surplus(words, 2, verb.form()),
-        },
-        Verb::Show | Verb::Trace | Verb::Who | Verb::List => surplus(words, 1, verb.form()),
-    }
-}
+const STEPS: &str =
+    "`step N ok` makes one step of call N, in `step N fail` its device fails; `steps N` makes all that are left";
 
-// What is said of a first word that begins lines of other texts.
-fn of_other_text(word: &[u8]) -> Option<Message> {
-    if is_same_word(word, b"object") {
-        return Some(say(
-            "line 1 alone names an object",
-            "a script runs on one object: write a second script for another one",
-        ));
-    }
-    if is_same_word(word, b"start") || is_same_word(word, b"end") || is_same_word(word, b"part") {
-        return Some(say(
-            "`%` begins a line of a trace, not of a script",
-            "`pathserve audit` reads traces; in a script a call is made by `call s1 put 7`, `steps 1` and `finish 1`",
-        ));
-    }
-    if is_same_word(word, b"open") || is_same_word(word, b"quit") {
-        return Some(say(
-            "`%` is a line for `pathserve serve`, not of a script",
-            "in a script line 1 names the object, `call s1 put 7` has session 1 call, and `drop s1` has it leave",
-        ));
-    }
-    of_answer(word)
-}
+const CALLS: WordRules = &[(1, SESSION), (2, NAME), (3, DATA)];
 
-// What is said of a first word that begins answers.
-fn of_answer(word: &[u8]) -> Option<Message> {
-    if is_same_word(word, b"started")
-        || is_same_word(word, b"done")
-        || is_same_word(word, b"refused")
-        || is_same_word(word, b"failed")
-        || is_same_word(word, b"repeat")
-        || is_same_word(word, b"no")
-        || is_same_word(word, b"bad")
-    {
-        return Some(say(
-            "`%` begins an answer, not a line of a script",
-            "a script has what is called; `pathserve run` writes the answers",
-        ));
+const KEYED: WordRules = &[(1, SESSION), (2, KEY), (3, NAME), (4, DATA)];
+
+const DOES: WordRules = &[(1, SESSION), (2, NO_KEY), (2, NAME), (3, DATA)];
+
+const STEP: WordRules = &[(1, NUMBER), (2, OUTCOME), (3, NOTHING)];
+
+const OF_CALL: WordRules = &[(1, NUMBER), (2, NOTHING)];
+
+const OF_SESSION: WordRules = &[(1, SESSION), (2, NOTHING)];
+
+const ALONE: WordRules = &[(1, NOTHING)];
+
+const CALL_FORM: &str = "`call sK OP ARG ..`, as in `call s1 put 7`";
+
+const VERBS: &[(&str, &str, WordRules)] = &[
+    ("call", CALL_FORM, CALLS),
+    ("do", "`do sK OP ARG ..`, as in `do s1 put 7`", DOES),
+    (
+        "step",
+        "`step N ok` or `step N fail`, as in `step 1 ok`",
+        STEP,
+    ),
+    ("steps", "`steps N`, as in `steps 1`", OF_CALL),
+    ("finish", "`finish N`, as in `finish 1`", OF_CALL),
+    ("cancel", "`cancel N`, as in `cancel 1`", OF_CALL),
+    ("drop", "`drop sK`, as in `drop s1`", OF_SESSION),
+    ("resume", "`resume sK`, as in `resume s1`", OF_SESSION),
+    ("show", "`show`, and nothing else", ALONE),
+    ("trace", "`trace`, and nothing else", ALONE),
+    ("why", "`why N`, as in `why 2`", OF_CALL),
+    ("who", "`who`, and nothing else", ALONE),
+    ("list", "`list`, and nothing else", ALONE),
+];
+
+const OF_OTHER_TEXTS: FirstWords = &[
+    (
+        "object",
+        "line 1 alone names an object",
+        "a script runs on one object: write a second script for another one",
+    ),
+    (
+        "start end part",
+        "`%` begins a line of a trace, not of a script",
+        "`pathserve audit` reads traces; in a script a call is made by `call s1 put 7`, `steps 1` and `finish 1`",
+    ),
+    (
+        "open quit",
+        "`%` is a line for `pathserve serve`, not of a script",
+        "in a script line 1 names the object, `call s1 put 7` has session 1 call, and `drop s1` has it leave",
+    ),
+    (
+        "started done refused failed repeat no bad",
+        "`%` begins an answer, not a line of a script",
+        "a script has what is called; `pathserve run` writes the answers",
+    ),
+];
+
+/// The kind of a line, by its words.
+pub(crate) fn verb_of(words: &LineWords<'_>) -> Option<Verb> {
+    for (word, form, rules) in VERBS {
+        if is_same_word(word.as_bytes(), words.bare(0)) {
+            let is_keyed = *word == "call" && words.bare(2).starts_with(b"#");
+            return Some(Verb {
+                word,
+                form,
+                rules: if is_keyed { KEYED } else { *rules },
+            });
+        }
     }
     None
 }
 
-// Whether an operation of the object has this name.
-fn is_operation(object: &Object, word: &[u8]) -> bool {
-    object
-        .operations
-        .iter()
-        .any(|operation| operation.name.is_spelled_by(word))
+// The kind of line whose first word this one is in another case, or differs from in one letter.
+fn verb_like(first: &[u8]) -> Option<Verb> {
+    for (word, form, rules) in VERBS {
+        let bytes = word.as_bytes();
+        if bytes.eq_ignore_ascii_case(first) || are_alike(bytes, first) {
+            return Some(Verb { word, form, rules });
+        }
+    }
+    None
 }
 
-// What is said of a line of no verb.
-fn of_first_word(words: &LineWords<'_>, object: &Object) -> Message {
-    let word = words.bare(0);
-    if let Some(said) = of_other_text(word) {
-        return said;
-    }
-    if is_operation(object, word) || session_of(word).is_some() {
+// The form of a line of this kind, behind this sentence.
+fn form_of<'a>(verb: Verb, said: Message) -> Diagnostic<'a> {
+    let form = Piece::Bytes(verb.form.as_bytes());
+    Diagnostic::at(None, said, verb.word.as_bytes()).with(form, NO_PIECE)
+}
+
+// What is said of a line that begins with no word that lines of scripts or of other texts begin with.
+fn of_first_word(word: &[u8], object: &Object) -> Message {
+    if operation_named(object, word).is_some() || session_of(word).is_some() {
         return say(
             "before `%` the word `call` is missing",
             "a line that calls is `call sK OP ARG ..`, as in `call s1 put 7`",
@@ -164,49 +161,23 @@ fn of_first_word(words: &LineWords<'_>, object: &Object) -> Message {
     )
 }
 
-/// The form of line that a line comes closest to.
-#[derive(Clone, Copy)]
-pub(crate) enum Closest {
-    /// None, or what is said has it.
-    Told,
-    /// That of its first word.
-    Same(Verb),
-    /// That of a word that its first one is almost.
-    Almost(Verb),
-}
-
-// The form that is to be told of a line of this verb: a step has two, which what is said of it has.
-fn form_told(verb: Verb, finding: Diagnostic) -> Closest {
-    if verb == Verb::Step || finding.said.help == verb.form() {
-        Closest::Told
-    } else {
-        Closest::Same(verb)
-    }
-}
-
 /// What is wrong with a line that says nothing that a script may say, and the form that it comes closest to.
-pub(crate) fn wrong_in_line(words: &LineWords<'_>, object: &Object) -> (Diagnostic, Closest) {
-    let first = Diagnostic {
-        span: words.span(0),
-        said: of_first_word(words, object),
-    };
-    match verb_of(words.bare(0)) {
-        Some(verb) => match wrong_line(verb, words) {
-            Some(found) => (found, form_told(verb, found)),
-            None => (first, Closest::Told),
-        },
-        None => match meant(words.bare(0)) {
-            Some(verb) => (first, Closest::Almost(verb)),
-            None => (first, Closest::Told),
-        },
+pub(crate) fn wrong_in_line<'a>(words: &LineWords<'a>, object: &Object) -> Both<'a> {
+    let word = words.bare(0);
+    if let Some(said) = told_of(OF_OTHER_TEXTS, word) {
+        return (Some(Diagnostic::there(words, words.span(0), said)), None);
     }
-}
-
-// The verb that is meant by a first word, unless that has a meaning elsewhere.
-fn meant(word: &[u8]) -> Option<Verb> {
-    if of_other_text(word).is_some() {
-        None
-    } else {
-        verb_like(word)
+    let first = Diagnostic::there(words, words.span(0), of_first_word(word, object));
+    let Some(verb) = verb_of(words) else {
+        return match verb_like(word) {
+            Some(verb) => (Some(first), Some(form_of(verb, say("is `%` meant?", FORM)))),
+            None => (Some(first), None),
+        };
+    };
+    match wrong_in(words, verb.form, verb.rules) {
+        // A step has two forms, which what is said of it has.
+        Some(found) if found.said.help == FORM || verb.word == "step" => (Some(found), None),
+        Some(found) => (Some(found), Some(form_of(verb, say(FORM, "")))),
+        None => (Some(first), None),
     }
 }

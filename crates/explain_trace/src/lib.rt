@@ -13,11 +13,12 @@
 mod bad;
 mod breach;
 mod called;
+mod finding;
 mod forms;
 pub mod listed;
 pub mod prompt;
 mod reply;
+mod rules;
 pub mod script;
 mod story;
 pub mod trace;
-mod verb;

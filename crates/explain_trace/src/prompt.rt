@@ -1,11 +1,11 @@
 //! What a person reads on standard error at a prompt: the prompt itself, and why a line is not taken.
 
-use crate::script::push_why;
+use crate::script::{line_at, push_why};
 use decl_core::analyse::Accepted;
+use note_core::span::{behind, front, text_at};
 use std::alloc::{AllocError, Global};
 use std::io::{self, Read, Write};
-use text_core::words::is_same_word;
-use text_core::{next_line, write_whole};
+use text_core::write_whole;
 use word_core::first::one_bare;
 
 /// What is told of the lines that are read.
@@ -32,15 +32,17 @@ pub struct Asking<R, E> {
     before: usize,
 }
 
-// How many bytes the lines have that came with their ends.
-fn whole_bytes(text: &[u8]) -> usize {
+// How many line ends there are, and how many bytes up to the last one.
+fn line_ends(text: &[u8]) -> (usize, usize) {
+    let mut count: usize = 0;
     let mut whole = 0;
     for (place, byte) in text.iter().enumerate() {
         if *byte == b'\n' {
+            count = count.saturating_add(1);
             whole = place.saturating_add(1);
         }
     }
-    whole
+    (count, whole)
 }
 
 // These bytes behind others, unless memory was refused.
@@ -52,35 +54,7 @@ fn with_more(held: Option<Vec<u8>>, bytes: &[u8]) -> Option<Vec<u8>> {
     }
 }
 
-// The bytes behind the first ones, unless memory was refused.
-fn rest_of(alloc: Global, text: &[u8], first: usize) -> Option<Vec<u8>> {
-    let mut rest = Vec::new(alloc);
-    match rest.extend_from_slice(&text[first.min(text.len())..]) {
-        Ok(()) => Some(rest),
-        Err(_) => None,
-    }
-}
-
-// Whether a line is the one that only a prompt has.
-fn is_help(line: &[u8]) -> bool {
-    match one_bare(line) {
-        Some(word) => is_same_word(word, b"help"),
-        None => false,
-    }
-}
-
-// How many line ends there are.
-fn line_ends(text: &[u8]) -> usize {
-    let mut count: usize = 0;
-    for byte in text {
-        if *byte == b'\n' {
-            count = count.saturating_add(1);
-        }
-    }
-    count
-}
-
-// What is told of lines, of which so many came before.
+// What is told of lines, of which so many came before: of each but `help`, which only a prompt has.
 fn told_of(
     alloc: Global,
     accepted: &Accepted,
@@ -88,17 +62,16 @@ fn told_of(
     before: usize,
 ) -> Result<Vec<u8>, AllocError> {
     let mut out = Vec::new(alloc);
-    let mut rest = lines;
-    let mut number = before;
-    for _ in 0..lines.len() {
-        let Some((line, behind)) = next_line(rest) else {
+    let mut place = 0;
+    for number in before..before.saturating_add(lines.len()) {
+        let Some((span, next)) = line_at(lines, place) else {
             break;
         };
-        if !is_help(line) {
-            push_why(alloc, &mut out, accepted.object(), number, line)?;
+        let line = text_at(lines, span);
+        if !matches!(one_bare(line), Some(b"help")) {
+            push_why(&mut out, accepted.object(), number, line)?;
         }
-        number = number.saturating_add(1);
-        rest = behind;
+        place = next;
     }
     Ok(out)
 }
@@ -139,29 +112,26 @@ impl<R: Read, E: Write> Asking<R, E> {
                 let _ = write_whole(&mut self.error, &text);
             }
         }
-        self.before = self.before.saturating_add(line_ends(lines));
+        let (count, _) = line_ends(lines);
+        self.before = self.before.saturating_add(count);
     }
 
     // Tells of the lines that have come with their ends. What is left has come of the next one.
     fn tell_whole(&mut self) {
         if let Some(held) = self.held.take() {
-            let whole = whole_bytes(&held).min(held.len());
-            self.tell(&held[..whole]);
-            self.held = rest_of(self.alloc, &held, whole);
+            let (_, whole) = line_ends(&held);
+            self.tell(front(&held, whole));
+            self.held = with_more(Some(Vec::new(self.alloc)), behind(&held, whole));
         }
     }
 
-    // Whether nothing has come of the next line.
-    fn is_at_line(&self) -> bool {
-        match &self.held {
-            Some(held) => held.is_empty(),
-            None => true,
-        }
-    }
-
-    // Asks for a line, by the name of the object.
+    // Asks for a line, by the name of the object, where nothing has come of it.
     fn ask(&mut self) {
-        if self.manner.asks && self.is_at_line() {
+        let is_within = match &self.held {
+            Some(held) => !held.is_empty(),
+            None => false,
+        };
+        if self.manner.asks && !is_within {
             let _ = write_whole(&mut self.error, self.accepted.object().name.as_bytes());
             let _ = write_whole(&mut self.error, b"> ");
         }

@@ -1,105 +1,53 @@
 //! Ends that tell another reply than the object gives, and ends of calls that do not run.
 
-use crate::story::{LineAt, MOST_CALLS, SeenCall, Story, reply_to};
+use crate::finding::{Both, Diagnostic, NO_PIECE, Piece, push, push_both};
+use crate::story::{FaultyLine, SeenCall, call_number, reply_to};
 use decl_core::footprint::{is_in, reads};
 use decl_core::id::MOST_PARTS;
-use decl_core::object::Object;
-use itoa::Buffer;
-use note_core::finding::{only, two};
 use note_core::line_words::LineWords;
-use note_core::page::{Page, push_help, push_note};
+use note_core::place::place_of;
+use note_core::said::say;
+use note_core::span::Span;
 use std::alloc::{AllocError, Global};
 use value_core::value::Value;
-use word_core::number::integer_of;
 use word_core::reply::push_reply;
-use word_core::show::push_value;
 
-// The most bytes of a value that are shown.
-const MOST_SHOWN: usize = 200;
+/// The call of the number that a faulty line has, where the lines before it told one.
+pub(crate) fn call_of(faulty: FaultyLine<'_>) -> Option<SeenCall> {
+    let number = call_number(faulty.words)?;
+    match faulty.story.calls.get(number) {
+        Some(call) => *call,
+        None => None,
+    }
+}
 
-/// The name of an operation, by its place.
-pub(crate) fn operation_name(object: &Object, place: usize) -> &[u8] {
-    match object.operations.get(place) {
+// The name of the operation of a call.
+fn name_of<'a>(faulty: FaultyLine<'a>, call: SeenCall) -> &'a [u8] {
+    match faulty.object.operations.get(call.operation) {
         Some(operation) => operation.name.as_bytes(),
         None => b"",
     }
 }
 
-/// Adds a note with a number in place of its `$`.
-pub(crate) fn push_numbered(
-    out: &mut Vec<u8>,
-    page: Page<'_>,
-    line: LineAt,
-    sentence: &str,
-    first: &[u8],
-    number: u64,
-) -> Result<(), AllocError> {
-    let mut buffer = Buffer::new();
-    let digits = buffer.format(number).as_bytes();
-    push_note(out, page, line.span, sentence, two(first, digits))
+/// A finding at a line of a call: `%` stands for its operation, `$` for the number of the line, `@` for its own.
+pub(crate) fn of_call<'a>(
+    faulty: FaultyLine<'a>,
+    call: SeenCall,
+    line: Span,
+    sentence: &'static str,
+) -> Diagnostic<'a> {
+    let number = place_of(faulty.page.source, line.start).line as u64;
+    let found = Diagnostic::at(Some(line), say(sentence, ""), name_of(faulty, call));
+    found.with(Piece::Number(number), Piece::Number(call.number))
 }
 
-/// Adds a help with a number in place of its `$`.
-pub(crate) fn push_counted(
-    out: &mut Vec<u8>,
-    help: &str,
-    first: &[u8],
-    number: u64,
-) -> Result<(), AllocError> {
-    let mut buffer = Buffer::new();
-    let digits = buffer.format(number).as_bytes();
-    push_help(out, help, two(first, digits))
-}
-
-// A value as it is shown, or its front.
-fn shown(alloc: Global, value: &Value) -> Result<Vec<u8>, AllocError> {
-    let mut text = Vec::new(alloc);
-    push_value(alloc, &mut text, value)?;
-    if text.len() > MOST_SHOWN {
-        text.truncate(MOST_SHOWN);
-        text.extend_from_slice(b" ..")?;
-    }
-    Ok(text)
-}
-
-// Adds what the parts that an operation names hold.
-fn push_values(
-    alloc: Global,
-    out: &mut Vec<u8>,
-    object: &Object,
-    place: usize,
-    values: &[Value],
-) -> Result<(), AllocError> {
-    let Some(operation) = object.operations.get(place) else {
-        return Ok(());
-    };
-    let named = reads(operation);
-    for (number, part) in object.parts.iter().enumerate() {
-        if number < MOST_PARTS && is_in(number, named) {
-            if let Some(value) = values.get(number) {
-                let text = shown(alloc, value)?;
-                let words = two(part.name.as_bytes(), &text);
-                push_help(out, "before it `%` is $", words)?;
-            }
-        }
-    }
-    Ok(())
-}
-
-// The call of the number that stands in the word behind `end`.
-pub(crate) fn number_in(words: &LineWords<'_>) -> u32 {
-    integer_of(words.bare(1)).unwrap_or(0)
-}
-
-/// The call of this number.
-pub(crate) fn call_of(story: &Story, number: u32) -> Option<&SeenCall> {
-    if number > MOST_CALLS {
-        return None;
-    }
-    match story.calls.get(number as usize) {
-        Some(Some(call)) => Some(call),
-        _ => None,
-    }
+/// A finding at the number of the call of a line, which `%` stands for.
+pub(crate) fn of_number<'a>(
+    words: &LineWords<'a>,
+    sentence: &'static str,
+    help: &'static str,
+) -> Diagnostic<'a> {
+    Diagnostic::at(Some(words.span(1)), say(sentence, help), words.bare(1))
 }
 
 // Copies of values.
@@ -112,83 +60,83 @@ fn copies(alloc: Global, values: &[Value]) -> Result<Vec<Value>, AllocError> {
     Ok(all)
 }
 
-/// Adds which reply the object gives to the call that a line ends.
-pub(crate) fn push_wrong_reply(
+// The words of the reply that the object gives to a call, each behind a space.
+fn reply_text(
     alloc: Global,
-    out: &mut Vec<u8>,
-    page: Page<'_>,
-    object: &Object,
-    story: &Story,
-    words: &LineWords<'_>,
-) -> Result<(), AllocError> {
-    let Some(call) = call_of(story, number_in(words)) else {
-        return Ok(());
-    };
-    let mut values = copies(alloc, &story.values)?;
+    faulty: FaultyLine<'_>,
+    call: SeenCall,
+) -> Result<Vec<u8>, AllocError> {
+    let mut values = copies(alloc, &faulty.story.values)?;
     let mut text = Vec::new(alloc);
-    if let Some(reply) = reply_to(alloc, object, call, &mut values)? {
+    if let Some(reply) = reply_to(alloc, faulty.object, faulty.page.source, call, &mut values)? {
         push_reply(&mut text, &reply)?;
     }
-    let sentence = "the object gives another reply to this `%`:$";
-    let name = operation_name(object, call.operation);
-    push_note(out, page, words.span_from(2), sentence, two(name, &text))?;
-    push_values(alloc, out, object, call.operation, &story.values)?;
-    let help =
-        "calls are done one after the other, in the order of their ends, from the values that the part lines tell";
-    push_help(out, help, only(b""))?;
-    push_numbered(
-        out,
-        page,
-        call.started,
-        "`%` started here, as call $",
-        name,
-        u64::from(number_in(words)),
-    )
+    Ok(text)
 }
 
-/// Adds why the call that a line ends does not run.
-pub(crate) fn push_not_running(
+// That the object gives this reply to a call of the operation of this name.
+fn given_reply<'a>(span: Span, name: &'a [u8], reply: &'a [u8]) -> Diagnostic<'a> {
+    let said = say("the object gives another reply to this `%`:$", "");
+    Diagnostic::at(Some(span), said, name).with(Piece::Bytes(reply), NO_PIECE)
+}
+
+// Adds what the parts held that the operation of a call names, and where it started.
+fn push_before(
     out: &mut Vec<u8>,
-    page: Page<'_>,
-    object: &Object,
-    story: &Story,
-    words: &LineWords<'_>,
+    faulty: FaultyLine<'_>,
+    call: SeenCall,
 ) -> Result<(), AllocError> {
-    let written = words.bare(1);
-    match call_of(story, number_in(words)) {
-        Some(call) => {
-            push_note(
-                out,
-                page,
-                words.span(1),
-                "call % has ended already",
-                only(written),
-            )?;
-            match call.ended {
-                Some(line) => {
-                    let name = operation_name(object, call.operation);
-                    push_numbered(
-                        out,
-                        page,
-                        line,
-                        "this `%` ended here, in line $",
-                        name,
-                        line.number,
-                    )
-                }
-                None => Ok(()),
-            }
+    let named = match faulty.object.operations.get(call.operation) {
+        Some(operation) => reads(operation),
+        None => 0,
+    };
+    let parts = faulty.object.parts.iter().zip(faulty.story.values.iter());
+    for (number, (part, value)) in parts.enumerate() {
+        if number < MOST_PARTS && is_in(number, named) {
+            let found = Diagnostic::at(None, say("before it `%` is $", ""), part.name.as_bytes());
+            push(out, faulty.page, found.with(Piece::Value(value), NO_PIECE))?;
         }
-        None => {
-            push_note(
-                out,
-                page,
-                words.span(1),
-                "call % has not started",
-                only(written),
-            )?;
-            let help = "before a call ends a line `start % sK OP ARG ..` tells that it started";
-            push_help(out, help, only(written))
+    }
+    let order =
+        "calls are done one after the other, in the order of their ends, from the values that the part lines tell";
+    let order = Diagnostic::at(None, say(order, ""), b"");
+    let started = of_call(faulty, call, call.started, "`%` started here, as call @");
+    push_both(out, faulty.page, (Some(order), Some(started)))
+}
+
+/// Adds which reply the object gives to the call that a line ends.
+pub(crate) fn push_wrong_reply(
+    out: &mut Vec<u8>,
+    faulty: FaultyLine<'_>,
+) -> Result<(), AllocError> {
+    let Some(call) = call_of(faulty) else {
+        return Ok(());
+    };
+    let text = reply_text(*out.allocator(), faulty, call)?;
+    let place = faulty.words.span_from(2);
+    push(
+        out,
+        faulty.page,
+        given_reply(place, name_of(faulty, call), &text),
+    )?;
+    push_before(out, faulty, call)
+}
+
+/// Why the call that a line ends does not run.
+pub(crate) fn not_running<'a>(faulty: FaultyLine<'a>) -> Both<'a> {
+    let Some(call) = call_of(faulty) else {
+        let help = "before a call ends a line `start % sK OP ARG ..` tells that it started";
+        return (
+            Some(of_number(faulty.words, "call % has not started", help)),
+            None,
+        );
+    };
+    let found = of_number(faulty.words, "call % has ended already", "");
+    match call.ended {
+        Some(line) => {
+            let ended = of_call(faulty, call, line, "this `%` ended here, in line $");
+            (Some(found), Some(ended))
         }
+        None => (Some(found), None),
     }
 }

@@ -1,115 +1,87 @@
 //! The line that ended a script, and the calls before it that its object does not take.
 
-use crate::called::push_called;
-use crate::forms::{Closest, wrong_in_line};
+use crate::called::wrong_call;
+use crate::finding::{Both, push_both};
+use crate::forms::wrong_in_line;
+use crate::trace::push_verdict;
 use check_core::head::named_object;
 use check_core::open::{OpenedScript, open_script};
 use decl_core::object::Object;
 use note_core::files::Files;
-use note_core::finding::{only, push_finding};
 use note_core::lacking::{push_lacking, push_unnamed};
 use note_core::line_words::words_at;
-use note_core::page::{Page, push_help};
-use note_core::span::Span;
+use note_core::page::Page;
+use note_core::span::{Span, behind, text_at};
 use std::alloc::{AllocError, Global};
 use text_core::next_line;
-use word_core::said::{Said, is_skipped, read_line};
+use word_core::said::{is_skipped, read_line};
 use world_core::question::question_of;
 
 // Of so many calls that are not taken it is said why.
 const MOST_TOLD: usize = 16;
 
-// What a line does, as far as it is told.
-#[derive(Clone, Copy)]
-enum Does {
-    // It ends the script: it is not skipped, and says nothing.
-    Ends,
-    // It calls the operation that is the word of this number, from 0.
-    Calls(usize),
-    Other,
-}
-
-// What a line does that says nothing that is done: it asks something, or ends the script.
-fn asked_by(alloc: Global, line: &[u8]) -> Result<Does, AllocError> {
-    match question_of(alloc, line)? {
-        Some(_) => Ok(Does::Other),
-        None => Ok(Does::Ends),
+// A text as a page.
+fn page_of<'a>(file: &'a str, source: &'a [u8]) -> Page<'a> {
+    Page {
+        file: file.as_bytes(),
+        source,
+        tokens: &[],
     }
 }
 
-// What a line does.
-fn done_by(alloc: Global, line: &[u8]) -> Result<Does, AllocError> {
-    if is_skipped(line) {
-        return Ok(Does::Other);
-    }
-    let said = read_line(alloc, line)?;
-    match &said {
-        None => asked_by(alloc, line),
-        Some(Said::Call(_, _, _) | Said::Do(_, _, _)) => Ok(Does::Calls(2)),
-        Some(Said::CallKey(_, _, _, _)) => Ok(Does::Calls(3)),
-        Some(_) => Ok(Does::Other),
-    }
+/// Where the line stands that begins at a byte of a text, and at which byte the next one begins.
+pub(crate) fn line_at(text: &[u8], start: usize) -> Option<(Span, usize)> {
+    let (line, rest) = next_line(behind(text, start))?;
+    let end = start.saturating_add(line.len());
+    Some((Span { start, end }, text.len().saturating_sub(rest.len())))
 }
 
-// Adds the form of line that a line comes closest to.
-fn push_closest(out: &mut Vec<u8>, closest: Closest) -> Result<(), AllocError> {
-    match closest {
-        Closest::Told => Ok(()),
-        Closest::Same(verb) => push_help(out, verb.form(), only(b"")),
-        Closest::Almost(verb) => {
-            push_help(out, "is `%` meant?", only(verb.word()))?;
-            push_help(out, verb.form(), only(b""))
-        }
+// Whether a line ends a script: it says nothing, and asks nothing.
+fn ends_script(alloc: Global, line: &[u8]) -> Result<bool, AllocError> {
+    if is_skipped(line) || read_line(alloc, line)?.is_some() {
+        return Ok(false);
     }
+    Ok(question_of(alloc, line)?.is_none())
 }
 
-// Adds what is wrong with the line that stands there.
-fn push_line(
+// Whether the line that stands there ends a script, and what is wrong with it: why it says nothing, or why the object does
+// not take the call.
+fn found_in<'a>(
     alloc: Global,
-    out: &mut Vec<u8>,
-    page: Page<'_>,
-    object: &Object,
+    text: &'a [u8],
+    object: &'a Object,
     line: Span,
-) -> Result<(), AllocError> {
-    let words = words_at(alloc, page.source, line)?;
-    let (finding, closest) = wrong_in_line(&words, object);
-    push_finding(alloc, out, page, finding)?;
-    push_closest(out, closest)
+) -> Result<(bool, Both<'a>), AllocError> {
+    let is_end = ends_script(alloc, text_at(text, line))?;
+    let words = words_at(alloc, text, line)?;
+    if is_end {
+        Ok((true, wrong_in_line(&words, object)))
+    } else {
+        Ok((false, wrong_call(&words, object)))
+    }
 }
 
 // Adds what is wrong with the first calls behind line 1 that the object does not take, and with the line that ends the
 // script.
-fn push_lines(
-    alloc: Global,
-    out: &mut Vec<u8>,
-    page: Page<'_>,
-    object: &Object,
-) -> Result<(), AllocError> {
-    let text = page.source;
-    let mut rest = match next_line(text) {
-        Some((_, rest)) => rest,
+fn push_lines(out: &mut Vec<u8>, page: Page<'_>, object: &Object) -> Result<(), AllocError> {
+    let mut told: usize = 0;
+    let mut place = match line_at(page.source, 0) {
+        Some((_, next)) => next,
         None => return Ok(()),
     };
-    let mut told: usize = 0;
-    for _ in 0..text.len() {
-        let Some((line, behind)) = next_line(rest) else {
+    for _ in 0..page.source.len() {
+        let Some((line, next)) = line_at(page.source, place) else {
             return Ok(());
         };
-        let start = text.len().saturating_sub(rest.len());
-        let place = Span {
-            start,
-            end: start.saturating_add(line.len()),
-        };
-        match done_by(alloc, line)? {
-            Does::Ends => return push_line(alloc, out, page, object, place),
-            Does::Calls(number) => if told < MOST_TOLD
-                && push_called(alloc, out, page, object, place, number)?
-            {
-                told = told.saturating_add(1);
-            },
-            Does::Other => {}
+        let (is_end, found) = found_in(*out.allocator(), page.source, object, line)?;
+        if is_end {
+            return push_both(out, page, found);
         }
-        rest = behind;
+        if found.0.is_some() && told < MOST_TOLD {
+            push_both(out, page, found)?;
+            told = told.saturating_add(1);
+        }
+        place = next;
     }
     Ok(())
 }
@@ -117,35 +89,50 @@ fn push_lines(
 /// Adds what is wrong with a line, before which so many others came: why it says nothing, or why the object does not
 /// take the call.
 pub(crate) fn push_why(
-    alloc: Global,
     out: &mut Vec<u8>,
     object: &Object,
     before: usize,
     line: &[u8],
 ) -> Result<(), AllocError> {
     // A text in which the line has its number.
+    let alloc = *out.allocator();
     let mut text = Vec::new(alloc);
     for _ in 0..before {
         text.push(b'\n')?;
     }
     text.extend_from_slice(line)?;
-    let page = Page {
-        file: b"input",
-        source: &text,
-        tokens: &[],
-    };
+    let page = page_of("input", &text);
     let place = Span {
         start: before,
         end: text.len(),
     };
-    match done_by(alloc, line)? {
-        Does::Ends => push_line(alloc, out, page, object, place),
-        Does::Calls(number) => {
-            push_called(alloc, out, page, object, place, number)?;
-            Ok(())
-        }
-        Does::Other => Ok(()),
+    let (_, found) = found_in(alloc, &text, object, place)?;
+    push_both(out, page, found)
+}
+
+/// What a person is told of a script, or of a trace.
+pub(crate) fn explained(
+    alloc: Global,
+    files: Files<'_>,
+    source: &[u8],
+    text: &[u8],
+    is_trace: bool,
+) -> Result<Vec<u8>, AllocError> {
+    let mut out = Vec::new(alloc);
+    let page = page_of(files.text, text);
+    let declared = page_of(files.source, source);
+    match named_object(alloc, text)? {
+        None => push_unnamed(alloc, &mut out, page)?,
+        Some(name) => match open_script(alloc, source, text)? {
+            OpenedScript::Ready(accepted) => if is_trace {
+                push_verdict(&mut out, page, declared, &accepted)?
+            } else {
+                push_lines(&mut out, page, accepted.object())?
+            },
+            OpenedScript::Told(_) => push_lacking(alloc, &mut out, page, files, source, &name)?,
+        },
     }
+    Ok(out)
 }
 
 /// What a person is told of the line that ended a script, if one did, and of the first 16 calls before it that are of
@@ -158,18 +145,5 @@ pub fn explain_script(
     source: &[u8],
     text: &[u8],
 ) -> Result<Vec<u8>, AllocError> {
-    let mut out = Vec::new(alloc);
-    let page = Page {
-        file: files.text.as_bytes(),
-        source: text,
-        tokens: &[],
-    };
-    match named_object(alloc, text)? {
-        None => push_unnamed(alloc, &mut out, page)?,
-        Some(name) => match open_script(alloc, source, text)? {
-            OpenedScript::Ready(accepted) => push_lines(alloc, &mut out, page, accepted.object())?,
-            OpenedScript::Told(_) => push_lacking(alloc, &mut out, page, files, source, &name)?,
-        },
-    }
-    Ok(out)
+    explained(alloc, files, source, text, false)
 }

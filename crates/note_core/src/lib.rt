@@ -5,9 +5,9 @@
 //! name in it was declared as, and `alike` which names are almost the same. `page` adds the line of a text, with a
 //! caret under the place.
 //!
-//! Of a line of a script, or of a trace, `line_words` are the words with their places in the text, `finding` what is
-//! wrong at one of them, and `lacking` what is said of an object that the file lacks. `kept` keeps a text while it is
-//! read, and `files` names the two texts of a run.
+//! Of a line of a script, or of a trace, `line_words` are the words with their places in the text, `finding` how a sentence
+//! shows one of them, and `lacking` what is said of an object that the file lacks. `kept` keeps a text while it is read, and
+//! `files` names the two texts of a run.
 //!
 //! That the texts are safe to make, and end, is proved, and `place_of` is exact; what notes say is tested by the cases
 //! of `cases/check`, `cases/run` and `cases/audit`.
