@@ -1,7 +1,7 @@
 //! A change of a source, tried.
 
 use crate::case::{Case, count_of, op_of};
-use crate::remark::{Allocated, Phrase, Remark, Words, phrase, push_found, text_of};
+use crate::remark::{Allocated, Phrase, Remark, Words, push_found, text_of, with_one};
 use decl_core::analyse::{ObjectRefusal, analyse};
 use decl_core::object::Object;
 use decl_read::read::read_objects;
@@ -109,7 +109,7 @@ fn push_change(
 ) -> Allocated<()> {
     let remark = Remark {
         place: Some(change.span),
-        said: phrase(change.sentence, Words::Text(text)),
+        said: with_one(change.sentence, Words::Text(text)),
     };
     push_found(out, case, Some(remark))?;
     match text {

@@ -48,7 +48,7 @@ pub(crate) struct Remark<'a> {
 }
 
 /// A sentence with one thing in it.
-pub(crate) fn phrase<'a>(sentence: &'static str, first: Words<'a>) -> Phrase<'a> {
+pub(crate) fn with_one<'a>(sentence: &'static str, first: Words<'a>) -> Phrase<'a> {
     Phrase {
         sentence,
         first,

@@ -2,7 +2,7 @@
 
 use crate::around::is_one;
 use crate::case::{Case, all_ops, limit_at, path_tokens};
-use crate::remark::{Allocated, Phrase, Words, phrase, push_hint, push_phrase};
+use crate::remark::{Allocated, Phrase, Words, push_hint, push_phrase, with_one};
 use crate::stuck_explain::Loss;
 use decl_core::object::Object;
 use note_core::span::{span_of, text_at};
@@ -22,7 +22,7 @@ const MANY: &str =
 // The text of the first of these tokens of a path: of a constant before a colon its value.
 fn text_here<'a>(case: Case<'a>, here: &[Token]) -> Phrase<'a> {
     let [token, ..] = here else {
-        return phrase("", Words::Nothing);
+        return with_one("", Words::Nothing);
     };
     let sentence = if is_symbol(token, Symbol::End) {
         " %"
@@ -35,7 +35,7 @@ fn text_here<'a>(case: Case<'a>, here: &[Token]) -> Phrase<'a> {
         Some((_, value)) if is_at_name(here) => Words::Number(value),
         _ => Words::Text(text_at(case.page.source, span_of(token))),
     };
-    phrase(sentence, words)
+    with_one(sentence, words)
 }
 
 // Adds the line of a path.
@@ -56,7 +56,7 @@ fn push_each(
     sentence: &'static str,
 ) -> Allocated<()> {
     for op in ops {
-        push_phrase(out, object, phrase(sentence, Words::Name(*op)))?;
+        push_phrase(out, object, with_one(sentence, Words::Name(*op)))?;
     }
     Ok(())
 }
@@ -82,8 +82,8 @@ fn push_lines(out: &mut Vec<u8>, loss: Loss<'_>) -> Allocated<()> {
 /// Adds the lines, where the calls are few.
 pub(crate) fn push_shown(out: &mut Vec<u8>, loss: Loss<'_>) -> Allocated<()> {
     if loss.calls.len() > MOST_SHOWN {
-        return push_hint(out, loss.case, phrase(MANY, Words::Nothing));
+        return push_hint(out, loss.case, with_one(MANY, Words::Nothing));
     }
-    push_hint(out, loss.case, phrase(FEW, Words::Nothing))?;
+    push_hint(out, loss.case, with_one(FEW, Words::Nothing))?;
     push_lines(out, loss)
 }

@@ -3,7 +3,7 @@
 use crate::case::{Case, all_ops, count_of};
 use crate::explain::{Aspect, push_source};
 use crate::op_set::{OpSet, no_ops};
-use crate::remark::{Allocated, Phrase, Words, at_token, phrase, push_found};
+use crate::remark::{Allocated, Phrase, Words, at_token, push_found, with_one};
 use crate::shown::push_shown;
 use crate::waiting::push_waiting;
 use crate::ways::push_ways;
@@ -30,7 +30,7 @@ fn push_loss(out: &mut Vec<u8>, loss: Loss<'_>, is_stuck: bool) -> Allocated<()>
     };
     let said = Phrase {
         second: Words::Names(loss.lost, b" and "),
-        ..phrase(sentence, Words::Calls(loss.calls))
+        ..with_one(sentence, Words::Calls(loss.calls))
     };
     push_found(out, loss.case, at_token(loss.case.tokens, 1, said))?;
     push_waiting(out, loss)?;

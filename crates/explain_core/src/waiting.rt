@@ -2,7 +2,7 @@
 
 use crate::case::{count_of, name_of, path_tokens};
 use crate::op_set::{OpSet, no_ops};
-use crate::remark::{Allocated, Phrase, Words, at_token, phrase, push_found};
+use crate::remark::{Allocated, Phrase, Words, at_token, push_found, with_one};
 use crate::stuck_explain::Loss;
 use note_core::tokens::find_name;
 use path_count::counters::compile;
@@ -70,7 +70,7 @@ fn push_waits(
             };
             let said = Phrase {
                 second: Words::Names(needs, b" or "),
-                ..phrase(sentence, Words::Names(ops, b" and "))
+                ..with_one(sentence, Words::Names(ops, b" and "))
             };
             if let Some(at) = find_name(tokens, name_of(loss.case.object, *op)) {
                 push_found(out, loss.case, at_token(tokens, at, said))?;

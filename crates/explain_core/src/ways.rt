@@ -4,7 +4,7 @@ use crate::case::{Case, count_of, front_tokens, limit_at};
 use crate::change::{Rewrite, Trial, push_tried};
 use crate::op_set::{OpSet, no_ops};
 use crate::proposal::place_for_path;
-use crate::remark::{Allocated, Phrase, Words, phrase, push_hint};
+use crate::remark::{Allocated, Phrase, Words, push_hint, with_one};
 use crate::stuck_explain::Loss;
 use note_core::span::{Span, span_of, text_at};
 use note_core::tokens::{begins, from_symbol, is_any_name, is_symbol, tokens_from};
@@ -35,7 +35,7 @@ fn mend_at<'a>(mend: Mend, case: Case<'a>, here: &[Token]) -> Option<Rewrite<'a>
         (Mend::Lower, _) => match limit_at(case.tokens, here) {
             Some((span, limit)) if limit > 1 => Some(Rewrite {
                 span,
-                text: phrase("%", Words::Number(limit - 1)),
+                text: with_one("%", Words::Number(limit - 1)),
                 sentence: "with % here no operation of `#` can be lost",
             }),
             _ => None,
@@ -52,7 +52,7 @@ fn mend_at<'a>(mend: Mend, case: Case<'a>, here: &[Token]) -> Option<Rewrite<'a>
                 },
                 text: Phrase {
                     second: Words::Text(text_at(source, span_of(first))),
-                    ..phrase("%; $", Words::Text(text_at(source, span_of(second))))
+                    ..with_one("%; $", Words::Text(text_at(source, span_of(second))))
                 },
                 sentence: "with `%` here, the other way round, no operation of `#` can be lost",
             })
@@ -61,7 +61,7 @@ fn mend_at<'a>(mend: Mend, case: Case<'a>, here: &[Token]) -> Option<Rewrite<'a>
             if is_symbol(token, Symbol::Semicolon) && !is_symbol(before, Symbol::End) => {
             Some(Rewrite {
                 span: span_of(token),
-                text: phrase(",", Words::Nothing),
+                text: with_one(",", Words::Nothing),
                 sentence: "with `,` in the place of this `;` no operation of `#` can be lost",
             })
         }
@@ -188,5 +188,5 @@ pub(crate) fn push_ways(out: &mut Vec<u8>, loss: Loss<'_>) -> Allocated<()> {
     } else {
         "no single small change was found that mends it: let all clients take things in one order, or fewer of them begin"
     };
-    push_hint(out, loss.case, phrase(help, Words::Nothing))
+    push_hint(out, loss.case, with_one(help, Words::Nothing))
 }
