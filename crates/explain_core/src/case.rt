@@ -77,6 +77,11 @@ pub(crate) fn front_tokens(object: &[Token]) -> &[Token] {
     first_tokens(object, parts.min(count_to(object, Symbol::Entry)))
 }
 
+/// The tokens of all its paths, each with the semicolon behind it.
+pub(crate) fn paths_of(object: &[Token]) -> &[Token] {
+    from_symbol(front_tokens(object), Symbol::Path, 0)
+}
+
 /// The tokens of the path of this number, from the word `path` to the word `end`.
 pub(crate) fn path_tokens(object: &[Token], number: usize) -> &[Token] {
     let path = from_symbol(object, Symbol::Path, number);

@@ -20,7 +20,7 @@ const MOST_STATES: usize = 4_096;
 #[derive(Clone, Copy)]
 pub(crate) struct Rewrite<'a> {
     pub span: Span,
-    /// The text; a line of its own begins with a line feed and two spaces.
+    /// The text; a line of its own begins with a line feed.
     pub text: Phrase<'a>,
     /// What is said of it where it does; for `%` stands the text.
     pub sentence: &'static str,
@@ -46,52 +46,57 @@ fn with_text(alloc: Global, source: &[u8], span: Span, text: &[u8]) -> Allocated
     Ok(out)
 }
 
-// What is found of an accepted object.
-fn trial_of(found: &Findings) -> Trial {
+// Whether every operation is kept.
+fn keeps_each(found: &Findings) -> bool {
     for finding in &found.each {
         match finding {
             Finding::Always => {}
-            Finding::Lost(_) | Finding::Unknown(_) => return Trial::Fails,
+            Finding::Lost(_) | Finding::Unknown(_) => return false,
         }
     }
-    Trial::Does
+    true
 }
 
-// What became of an accepted object.
-fn search(alloc: Global, object: &Object) -> Allocated<Trial> {
+// Whether an accepted object keeps every operation.
+fn is_kept(alloc: Global, object: &Object) -> Allocated<bool> {
     let found = find(alloc, &object.paths, count_of(object), MOST_STATES)?;
-    Ok(trial_of(&found))
+    Ok(keeps_each(&found))
 }
 
-// What became of an object, which has to keep every operation or not.
+// What became of an accepted object, which has to keep every operation or not.
+fn of_accepted(alloc: Global, object: &Object, has_to_keep: bool) -> Allocated<Trial> {
+    if !has_to_keep || is_kept(alloc, object)? {
+        Ok(Trial::Does)
+    } else {
+        Ok(Trial::Fails)
+    }
+}
+
+// What became of a refused object.
+fn of_refused(why: ObjectRefusal) -> Allocated<Trial> {
+    match why {
+        ObjectRefusal::Memory => Err(AllocError),
+        ObjectRefusal::Unseparated(first, second, _) => {
+            Ok(Trial::Refused(op_of(first), op_of(second)))
+        }
+    }
+}
+
+// What became of an object.
 fn judge(alloc: Global, object: Object, has_to_keep: bool) -> Allocated<Trial> {
     match analyse(alloc, object) {
-        Ok(accepted) => if has_to_keep {
-            search(alloc, accepted.object())
-        } else {
-            Ok(Trial::Does)
-        },
-        Err(refused) => match refused.why {
-            ObjectRefusal::Memory => Err(AllocError),
-            ObjectRefusal::Unseparated(first, second, _) => Ok(Trial::Refused(
-                op_of(first),
-                op_of(second),
-            )),
-        },
+        Ok(accepted) => of_accepted(alloc, accepted.object(), has_to_keep),
+        Err(refused) => of_refused(refused.why),
     }
 }
 
 // What became of the object of this number of a source.
 fn judge_in(alloc: Global, source: &[u8], number: usize, has_to_keep: bool) -> Allocated<Trial> {
     match read_objects(alloc, source) {
-        Ok(all) => {
-            for (place, object) in all.into_values().enumerate() {
-                if place == number {
-                    return judge(alloc, object, has_to_keep);
-                }
-            }
-            Ok(Trial::Fails)
-        }
+        Ok(all) => match all.into_values().nth(number) {
+            Some(object) => judge(alloc, object, has_to_keep),
+            None => Ok(Trial::Fails),
+        },
         Err(fault) => if is_want_of_memory(fault) {
             Err(AllocError)
         } else {
@@ -113,26 +118,15 @@ fn push_change(
     };
     push_found(out, case, Some(remark))?;
     match text {
-        [b'\n', b' ', b' ', line @ .., b'\n'] => push_new_line(out, line),
-        [b'\n', b' ', b' ', line @ ..] => push_new_line(out, line),
+        [b'\n', ..] => push_new_line(out, text.trim_ascii()),
         _ => Ok(()),
     }
 }
 
-// What became of the object with a change of this text; one that does is added.
-fn push_if_does(
-    out: &mut Vec<u8>,
-    case: Case<'_>,
-    change: Rewrite<'_>,
-    text: &[u8],
-    has_to_keep: bool,
-) -> Allocated<Trial> {
-    let changed = with_text(case.alloc, case.page.source, change.span, text)?;
-    let trial = judge_in(case.alloc, &changed, case.number, has_to_keep)?;
-    if let Trial::Does = trial {
-        push_change(out, case, change, text)?;
-    }
-    Ok(trial)
+// What became of the object with this text in the place of a stretch.
+fn tried(case: Case<'_>, span: Span, text: &[u8], has_to_keep: bool) -> Allocated<Trial> {
+    let changed = with_text(case.alloc, case.page.source, span, text)?;
+    judge_in(case.alloc, &changed, case.number, has_to_keep)
 }
 
 /// Tries a change of the source of an object, which then is accepted, and keeps every operation if it has to. One that does
@@ -144,5 +138,9 @@ pub(crate) fn push_tried(
     has_to_keep: bool,
 ) -> Allocated<Trial> {
     let text = text_of(case, change.text)?;
-    push_if_does(out, case, change, &text, has_to_keep)
+    let trial = tried(case, change.span, &text, has_to_keep)?;
+    if let Trial::Does = trial {
+        push_change(out, case, change, &text)?;
+    }
+    Ok(trial)
 }

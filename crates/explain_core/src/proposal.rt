@@ -4,7 +4,7 @@ use crate::case::{count_of, front_tokens};
 use crate::change::{Rewrite, Trial, push_tried};
 use crate::op_set::{MOST_OPERATIONS, OpSet, no_ops};
 use crate::refusal::{Conflict, NO_ROOM, said_of};
-use crate::remark::{Allocated, Phrase, Words, push_hint, with_one};
+use crate::remark::{Allocated, Joint, Phrase, Words, push_hint, with_one};
 use decl_core::exclude_footprint::footprint;
 use decl_core::object::Object;
 use note_core::span::Span;
@@ -33,8 +33,8 @@ fn path_over<'a>(object: &Object, chosen: OpSet) -> Phrase<'a> {
         (false, false) => "\n  path 1:(%, [$]) end;\n",
     };
     Phrase {
-        second: Words::Plain(reading),
-        ..with_one(sentence, Words::Plain(writing))
+        second: Words::Names(reading, Joint::Comma),
+        ..with_one(sentence, Words::Names(writing, Joint::Comma))
     }
 }
 

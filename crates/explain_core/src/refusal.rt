@@ -3,7 +3,7 @@
 use crate::around::{Around, why_in};
 use crate::case::{Case, name_of, path_tokens};
 use crate::remark::{Allocated, Phrase, Remark, Words, at_token, push_found, push_hint};
-use crate::touch::{Touch, touch_of};
+use crate::touch::touch_of;
 use note_core::tokens::{find_name, section};
 use path_tree::node::OpId;
 use path_tree::token::{Symbol, Token};
@@ -27,6 +27,18 @@ pub(crate) struct Conflict<'a> {
 
 /// A sentence on one operation, and on two.
 pub(crate) type OneOrTwo = [&'static str; 2];
+
+const FIRST: OneOrTwo = ["`%` is declared here"; 2];
+
+const SECOND: OneOrTwo = ["`$` is declared here"; 2];
+
+const CHANGES: OneOrTwo = ["it changes `@` here"; 2];
+
+const READS: OneOrTwo = ["it reads `@` here"; 2];
+
+const ONLY_FIRST: OneOrTwo = ["this path names `%`, but not `$`"; 2];
+
+const ONLY_SECOND: OneOrTwo = ["this path names `$`, but not `%`"; 2];
 
 const IN_BURST: OneOrTwo = [
     "`%` stands in this burst, and what stands in one burst may run together, inside of a bound of 1 too",
@@ -82,22 +94,21 @@ fn sentence_of(is_same: bool, first_writes: bool, second_writes: bool) -> &'stat
     }
 }
 
-// Whether a part is changed there.
-fn writes(touch: Option<Touch>) -> bool {
-    matches!(touch, Some(Touch { writes: true, .. }))
+// Whether an operation changes the part.
+fn writes(conflict: Conflict<'_>, op: OpId) -> bool {
+    match touch_of(entry_of(conflict, op), conflict.part) {
+        Some(touch) => touch.writes,
+        None => false,
+    }
 }
 
 // What is said of the place where an operation touches the part.
-fn of_touch<'a>(conflict: Conflict<'a>, touch: Option<Touch>) -> Option<Remark<'a>> {
-    let touch = touch?;
-    let sentence = if touch.writes {
-        "it changes `@` here"
-    } else {
-        "it reads `@` here"
-    };
+fn of_touch<'a>(conflict: Conflict<'a>, op: OpId) -> Option<Remark<'a>> {
+    let touch = touch_of(entry_of(conflict, op), conflict.part)?;
+    let sentences = if touch.writes { CHANGES } else { READS };
     Some(Remark {
         place: Some(touch.span),
-        said: said_of(conflict, [sentence; 2]),
+        said: said_of(conflict, sentences),
     })
 }
 
@@ -121,41 +132,64 @@ fn names_both(conflict: Conflict<'_>) -> bool {
     false
 }
 
+// Why a path keeps the two not apart that it names at these of its tokens.
+fn of_both<'a>(
+    conflict: Conflict<'a>,
+    path: &[Token],
+    first: usize,
+    second: usize,
+) -> Option<Remark<'a>> {
+    match why_in(conflict.case.tokens, path, first, second) {
+        Around::Burst(number) => at_token(path, number, said_of(conflict, IN_BURST)),
+        Around::Bound(number) => at_token(path, number, said_of(conflict, IN_BOUND)),
+        Around::Nothing | Around::One => at_token(path, 0, said_of(conflict, IN_NO_BOUND)),
+    }
+}
+
 // What the path of this number says of the two, if it names one of them.
 fn of_path<'a>(conflict: Conflict<'a>, number: usize) -> Option<Remark<'a>> {
-    let tokens = conflict.case.tokens;
-    let path = path_tokens(tokens, number);
-    let (at, sentences) = match named_in(conflict, path) {
-        (Some(first), Some(second)) => match why_in(tokens, path, first, second) {
-            Around::Burst(number) => (number, IN_BURST),
-            Around::Bound(number) => (number, IN_BOUND),
-            Around::Nothing | Around::One => (0, IN_NO_BOUND),
-        },
-        (Some(first), None) => (first, ["this path names `%`, but not `$`"; 2]),
-        (None, Some(second)) => (second, ["this path names `$`, but not `%`"; 2]),
-        (None, None) => return None,
-    };
-    at_token(path, at, said_of(conflict, sentences))
+    let path = path_tokens(conflict.case.tokens, number);
+    match named_in(conflict, path) {
+        (Some(first), Some(second)) => of_both(conflict, path, first, second),
+        (Some(first), None) => at_token(path, first, said_of(conflict, ONLY_FIRST)),
+        (None, Some(second)) => at_token(path, second, said_of(conflict, ONLY_SECOND)),
+        (None, None) => None,
+    }
+}
+
+// The tokens of an operation, from the word `entry` on.
+fn entry_of<'a>(conflict: Conflict<'a>, op: OpId) -> &'a [Token] {
+    section(conflict.case.tokens, Symbol::Entry, usize::from(op))
+}
+
+// What is said of the object.
+fn of_object<'a>(conflict: Conflict<'a>) -> Option<Remark<'a>> {
+    let sentence = sentence_of(
+        conflict.first == conflict.second,
+        writes(conflict, conflict.first),
+        writes(conflict, conflict.second),
+    );
+    at_token(conflict.case.tokens, 1, said_of(conflict, [sentence; 2]))
 }
 
 // The remark of this number, if there is one.
 fn remark_of<'a>(conflict: Conflict<'a>, number: usize) -> Option<Remark<'a>> {
     let is_same = conflict.first == conflict.second;
-    let object = conflict.case.tokens;
-    let first = section(object, Symbol::Entry, usize::from(conflict.first));
-    let second = section(object, Symbol::Entry, usize::from(conflict.second));
-    let one = touch_of(first, conflict.part);
-    let other = touch_of(second, conflict.part);
     match number {
-        0 => {
-            let sentence = sentence_of(is_same, writes(one), writes(other));
-            at_token(object, 1, said_of(conflict, [sentence; 2]))
-        }
-        1 => at_token(first, 2, said_of(conflict, ["`%` is declared here"; 2])),
-        2 => of_touch(conflict, one),
+        0 => of_object(conflict),
+        1 => at_token(
+            entry_of(conflict, conflict.first),
+            2,
+            said_of(conflict, FIRST),
+        ),
+        2 => of_touch(conflict, conflict.first),
         3 | 4 if is_same => None,
-        3 => at_token(second, 2, said_of(conflict, ["`$` is declared here"; 2])),
-        4 => of_touch(conflict, other),
+        3 => at_token(
+            entry_of(conflict, conflict.second),
+            2,
+            said_of(conflict, SECOND),
+        ),
+        4 => of_touch(conflict, conflict.second),
         _ => of_path(conflict, number.saturating_sub(REMARKS)),
     }
 }

@@ -15,20 +15,24 @@ use std::alloc::AllocError;
 /// What is made, or that memory was refused.
 pub(crate) type Allocated<T> = Result<T, AllocError>;
 
+/// How names of operations stand beside one another: what stands between two, and between the last two.
+#[derive(Clone, Copy)]
+pub(crate) enum Joint {
+    And,
+    Or,
+    Comma,
+    Space,
+}
+
 /// What stands in a sentence.
 #[derive(Clone, Copy)]
 pub(crate) enum Words<'a> {
     Nothing,
     Text(&'a [u8]),
     Number(usize),
-    /// Calls, one after the other; those of one operation that stand together in one.
-    Calls(&'a [OpId]),
     /// The name of an operation.
     Name(OpId),
-    /// Names of operations, each as `a`, with this between the last two.
-    Names(OpSet, &'static [u8]),
-    /// Names with commas, as in a path.
-    Plain(OpSet),
+    Names(OpSet, Joint),
 }
 
 /// A sentence, and what stands in it for `%`, `$` and `@`. For `#` stands the name of the object.
@@ -68,61 +72,26 @@ pub(crate) fn at_token<'a>(tokens: &[Token], at: usize, said: Phrase<'a>) -> Opt
     }
 }
 
-// Adds the names of operations, in quotes or not, with this between the last two.
-fn push_names(
-    out: &mut Vec<u8>,
-    object: &Object,
-    ops: &[OpId],
-    quote: &[u8],
-    last: &[u8],
-) -> Allocated<()> {
+impl Joint {
+    // What stands before a name, which is the first one, or the last one.
+    fn sign(self, is_first: bool, is_last: bool) -> &'static [u8] {
+        match self {
+            _ if is_first => b"",
+            Joint::And if is_last => b"` and `",
+            Joint::Or if is_last => b"` or `",
+            Joint::And | Joint::Or => b"`, `",
+            Joint::Comma => b", ",
+            Joint::Space => b" ",
+        }
+    }
+}
+
+// Adds the names of operations.
+fn push_names(out: &mut Vec<u8>, object: &Object, ops: &[OpId], joint: Joint) -> Allocated<()> {
     for (at, op) in ops.iter().enumerate() {
-        if at > 0 {
-            let is_last = at.saturating_add(1) == ops.len();
-            out.extend_from_slice(if is_last { last } else { b", " })?;
-        }
-        out.extend_from_slice(quote)?;
+        let is_last = at.saturating_add(1) == ops.len();
+        out.extend_from_slice(joint.sign(at == 0, is_last))?;
         out.extend_from_slice(name_of(object, *op))?;
-        out.extend_from_slice(quote)?;
-    }
-    Ok(())
-}
-
-// Adds a number.
-fn push_number(out: &mut Vec<u8>, number: usize) -> Allocated<()> {
-    let mut buffer = Buffer::new();
-    out.extend_from_slice(buffer.format(number as u64).as_bytes())
-}
-
-// Adds so many calls of an operation; the first ones are those in front of no others.
-fn push_run(
-    out: &mut Vec<u8>,
-    object: &Object,
-    op: OpId,
-    count: usize,
-    is_first: bool,
-) -> Allocated<()> {
-    if !is_first {
-        out.extend_from_slice(b", ")?;
-    }
-    if count > 1 {
-        push_number(out, count)?;
-        out.extend_from_slice(b" times ")?;
-    }
-    push_names(out, object, &[op], b"`", b"")
-}
-
-// Adds calls.
-fn push_calls(out: &mut Vec<u8>, object: &Object, calls: &[OpId]) -> Allocated<()> {
-    let mut count: usize = 0;
-    let mut is_first = true;
-    for (at, op) in calls.iter().enumerate() {
-        count = count.saturating_add(1);
-        if calls.get(at.saturating_add(1)) != Some(op) {
-            push_run(out, object, *op, count, is_first)?;
-            count = 0;
-            is_first = false;
-        }
     }
     Ok(())
 }
@@ -132,24 +101,30 @@ fn push_words(out: &mut Vec<u8>, object: &Object, words: Words<'_>) -> Allocated
     match words {
         Words::Nothing => Ok(()),
         Words::Text(text) => out.extend_from_slice(text),
-        Words::Number(number) => push_number(out, number),
-        Words::Calls(calls) => push_calls(out, object, calls),
+        Words::Number(number) => {
+            let mut buffer = Buffer::new();
+            out.extend_from_slice(buffer.format(number as u64).as_bytes())
+        }
         Words::Name(op) => out.extend_from_slice(name_of(object, op)),
-        Words::Names(ops, last) => push_names(out, object, ops.all(), b"`", last),
-        Words::Plain(ops) => push_names(out, object, ops.all(), b"", b", "),
+        Words::Names(ops, joint) => push_names(out, object, ops.all(), joint),
+    }
+}
+
+// Adds a byte of a sentence, or what it stands for.
+fn push_piece(out: &mut Vec<u8>, object: &Object, said: Phrase<'_>, byte: u8) -> Allocated<()> {
+    match byte {
+        b'%' => push_words(out, object, said.first),
+        b'$' => push_words(out, object, said.second),
+        b'@' => push_words(out, object, said.third),
+        b'#' => out.extend_from_slice(object.name.as_bytes()),
+        byte => out.extend_from_slice(&[byte]),
     }
 }
 
 /// Adds a sentence with what stands in it.
 pub(crate) fn push_phrase(out: &mut Vec<u8>, object: &Object, said: Phrase<'_>) -> Allocated<()> {
     for byte in said.sentence.as_bytes() {
-        match *byte {
-            b'%' => push_words(out, object, said.first)?,
-            b'$' => push_words(out, object, said.second)?,
-            b'@' => push_words(out, object, said.third)?,
-            b'#' => out.extend_from_slice(object.name.as_bytes())?,
-            byte => out.push(byte)?,
-        }
+        push_piece(out, object, said, *byte)?;
     }
     Ok(())
 }
@@ -161,14 +136,6 @@ pub(crate) fn text_of(case: Case<'_>, said: Phrase<'_>) -> Allocated<Vec<u8>> {
     Ok(text)
 }
 
-// Adds a text at a place, or as what helps.
-fn push_text(out: &mut Vec<u8>, case: Case<'_>, place: Option<Span>, text: &[u8]) -> Allocated<()> {
-    match place {
-        Some(span) => push_note(out, case.page, span, "%", only(text)),
-        None => push_help(out, "%", only(text)),
-    }
-}
-
 /// Adds what is found, if something is.
 pub(crate) fn push_found(
     out: &mut Vec<u8>,
@@ -178,7 +145,10 @@ pub(crate) fn push_found(
     match found {
         Some(remark) => {
             let text = text_of(case, remark.said)?;
-            push_text(out, case, remark.place, &text)
+            match remark.place {
+                Some(span) => push_note(out, case.page, span, "%", only(&text)),
+                None => push_help(out, "%", only(&text)),
+            }
         }
         None => Ok(()),
     }

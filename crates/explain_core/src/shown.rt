@@ -1,14 +1,13 @@
 //! The lines with which `pathserve paths` shows what is lost.
 
-use crate::around::is_one;
-use crate::case::{Case, all_ops, limit_at, path_tokens};
-use crate::remark::{Allocated, Phrase, Words, push_hint, push_phrase, with_one};
+use crate::case::{Case, all_ops, limit_at, paths_of};
+use crate::remark::{Allocated, Joint, Phrase, Words, push_hint, push_phrase, with_one};
 use crate::stuck_explain::Loss;
 use decl_core::object::Object;
 use note_core::span::{span_of, text_at};
-use note_core::tokens::{is_at_name, is_symbol, tokens_from};
+use note_core::tokens::{ends, first_tokens, is_any_name, tokens_from};
 use path_tree::node::OpId;
-use path_tree::token::{Symbol, Token};
+use path_tree::token::{Symbol, Token, TokenKind};
 
 // The most calls that are shown.
 const MOST_SHOWN: usize = 16;
@@ -19,32 +18,37 @@ const FEW: &str =
 const MANY: &str =
     "`pathserve paths` shows it: give it the paths, a start and a finish of each call, and a start of what is lost";
 
-// The text of the first of these tokens of a path: of a constant before a colon its value.
-fn text_here<'a>(case: Case<'a>, here: &[Token]) -> Phrase<'a> {
+// How a token of the paths is set; `is_behind` of what closes a path behind its `end`.
+fn setting_of(token: &Token, is_behind: bool) -> &'static str {
+    match &token.kind {
+        TokenKind::Symbol(_) if is_behind => "",
+        TokenKind::Symbol(Symbol::Path) => "      | % ",
+        TokenKind::Symbol(Symbol::End) => " %\n",
+        TokenKind::Symbol(Symbol::Comma | Symbol::Semicolon) => "% ",
+        _ => "%",
+    }
+}
+
+// The text of the token of this number of the paths: of a constant before a colon its value.
+fn text_at_token<'a>(case: Case<'a>, paths: &[Token], number: usize) -> Phrase<'a> {
+    let here = tokens_from(paths, number);
     let [token, ..] = here else {
         return with_one("", Words::Nothing);
     };
-    let sentence = if is_symbol(token, Symbol::End) {
-        " %"
-    } else if is_one(token, &[Symbol::Comma, Symbol::Semicolon, Symbol::Path]) {
-        "% "
-    } else {
-        "%"
-    };
     let words = match limit_at(case.tokens, here) {
-        Some((_, value)) if is_at_name(here) => Words::Number(value),
+        Some((_, value)) if is_any_name(token) => Words::Number(value),
         _ => Words::Text(text_at(case.page.source, span_of(token))),
     };
-    with_one(sentence, words)
+    let is_behind = ends(first_tokens(paths, number), Symbol::End);
+    with_one(setting_of(token, is_behind), words)
 }
 
-// Adds the line of a path.
-fn push_path(out: &mut Vec<u8>, case: Case<'_>, path: &[Token]) -> Allocated<()> {
-    out.extend_from_slice(b"      | ")?;
-    for at in 0..path.len() {
-        push_phrase(out, case.object, text_here(case, tokens_from(path, at)))?;
+// Adds the lines of the paths.
+fn push_paths(out: &mut Vec<u8>, case: Case<'_>) -> Allocated<()> {
+    let paths = paths_of(case.tokens);
+    for number in 0..paths.len() {
+        push_phrase(out, case.object, text_at_token(case, paths, number))?;
     }
-    out.push(b'\n')?;
     Ok(())
 }
 
@@ -64,12 +68,9 @@ fn push_each(
 // Adds the lines.
 fn push_lines(out: &mut Vec<u8>, loss: Loss<'_>) -> Allocated<()> {
     let object = loss.case.object;
-    out.extend_from_slice(b"      | ops")?;
-    push_each(out, object, all_ops(object).all(), " %")?;
-    out.push(b'\n')?;
-    for number in 0..object.paths.len() {
-        push_path(out, loss.case, path_tokens(loss.case.tokens, number))?;
-    }
+    let names = Words::Names(all_ops(object), Joint::Space);
+    push_phrase(out, object, with_one("      | ops %\n", names))?;
+    push_paths(out, loss.case)?;
     push_each(
         out,
         object,
@@ -81,9 +82,12 @@ fn push_lines(out: &mut Vec<u8>, loss: Loss<'_>) -> Allocated<()> {
 
 /// Adds the lines, where the calls are few.
 pub(crate) fn push_shown(out: &mut Vec<u8>, loss: Loss<'_>) -> Allocated<()> {
-    if loss.calls.len() > MOST_SHOWN {
-        return push_hint(out, loss.case, with_one(MANY, Words::Nothing));
+    let is_few = loss.calls.len() <= MOST_SHOWN;
+    let sentence = if is_few { FEW } else { MANY };
+    push_hint(out, loss.case, with_one(sentence, Words::Nothing))?;
+    if is_few {
+        push_lines(out, loss)
+    } else {
+        Ok(())
     }
-    push_hint(out, loss.case, with_one(FEW, Words::Nothing))?;
-    push_lines(out, loss)
 }

@@ -3,7 +3,7 @@
 use crate::case::{Case, all_ops, count_of};
 use crate::explain::{Aspect, push_source};
 use crate::op_set::{OpSet, no_ops};
-use crate::remark::{Allocated, Phrase, Words, at_token, push_found, with_one};
+use crate::remark::{Allocated, Joint, Phrase, Words, at_token, push_found, push_phrase, with_one};
 use crate::shown::push_shown;
 use crate::waiting::push_waiting;
 use crate::ways::push_ways;
@@ -20,21 +20,56 @@ pub(crate) struct Loss<'a> {
     pub lost: OpSet,
 }
 
+// So many calls of an operation, as they stand in a sentence behind others, or first.
+fn run_of<'a>(op: OpId, count: usize, is_first: bool) -> Phrase<'a> {
+    let sentence = match (is_first, count > 1) {
+        (true, false) => "`$`",
+        (true, true) => "% times `$`",
+        (false, false) => ", `$`",
+        (false, true) => ", % times `$`",
+    };
+    Phrase {
+        second: Words::Name(op),
+        ..with_one(sentence, Words::Number(count))
+    }
+}
+
+// Calls as they stand in a sentence, those of one operation that stand together in one.
+fn calls_text(case: Case<'_>, calls: &[OpId]) -> Allocated<Vec<u8>> {
+    let mut text = Vec::new(case.alloc);
+    let mut count: usize = 0;
+    for (at, op) in calls.iter().enumerate() {
+        count = count.saturating_add(1);
+        if calls.get(at.saturating_add(1)) != Some(op) {
+            let is_first = text.is_empty();
+            push_phrase(&mut text, case.object, run_of(*op, count, is_first))?;
+            count = 0;
+        }
+    }
+    Ok(text)
+}
+
 // Adds what is said of a loss.
 fn push_loss(out: &mut Vec<u8>, loss: Loss<'_>, is_stuck: bool) -> Allocated<()> {
     let sentence = match (is_stuck, loss.calls.is_empty()) {
         (true, true) => "object `#` is stuck at once: none of its operations can ever start",
         (true, false) => "object `#` can get stuck: none of its operations can start again after %",
-        (false, true) => "object `#` has operations that can never start: $",
-        (false, false) => "object `#` can lose operations: $ can never start again after %",
+        (false, true) => "object `#` has operations that can never start: `$`",
+        (false, false) => "object `#` can lose operations: `$` can never start again after %",
     };
-    let said = Phrase {
-        second: Words::Names(loss.lost, b" and "),
-        ..with_one(sentence, Words::Calls(loss.calls))
-    };
-    push_found(out, loss.case, at_token(loss.case.tokens, 1, said))?;
+    push_first(out, loss, sentence)?;
     push_waiting(out, loss)?;
     push_shown(out, loss)
+}
+
+// Adds what is said first of a loss.
+fn push_first(out: &mut Vec<u8>, loss: Loss<'_>, sentence: &'static str) -> Allocated<()> {
+    let calls = calls_text(loss.case, loss.calls)?;
+    let said = Phrase {
+        second: Words::Names(loss.lost, Joint::And),
+        ..with_one(sentence, Words::Text(&calls))
+    };
+    push_found(out, loss.case, at_token(loss.case.tokens, 1, said))
 }
 
 // Adds what is said of an object that is stuck after these calls.

@@ -2,19 +2,20 @@
 
 use crate::case::{count_of, name_of, path_tokens};
 use crate::op_set::{OpSet, no_ops};
-use crate::remark::{Allocated, Phrase, Words, at_token, push_found, with_one};
+use crate::remark::{Allocated, Joint, Phrase, Remark, Words, at_token, push_found, with_one};
 use crate::stuck_explain::Loss;
 use note_core::tokens::find_name;
 use path_count::counters::compile;
 use path_tree::node::OpId;
 use path_tree::tree::PathTree;
 use std::alloc::Global;
+use std::slice::from_ref;
 use stuck_core::wait::waits_of;
 
 // The lost operations, but for those that are told, that this path alone refuses after the calls, each over before the
 // next one starts.
-fn refused_by(loss: Loss<'_>, alone: &[PathTree], told: OpSet) -> Allocated<OpSet> {
-    let mut counters = compile(loss.case.alloc, alone, count_of(loss.case.object))?;
+fn refused_by(loss: Loss<'_>, path: &PathTree, told: OpSet) -> Allocated<OpSet> {
+    let mut counters = compile(loss.case.alloc, from_ref(path), count_of(loss.case.object))?;
     for op in loss.calls {
         counters.start(*op);
         counters.finish(*op);
@@ -41,14 +42,36 @@ fn needs_of(alloc: Global, path: &PathTree, op: OpId) -> Allocated<OpSet> {
 fn waiting_for(alloc: Global, path: &PathTree, ops: OpSet, needs: OpSet) -> Allocated<OpSet> {
     let mut those = no_ops();
     for op in ops.all() {
-        if needs_of(alloc, path, *op)?.all() == needs.all() {
+        let others = needs_of(alloc, path, *op)?;
+        if others.all() == needs.all() {
             those = those.with(*op);
         }
     }
     Ok(those)
 }
 
-// Adds where operations wait that the path of this number refuses: all that wait for the same where the first of them stands.
+// Where operations wait for the same in the path of this number: told where this one is the first of them.
+fn of_wait<'a>(
+    loss: Loss<'_>,
+    number: usize,
+    op: OpId,
+    ops: OpSet,
+    needs: OpSet,
+) -> Option<Remark<'a>> {
+    let sentence = match ops.all() {
+        [first] if *first == op => "here `%` waits for an end of `$`",
+        [first, ..] if *first == op => "here `%` wait for an end of `$`",
+        _ => return None,
+    };
+    let said = Phrase {
+        second: Words::Names(needs, Joint::Or),
+        ..with_one(sentence, Words::Names(ops, Joint::And))
+    };
+    let path = path_tokens(loss.case.tokens, number);
+    at_token(path, find_name(path, name_of(loss.case.object, op))?, said)
+}
+
+// Adds where operations wait that the path of this number refuses.
 fn push_waits(
     out: &mut Vec<u8>,
     loss: Loss<'_>,
@@ -57,40 +80,21 @@ fn push_waits(
     refused: OpSet,
 ) -> Allocated<()> {
     let alloc = loss.case.alloc;
-    let tokens = path_tokens(loss.case.tokens, number);
-    let mut told = no_ops();
     for op in refused.all() {
-        if !told.has(*op) {
-            let needs = needs_of(alloc, path, *op)?;
-            let ops = waiting_for(alloc, path, refused, needs)?;
-            let sentence = if ops.all().len() == 1 {
-                "here % waits for an end of $"
-            } else {
-                "here % wait for an end of $"
-            };
-            let said = Phrase {
-                second: Words::Names(needs, b" or "),
-                ..with_one(sentence, Words::Names(ops, b" and "))
-            };
-            if let Some(at) = find_name(tokens, name_of(loss.case.object, *op)) {
-                push_found(out, loss.case, at_token(tokens, at, said))?;
-            }
-            told = told.with_all(ops.all());
-        }
+        let needs = needs_of(alloc, path, *op)?;
+        let ops = waiting_for(alloc, path, refused, needs)?;
+        push_found(out, loss.case, of_wait(loss, number, *op, ops, needs))?;
     }
     Ok(())
 }
 
 /// Adds where each lost operation waits after the calls: in the first path that refuses it.
 pub(crate) fn push_waiting(out: &mut Vec<u8>, loss: Loss<'_>) -> Allocated<()> {
-    let paths: &[PathTree] = &loss.case.object.paths;
     let mut told = no_ops();
-    for (number, path) in paths.iter().enumerate() {
-        if let Some(alone) = paths.get(number..=number) {
-            let refused = refused_by(loss, alone, told)?;
-            push_waits(out, loss, number, path, refused)?;
-            told = told.with_all(refused.all());
-        }
+    for (number, path) in loss.case.object.paths.iter().enumerate() {
+        let refused = refused_by(loss, path, told)?;
+        push_waits(out, loss, number, path, refused)?;
+        told = told.with_all(refused.all());
     }
     Ok(())
 }

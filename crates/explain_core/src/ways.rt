@@ -1,13 +1,13 @@
 //! Small changes of an object with which it keeps every operation.
 
-use crate::case::{Case, count_of, front_tokens, limit_at};
+use crate::case::{Case, count_of, limit_at, paths_of};
 use crate::change::{Rewrite, Trial, push_tried};
 use crate::op_set::{OpSet, no_ops};
 use crate::proposal::place_for_path;
-use crate::remark::{Allocated, Phrase, Words, push_hint, with_one};
+use crate::remark::{Allocated, Joint, Phrase, Words, push_hint, with_one};
 use crate::stuck_explain::Loss;
 use note_core::span::{Span, span_of, text_at};
-use note_core::tokens::{begins, from_symbol, is_any_name, is_symbol, tokens_from};
+use note_core::tokens::{begins, is_any_name, is_symbol, tokens_from};
 use path_tree::node::{Node, OpId};
 use path_tree::token::{Symbol, Token};
 use path_tree::tree::PathTree;
@@ -17,9 +17,11 @@ use stuck_core::wait::waits_of;
 // The most changes that are tried of an object.
 const MOST_TRIED: usize = 64;
 
-// What is changed in a path.
+// What is changed.
 #[derive(Clone, Copy)]
 enum Mend {
+    // A further path lets fewer calls be under way.
+    Path,
     // A bound is lower by one.
     Lower,
     // Two names stand the other way round.
@@ -28,7 +30,7 @@ enum Mend {
     Comma,
 }
 
-// The change of a kind at the first of these tokens of the paths, or for a comma at the second, if there is one.
+// The change of a kind in a path at the first of these tokens, or for a comma at the second, if there is one.
 fn mend_at<'a>(mend: Mend, case: Case<'a>, here: &[Token]) -> Option<Rewrite<'a>> {
     let source = case.page.source;
     match (mend, here) {
@@ -113,8 +115,8 @@ fn path_from<'a>(calls: usize, first: OpSet, last: OpSet) -> Phrase<'a> {
     Phrase {
         sentence,
         first: Words::Number(calls.saturating_sub(1)),
-        second: Words::Plain(first),
-        third: Words::Plain(last),
+        second: Words::Names(first, Joint::Comma),
+        third: Words::Names(last, Joint::Comma),
     }
 }
 
@@ -141,6 +143,19 @@ fn fewer<'a>(loss: Loss<'_>) -> Allocated<Option<Rewrite<'a>>> {
 
 // ---- all of them ----
 
+// The change of a kind at the token of this number of the paths, if there is one; a further path is told at the first one.
+fn change_at<'a>(
+    loss: Loss<'a>,
+    mend: Mend,
+    paths: &[Token],
+    number: usize,
+) -> Allocated<Option<Rewrite<'a>>> {
+    match (mend, number) {
+        (Mend::Path, 0) => fewer(loss),
+        _ => Ok(mend_at(mend, loss.case, tokens_from(paths, number))),
+    }
+}
+
 // Adds a change that does, unless enough was tried; whether it was added.
 fn push_way(
     out: &mut Vec<u8>,
@@ -159,30 +174,28 @@ fn push_way(
 }
 
 // Adds the first change of a kind that does, and of commas each; whether there is one.
-fn push_mend(out: &mut Vec<u8>, case: Case<'_>, mend: Mend, left: &mut usize) -> Allocated<bool> {
-    let paths = from_symbol(front_tokens(case.tokens), Symbol::Path, 0);
+fn push_mend(out: &mut Vec<u8>, loss: Loss<'_>, mend: Mend, left: &mut usize) -> Allocated<bool> {
+    let paths = paths_of(loss.case.tokens);
     let mut some = false;
-    for at in 0..paths.len() {
+    for number in 0..paths.len() {
         if !some || matches!(mend, Mend::Comma) {
-            let change = mend_at(mend, case, tokens_from(paths, at));
-            some = push_way(out, case, change, left)? || some;
+            let change = change_at(loss, mend, paths, number)?;
+            some = push_way(out, loss.case, change, left)? || some;
         }
     }
     Ok(some)
 }
 
-/// Adds small changes with which every operation of the object is kept, or what helps where none was found: a further path,
-/// the first change that does of each kind that takes no turn away, or else commas.
+/// Adds small changes with which every operation of the object is kept, or what helps where none was found: the first change
+/// that does of each kind that takes no turn away, or else commas.
 pub(crate) fn push_ways(out: &mut Vec<u8>, loss: Loss<'_>) -> Allocated<()> {
     let mut left = MOST_TRIED;
-    let path = fewer(loss)?;
-    let has_path = push_way(out, loss.case, path, &mut left)?;
-    let has_lower = push_mend(out, loss.case, Mend::Lower, &mut left)?;
-    let has_turned = push_mend(out, loss.case, Mend::Turned, &mut left)?;
-    let some = has_path
-        || has_lower
-        || has_turned
-        || push_mend(out, loss.case, Mend::Comma, &mut left)?;
+    let mut some = false;
+    for mend in [Mend::Path, Mend::Lower, Mend::Turned, Mend::Comma] {
+        if !some || !matches!(mend, Mend::Comma) {
+            some = push_mend(out, loss, mend, &mut left)? || some;
+        }
+    }
     let help = if some {
         "each such change was tried alone: choose by what the clients of `#` do"
     } else {
