@@ -1,7 +1,8 @@
 //! What stands around two names of a path.
 
-use note_core::tokens::{begins, find_name, first_tokens, is_symbol, tokens_from};
-use path_tree::token::{Symbol, Token, TokenKind};
+use crate::case::limit_at;
+use note_core::tokens::{begins, first_tokens, is_symbol, tokens_from};
+use path_tree::token::{Symbol, Token};
 
 /// Why a path that names two operations keeps them not apart, with the number of the token in the
 /// path where that stands.
@@ -17,57 +18,30 @@ pub(crate) enum Around {
     Burst(usize),
 }
 
-// Whether a token opens a bound, a burst or a group.
-fn opens(token: &Token) -> bool {
-    is_symbol(token, Symbol::OpenParen) || is_symbol(token, Symbol::OpenBracket)
+/// Whether a token is one of these.
+pub(crate) fn is_one(token: &Token, symbols: &[Symbol]) -> bool {
+    for symbol in symbols {
+        if is_symbol(token, *symbol) {
+            return true;
+        }
+    }
+    false
 }
 
-// Whether a token closes one.
-fn closes(token: &Token) -> bool {
-    is_symbol(token, Symbol::CloseParen) || is_symbol(token, Symbol::CloseBracket)
-}
-
-// Whether what the first of these tokens opens is not closed within them.
-fn is_open(tokens: &[Token]) -> bool {
+/// The number of the token that closes what the first of these tokens opens, where one of them does.
+pub(crate) fn closing(tokens: &[Token]) -> Option<usize> {
     let mut depth: usize = 0;
-    for token in tokens {
-        if opens(token) {
+    for (count, token) in tokens.iter().enumerate() {
+        if is_one(token, &[Symbol::OpenParen, Symbol::OpenBracket]) {
             depth = depth.saturating_add(1);
-        } else if closes(token) {
+        } else if is_one(token, &[Symbol::CloseParen, Symbol::CloseBracket]) {
             depth = depth.saturating_sub(1);
         }
         if depth == 0 {
-            return false;
+            return Some(count);
         }
     }
-    true
-}
-
-// The value of the first constant of this name in an object.
-fn constant_of(object: &[Token], name: &[u8]) -> u32 {
-    match find_name(object, name) {
-        Some(count) => match tokens_from(object, count) {
-            [_, _, value, ..] => number_of(value),
-            _ => 0,
-        },
-        None => 0,
-    }
-}
-
-// A number, or 0 where it is none.
-fn number_of(token: &Token) -> u32 {
-    match &token.kind {
-        TokenKind::Number(n) => *n,
-        _ => 0,
-    }
-}
-
-// How many a bound lets run.
-fn limit_of(object: &[Token], token: &Token) -> u32 {
-    match &token.kind {
-        TokenKind::Name(name) => constant_of(object, name.as_bytes()),
-        _ => number_of(token),
-    }
+    None
 }
 
 // What is known of what stands around, with what the opening token of this number opens.
@@ -78,24 +52,11 @@ fn with_opening(object: &[Token], path: &[Token], number: usize, so_far: Around)
             other => other,
         };
     }
-    match tokens_from(path, number.saturating_sub(2)) {
-        [limit, colon, ..] => if is_symbol(colon, Symbol::Colon) {
-            bounded(limit_of(object, limit), number.saturating_sub(2), so_far)
-        } else {
-            so_far
-        },
+    let bound = number.saturating_sub(2);
+    match (limit_at(object, tokens_from(path, bound)), so_far) {
+        (Some((_, 1)), _) => Around::One,
+        (Some(_), Around::Nothing | Around::Bound(_)) => Around::Bound(bound),
         _ => so_far,
-    }
-}
-
-// What is known of what stands around, with a bound of this limit, which stands at the token of this number.
-fn bounded(limit: u32, number: usize, so_far: Around) -> Around {
-    if limit == 1 {
-        return Around::One;
-    }
-    match so_far {
-        Around::Nothing | Around::Bound(_) => Around::Bound(number),
-        other => other,
     }
 }
 
@@ -104,7 +65,7 @@ pub(crate) fn why_in(object: &[Token], path: &[Token], first: usize, second: usi
     let mut found = Around::Nothing;
     let last = first.max(second);
     for number in 0..first.min(second) {
-        if is_open(tokens_from(first_tokens(path, last), number)) {
+        if closing(tokens_from(first_tokens(path, last), number)).is_none() {
             found = with_opening(object, path, number, found);
         }
     }

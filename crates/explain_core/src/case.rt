@@ -1,33 +1,66 @@
-//! An object of a source, and calls after which it loses operations.
+//! An object of a source.
 
+use crate::op_set::{OpSet, no_ops};
 use decl_core::object::Object;
-use itoa::Buffer;
 use note_core::page::Page;
-use note_core::tokens::{count_to, first_tokens, section};
+use note_core::span::{Span, span_of};
+use note_core::tokens::{
+    count_to, find_name, first_tokens, from_symbol, is_symbol, name_of as word_of, section,
+    tokens_from,
+};
 use path_tree::node::OpId;
-use path_tree::token::{Symbol, Token};
-use std::alloc::AllocError;
+use path_tree::token::{Symbol, Token, TokenKind};
+use std::alloc::Global;
 
-/// An object of a page, calls of it, and the operations that are lost after them.
+/// An object of a page.
 #[derive(Clone, Copy)]
 pub(crate) struct Case<'a> {
+    /// Where memory is taken.
+    pub alloc: Global,
     pub page: Page<'a>,
     pub object: &'a Object,
     /// Its number in the source, from 0.
     pub number: usize,
     /// Its tokens, from the word `object` on.
     pub tokens: &'a [Token],
-    /// The calls, one after the other.
-    pub calls: &'a [OpId],
-    pub lost: &'a [OpId],
+}
+
+/// The object of this number of a page.
+pub(crate) fn case_of<'a>(
+    alloc: Global,
+    page: Page<'a>,
+    object: &'a Object,
+    number: usize,
+) -> Case<'a> {
+    Case {
+        alloc,
+        page,
+        object,
+        number,
+        tokens: section(page.tokens, Symbol::Object, number),
+    }
+}
+
+/// The operation of this number: an object has far fewer than have a number.
+pub(crate) fn op_of(number: usize) -> OpId {
+    match u16::try_from(number) {
+        Ok(op) => op,
+        Err(_) => 0,
+    }
 }
 
 /// How many operations an object has.
 pub(crate) fn count_of(object: &Object) -> OpId {
-    match u16::try_from(object.operations.len()) {
-        Ok(count) => count,
-        Err(_) => 0,
+    op_of(object.operations.len())
+}
+
+/// All operations of an object.
+pub(crate) fn all_ops(object: &Object) -> OpSet {
+    let mut all = no_ops();
+    for op in 0..count_of(object) {
+        all = all.with(op);
     }
+    all
 }
 
 /// The name of an operation of an object.
@@ -38,82 +71,45 @@ pub(crate) fn name_of(object: &Object, op: OpId) -> &[u8] {
     }
 }
 
+/// The tokens of an object in front of its parts and its operations; its paths are the last ones.
+pub(crate) fn front_tokens(object: &[Token]) -> &[Token] {
+    let parts = count_to(object, Symbol::Var);
+    first_tokens(object, parts.min(count_to(object, Symbol::Entry)))
+}
+
+/// The tokens of all its paths, each with the semicolon behind it.
+pub(crate) fn paths_of(object: &[Token]) -> &[Token] {
+    from_symbol(front_tokens(object), Symbol::Path, 0)
+}
+
 /// The tokens of the path of this number, from the word `path` to the word `end`.
 pub(crate) fn path_tokens(object: &[Token], number: usize) -> &[Token] {
-    let path = section(object, Symbol::Path, number);
+    let path = from_symbol(object, Symbol::Path, number);
     first_tokens(path, count_to(path, Symbol::End).saturating_add(1))
 }
 
-// Adds the name of an operation as it stands in a sentence.
-fn push_name(out: &mut Vec<u8>, object: &Object, op: OpId) -> Result<(), AllocError> {
-    out.push(b'`')?;
-    out.extend_from_slice(name_of(object, op))?;
-    out.push(b'`')?;
-    Ok(())
-}
-
-// What stands before the name of this number, of so many.
-fn between(at: usize, count: usize, last: &'static [u8]) -> &'static [u8] {
-    if at == 0 {
-        b""
-    } else if at.saturating_add(1) == count {
-        last
-    } else {
-        b", "
+// Where a token stands, and the number that it is, or 0.
+fn number_at(token: &Token) -> (Span, usize) {
+    match &token.kind {
+        TokenKind::Number(number) => (span_of(token), *number as usize),
+        _ => (span_of(token), 0),
     }
 }
 
-/// Adds the names of operations, with this between the last two.
-pub(crate) fn push_names(
-    out: &mut Vec<u8>,
-    object: &Object,
-    ops: &[OpId],
-    last: &'static [u8],
-) -> Result<(), AllocError> {
-    for (at, op) in ops.iter().enumerate() {
-        out.extend_from_slice(between(at, ops.len(), last))?;
-        push_name(out, object, *op)?;
+/// Where the number stands of the bound that begins here, and which it is: its own, or that of the constant of its name.
+pub(crate) fn limit_at(object: &[Token], here: &[Token]) -> Option<(Span, usize)> {
+    let [token, colon, ..] = here else {
+        return None;
+    };
+    if !is_symbol(colon, Symbol::Colon) {
+        return None;
     }
-    Ok(())
-}
-
-/// Adds a number.
-pub(crate) fn push_number(out: &mut Vec<u8>, number: usize) -> Result<(), AllocError> {
-    let mut buffer = Buffer::new();
-    out.extend_from_slice(buffer.format(number as u64).as_bytes())
-}
-
-// Adds so many calls of an operation, where there are some.
-fn push_run(out: &mut Vec<u8>, object: &Object, op: OpId, count: usize) -> Result<(), AllocError> {
-    if count == 0 {
-        return Ok(());
+    let count = match find_name(object, word_of(here)) {
+        Some(count) => count,
+        None => return Some(number_at(token)),
+    };
+    match tokens_from(object, count) {
+        [_, _, value, ..] => Some(number_at(value)),
+        _ => None,
     }
-    if !out.is_empty() {
-        out.extend_from_slice(b", ")?;
-    }
-    if count > 1 {
-        push_number(out, count)?;
-        out.extend_from_slice(b" times ")?;
-    }
-    push_name(out, object, op)
-}
-
-/// Calls as they stand in a sentence, those of one operation that stand together in one.
-pub(crate) fn calls_text(
-    alloc: std::alloc::Global,
-    object: &Object,
-    calls: &[OpId],
-) -> Result<Vec<u8>, AllocError> {
-    let mut out = Vec::new(alloc);
-    let mut run: (OpId, usize) = (0, 0);
-    for op in calls {
-        if run.0 == *op {
-            run.1 = run.1.saturating_add(1);
-        } else {
-            push_run(&mut out, object, run.0, run.1)?;
-            run = (*op, 1);
-        }
-    }
-    push_run(&mut out, object, run.0, run.1)?;
-    Ok(out)
 }

@@ -1,25 +1,33 @@
-//! The explanation of a source.
+//! The explanation of a source, and the reading of one for what is asked of it.
 
-use crate::proposal::{Pair, place_for_path, proposal};
-use crate::refusal::{RefusalCase, push_case};
-use decl_core::analyse::{ObjectRefusal, Refused, analyse};
+use crate::case::{Case, case_of, op_of};
+use crate::proposal::push_proposal;
+use crate::refusal::{Conflict, push_conflict};
+use crate::remark::Allocated;
+use crate::stuck_explain::push_losses;
+use decl_core::analyse::{ObjectRefusal, analyse};
 use decl_core::object::Object;
 use decl_read::fault::DeclFault;
 use decl_read::read::read_objects;
 use explain_fault::fault::{is_want_of_memory, push_fault};
-use note_core::page::{Page, push_help, push_new_line, push_note};
-use note_core::said::MessageWords;
-use note_core::span::Span;
-use note_core::tokens::section;
+use note_core::page::Page;
 use path_tree::lex::lex;
-use path_tree::token::Symbol;
 use std::alloc::{AllocError, Global};
 
-// The name of an operation of an object.
-fn operation_name(object: &Object, number: usize) -> &[u8] {
-    match object.operations.get(number) {
-        Some(operation) => operation.name.as_bytes(),
-        None => b"",
+/// What is asked of a source.
+#[derive(Clone, Copy)]
+pub(crate) enum Aspect<'a> {
+    /// Why it is refused, or its objects are, or the one of this name.
+    Refusals(Option<&'a [u8]>),
+    /// What its accepted objects lose.
+    Losses,
+}
+
+// Whether an object is asked for.
+fn is_wanted(object: &Object, aspect: Aspect<'_>) -> bool {
+    match aspect {
+        Aspect::Refusals(Some(name)) => object.name.as_bytes() == name,
+        Aspect::Refusals(None) | Aspect::Losses => true,
     }
 }
 
@@ -31,106 +39,47 @@ fn part_name(object: &Object, number: usize) -> &[u8] {
     }
 }
 
-// What helps where no further path has room.
-fn no_room_help(is_same: bool) -> &'static str {
-    if is_same {
-        "no further path has room in the object: put `1:( .. )` around `%` in a path that there is"
-    } else {
-        "no further path has room in the object: put `1:( .. )` around `%` and `$` in a path that there is"
-    }
-}
-
-// Adds the path that would do, or what helps where none was found.
-fn push_proposal(
-    out: &mut Vec<u8>,
-    page: Page<'_>,
-    line: Option<Vec<u8>>,
-    at: usize,
-    is_same: bool,
-    words: MessageWords<'_>,
-) -> Result<(), AllocError> {
-    match line {
-        Some(line) => {
-            let sentence = "with this path, put here, object `#` is accepted";
-            push_note(out, page, Span { start: at, end: at }, sentence, words)?;
-            push_new_line(out, &line)
-        }
-        None => push_help(out, no_room_help(is_same), words),
-    }
-}
-
-// Adds what is said of two operations of the object of this number that are not kept apart.
-fn push_unseparated(
-    alloc: Global,
-    out: &mut Vec<u8>,
-    page: Page<'_>,
-    object: &Object,
-    number: usize,
-    pair: (usize, usize, usize),
-) -> Result<(), AllocError> {
-    let (first, second, part) = pair;
-    let names = MessageWords {
-        first: operation_name(object, first),
-        second: operation_name(object, second),
-        third: part_name(object, part),
-        fourth: object.name.as_bytes(),
-    };
-    let tokens = section(page.tokens, Symbol::Object, number);
-    let case = RefusalCase {
-        tokens,
-        first,
-        second,
-        names,
-    };
-    push_case(out, page, case)?;
-    let at = place_for_path(tokens);
-    let apart = Pair { first, second };
-    let line = proposal(alloc, page.source, object, number, at, apart)?;
-    push_proposal(out, page, line, at, first == second, names)
-}
-
-// Adds what is said of an object that is refused.
+// Adds what is said of a refused object.
 fn push_refused(
-    alloc: Global,
     out: &mut Vec<u8>,
-    page: Page<'_>,
-    refused: &Refused,
-    number: usize,
-) -> Result<(), AllocError> {
-    match refused.why {
-        ObjectRefusal::Memory => Err(AllocError),
-        ObjectRefusal::Unseparated(first, second, part) => {
-            push_unseparated(
-                alloc,
-                out,
-                page,
-                &refused.object,
-                number,
-                (first, second, part),
-            )
+    case: Case<'_>,
+    why: ObjectRefusal,
+    aspect: Aspect<'_>,
+) -> Allocated<()> {
+    match (why, aspect) {
+        (ObjectRefusal::Memory, _) => Err(AllocError),
+        (ObjectRefusal::Unseparated(..), Aspect::Losses) => Ok(()),
+        (ObjectRefusal::Unseparated(first, second, part), Aspect::Refusals(_)) => {
+            let conflict = Conflict {
+                case,
+                first: op_of(first),
+                second: op_of(second),
+                part: part_name(case.object, part),
+            };
+            push_conflict(out, conflict)?;
+            push_proposal(out, conflict)
         }
     }
 }
 
-// Adds what is said of the object of this number, if it is refused.
+// Adds what is said of the object of this number.
 fn push_object(
     alloc: Global,
     out: &mut Vec<u8>,
     page: Page<'_>,
     object: Object,
     number: usize,
-) -> Result<(), AllocError> {
+    aspect: Aspect<'_>,
+) -> Allocated<()> {
     match analyse(alloc, object) {
-        Ok(_) => Ok(()),
-        Err(refused) => push_refused(alloc, out, page, &refused, number),
-    }
-}
-
-// Whether an object is asked for: that of the name, or each.
-fn is_wanted(object: &Object, only: Option<&[u8]>) -> bool {
-    match only {
-        Some(name) => object.name.as_bytes() == name,
-        None => true,
+        Ok(accepted) => match aspect {
+            Aspect::Losses => push_losses(out, case_of(alloc, page, accepted.object(), number)),
+            Aspect::Refusals(_) => Ok(()),
+        },
+        Err(refused) => {
+            let case = case_of(alloc, page, &refused.object, number);
+            push_refused(out, case, refused.why, aspect)
+        }
     }
 }
 
@@ -140,31 +89,56 @@ fn push_told(
     out: &mut Vec<u8>,
     page: Page<'_>,
     fault: DeclFault,
-) -> Result<(), AllocError> {
+    aspect: Aspect<'_>,
+) -> Allocated<()> {
     if is_want_of_memory(fault) {
-        Err(AllocError)
-    } else {
-        push_fault(alloc, out, page, fault)
+        return Err(AllocError);
+    }
+    match aspect {
+        Aspect::Refusals(_) => push_fault(alloc, out, page, fault),
+        Aspect::Losses => Ok(()),
     }
 }
 
 // Adds what is said of a source that has tokens.
-fn push_source(
+fn push_objects(
     alloc: Global,
     out: &mut Vec<u8>,
     page: Page<'_>,
-    only: Option<&[u8]>,
-) -> Result<(), AllocError> {
+    aspect: Aspect<'_>,
+) -> Allocated<()> {
     match read_objects(alloc, page.source) {
-        Err(fault) => push_told(alloc, out, page, fault),
+        Err(fault) => push_told(alloc, out, page, fault, aspect),
         Ok(all) => {
             for (number, object) in all.into_values().enumerate() {
-                if is_wanted(&object, only) {
-                    push_object(alloc, out, page, object, number)?;
+                if is_wanted(&object, aspect) {
+                    push_object(alloc, out, page, object, number, aspect)?;
                 }
             }
             Ok(())
         }
+    }
+}
+
+/// Adds what is said of a source in this file.
+pub(crate) fn push_source(
+    alloc: Global,
+    out: &mut Vec<u8>,
+    file: &[u8],
+    source: &[u8],
+    aspect: Aspect<'_>,
+) -> Allocated<()> {
+    let page = Page {
+        file,
+        source,
+        tokens: &[],
+    };
+    match lex(alloc, source) {
+        Ok(tokens) => {
+            let tokens = &tokens;
+            push_objects(alloc, out, Page { tokens, ..page }, aspect)
+        }
+        Err(fault) => push_told(alloc, out, page, DeclFault::Lex(fault), aspect),
     }
 }
 
@@ -181,23 +155,6 @@ pub fn explain(
     only: Option<&[u8]>,
 ) -> Result<Vec<u8>, AllocError> {
     let mut out = Vec::new(alloc);
-    match lex(alloc, source) {
-        Ok(tokens) => {
-            let page = Page {
-                file,
-                source,
-                tokens: &tokens,
-            };
-            push_source(alloc, &mut out, page, only)?;
-        }
-        Err(fault) => {
-            let page = Page {
-                file,
-                source,
-                tokens: &[],
-            };
-            push_told(alloc, &mut out, page, DeclFault::Lex(fault))?;
-        }
-    }
+    push_source(alloc, &mut out, file, source, Aspect::Refusals(only))?;
     Ok(out)
 }

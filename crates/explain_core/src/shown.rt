@@ -1,125 +1,93 @@
 //! The lines with which `pathserve paths` shows what is lost.
 
-use crate::case::{Case, name_of, path_tokens, push_number};
-use note_core::page::push_help;
-use note_core::said::MessageWords;
+use crate::case::{Case, all_ops, limit_at, paths_of};
+use crate::remark::{Allocated, Joint, Phrase, Words, push_hint, push_phrase, with_one};
+use crate::stuck_explain::Loss;
+use decl_core::object::Object;
 use note_core::span::{span_of, text_at};
-use note_core::tokens::{
-    begins, find_name, is_any_name, is_symbol, name_of as word_of, tokens_from,
-};
+use note_core::tokens::{ends, first_tokens, is_any_name, tokens_from};
 use path_tree::node::OpId;
 use path_tree::token::{Symbol, Token, TokenKind};
-use std::alloc::AllocError;
 
 // The most calls that are shown.
 const MOST_SHOWN: usize = 16;
 
-// The token of the value of a constant of an object, where it has one of this name, in lower case.
-pub(crate) fn value_of<'t>(object: &'t [Token], name: &[u8]) -> Option<&'t Token> {
-    let count = find_name(object, name)?;
-    match tokens_from(object, count) {
-        [_, _, value, ..] => Some(value),
-        _ => None,
-    }
-}
+const FEW: &str =
+    "to see it, give `pathserve paths` these lines; each start at their end is blocked";
 
-/// The number that a token is, or 0.
-pub(crate) fn number_of(token: &Token) -> u32 {
+const MANY: &str =
+    "`pathserve paths` shows it: give it the paths, a start and a finish of each call, and a start of what is lost";
+
+// How a token of the paths is set; `is_behind` of what closes a path behind its `end`.
+fn setting_of(token: &Token, is_behind: bool) -> &'static str {
     match &token.kind {
-        TokenKind::Number(number) => *number,
-        _ => 0,
+        TokenKind::Symbol(_) if is_behind => "",
+        TokenKind::Symbol(Symbol::Path) => "      | % ",
+        TokenKind::Symbol(Symbol::End) => " %\n",
+        TokenKind::Symbol(Symbol::Comma | Symbol::Semicolon) => "% ",
+        _ => "%",
     }
 }
 
-// Adds the text of a token of a path: of a constant before a colon its value.
-fn push_token(out: &mut Vec<u8>, case: Case<'_>, here: &[Token]) -> Result<(), AllocError> {
-    let [token, behind @ ..] = here else {
-        return Ok(());
+// The text of the token of this number of the paths: of a constant before a colon its value.
+fn text_at_token<'a>(case: Case<'a>, paths: &[Token], number: usize) -> Phrase<'a> {
+    let here = tokens_from(paths, number);
+    let [token, ..] = here else {
+        return with_one("", Words::Nothing);
     };
-    if is_any_name(token) && begins(behind, Symbol::Colon) {
-        if let Some(value) = value_of(case.tokens, word_of(here)) {
-            return push_number(out, number_of(value) as usize);
-        }
-    }
-    if is_symbol(token, Symbol::End) {
-        out.push(b' ')?;
-    }
-    out.extend_from_slice(text_at(case.page.source, span_of(token)))?;
-    if is_symbol(token, Symbol::Comma)
-        || is_symbol(token, Symbol::Semicolon)
-        || is_symbol(token, Symbol::Path)
-    {
-        out.push(b' ')?;
+    let words = match limit_at(case.tokens, here) {
+        Some((_, value)) if is_any_name(token) => Words::Number(value),
+        _ => Words::Text(text_at(case.page.source, span_of(token))),
+    };
+    let is_behind = ends(first_tokens(paths, number), Symbol::End);
+    with_one(setting_of(token, is_behind), words)
+}
+
+// Adds the lines of the paths.
+fn push_paths(out: &mut Vec<u8>, case: Case<'_>) -> Allocated<()> {
+    let paths = paths_of(case.tokens);
+    for number in 0..paths.len() {
+        push_phrase(out, case.object, text_at_token(case, paths, number))?;
     }
     Ok(())
 }
 
-// Adds what stands before a line that is shown.
-fn push_margin(out: &mut Vec<u8>) -> Result<(), AllocError> {
-    out.extend_from_slice(b"      | ")
-}
-
-// Adds the line of a path.
-fn push_path(out: &mut Vec<u8>, case: Case<'_>, path: &[Token]) -> Result<(), AllocError> {
-    push_margin(out)?;
-    for at in 0..path.len() {
-        push_token(out, case, tokens_from(path, at))?;
+// Adds a sentence for each of some operations.
+fn push_each(
+    out: &mut Vec<u8>,
+    object: &Object,
+    ops: &[OpId],
+    sentence: &'static str,
+) -> Allocated<()> {
+    for op in ops {
+        push_phrase(out, object, with_one(sentence, Words::Name(*op)))?;
     }
-    out.push(b'\n')?;
     Ok(())
 }
 
-// Adds the line of the operations.
-fn push_operations(out: &mut Vec<u8>, case: Case<'_>) -> Result<(), AllocError> {
-    push_margin(out)?;
-    out.extend_from_slice(b"ops")?;
-    for operation in &case.object.operations {
-        out.push(b' ')?;
-        out.extend_from_slice(operation.name.as_bytes())?;
-    }
-    out.push(b'\n')?;
-    Ok(())
-}
-
-// Adds the line of a start or a finish.
-fn push_event(out: &mut Vec<u8>, case: Case<'_>, word: &[u8], op: OpId) -> Result<(), AllocError> {
-    push_margin(out)?;
-    out.extend_from_slice(word)?;
-    out.extend_from_slice(name_of(case.object, op))?;
-    out.push(b'\n')?;
-    Ok(())
+// Adds the lines.
+fn push_lines(out: &mut Vec<u8>, loss: Loss<'_>) -> Allocated<()> {
+    let object = loss.case.object;
+    let names = Words::Names(all_ops(object), Joint::Space);
+    push_phrase(out, object, with_one("      | ops %\n", names))?;
+    push_paths(out, loss.case)?;
+    push_each(
+        out,
+        object,
+        loss.calls,
+        "      | start %\n      | finish %\n",
+    )?;
+    push_each(out, object, loss.lost.all(), "      | start %\n")
 }
 
 /// Adds the lines, where the calls are few.
-pub(crate) fn push_shown(out: &mut Vec<u8>, case: Case<'_>) -> Result<(), AllocError> {
-    let none = MessageWords {
-        first: b"",
-        second: b"",
-        third: b"",
-        fourth: b"",
-    };
-    if case.calls.len() > MOST_SHOWN {
-        return push_help(
-            out,
-            "`pathserve paths` shows it: give it the paths, a start and a finish of each call, and a start of what is lost",
-            none,
-        );
+pub(crate) fn push_shown(out: &mut Vec<u8>, loss: Loss<'_>) -> Allocated<()> {
+    let is_few = loss.calls.len() <= MOST_SHOWN;
+    let sentence = if is_few { FEW } else { MANY };
+    push_hint(out, loss.case, with_one(sentence, Words::Nothing))?;
+    if is_few {
+        push_lines(out, loss)
+    } else {
+        Ok(())
     }
-    push_help(
-        out,
-        "to see it, give `pathserve paths` these lines; each start at their end is blocked",
-        none,
-    )?;
-    push_operations(out, case)?;
-    for number in 0..case.object.paths.len() {
-        push_path(out, case, path_tokens(case.tokens, number))?;
-    }
-    for op in case.calls {
-        push_event(out, case, b"start ", *op)?;
-        push_event(out, case, b"finish ", *op)?;
-    }
-    for op in case.lost {
-        push_event(out, case, b"start ", *op)?;
-    }
-    Ok(())
 }

@@ -1,141 +1,100 @@
 //! Where the operations that are lost wait.
 
-use crate::case::{Case, count_of, name_of, path_tokens, push_names};
-use note_core::page::push_note;
-use note_core::said::MessageWords;
-use note_core::span::span_of;
-use note_core::tokens::{find_name, tokens_from};
-use path_count::counters::{Counters, compile};
+use crate::case::{count_of, name_of, path_tokens};
+use crate::op_set::{OpSet, no_ops};
+use crate::remark::{Allocated, Joint, Phrase, Remark, Words, at_token, push_found, with_one};
+use crate::stuck_explain::Loss;
+use note_core::tokens::find_name;
+use path_count::counters::compile;
 use path_tree::node::OpId;
 use path_tree::tree::PathTree;
-use std::alloc::{AllocError, Global};
+use std::alloc::Global;
+use std::slice::from_ref;
 use stuck_core::wait::waits_of;
 
-// What one path has counted after these calls, each over before the next one starts.
-fn counted(
-    alloc: Global,
-    path: &[PathTree],
-    count: OpId,
-    calls: &[OpId],
-) -> Result<Counters, AllocError> {
-    let mut counters = compile(alloc, path, count)?;
-    for op in calls {
+// The lost operations, but for those that are told, that this path alone refuses after the calls, each over before the
+// next one starts.
+fn refused_by(loss: Loss<'_>, path: &PathTree, told: OpSet) -> Allocated<OpSet> {
+    let mut counters = compile(loss.case.alloc, from_ref(path), count_of(loss.case.object))?;
+    for op in loss.calls {
         counters.start(*op);
         counters.finish(*op);
     }
-    Ok(counters)
+    let mut refused = no_ops();
+    for op in loss.lost.all() {
+        if !told.has(*op) && !counters.can_start(*op) {
+            refused = refused.with(*op);
+        }
+    }
+    Ok(refused)
 }
 
-// The operations one of which has to end before this one starts, where a path refuses it.
-fn needs_of(alloc: Global, path: &PathTree, op: OpId) -> Result<Vec<OpId>, AllocError> {
-    let mut needs = Vec::new(alloc);
+// The operations one of which has to end before this one starts, where this path refuses it.
+fn needs_of(alloc: Global, path: &PathTree, op: OpId) -> Allocated<OpSet> {
+    let mut needs = no_ops();
     for place in &waits_of(alloc, path, op)? {
-        for need in &place.needs {
-            if !needs.contains(need) {
-                needs.push(*need)?;
-            }
-        }
+        needs = needs.with_all(&place.needs);
     }
     Ok(needs)
 }
 
-// Those of some operations that this path refuses and that wait for the same as the first of them, which has no note yet.
-#[derive(Drop)]
-struct Group {
-    ops: Vec<OpId>,
-    needs: Vec<OpId>,
-}
-
-// Adds where these operations wait in the path of this number.
-fn push_group(
-    alloc: Global,
-    out: &mut Vec<u8>,
-    case: Case<'_>,
-    number: usize,
-    group: &Group,
-) -> Result<(), AllocError> {
-    let Some(first) = group.ops.first() else {
-        return Ok(());
-    };
-    let mut names = Vec::new(alloc);
-    push_names(&mut names, case.object, &group.ops, b" and ")?;
-    let mut needs = Vec::new(alloc);
-    push_names(&mut needs, case.object, &group.needs, b" or ")?;
-    let words = MessageWords {
-        first: &names,
-        second: &needs,
-        third: b"",
-        fourth: b"",
-    };
-    let sentence = if group.ops.len() == 1 {
-        "here % waits for an end of $"
-    } else {
-        "here % wait for an end of $"
-    };
-    let path = path_tokens(case.tokens, number);
-    let Some(at) = find_name(path, name_of(case.object, *first)) else {
-        return Ok(());
-    };
-    match tokens_from(path, at) {
-        [token, ..] => push_note(out, case.page, span_of(token), sentence, words),
-        [] => Ok(()),
+// Those of some operations that wait in this path for just these.
+fn waiting_for(alloc: Global, path: &PathTree, ops: OpSet, needs: OpSet) -> Allocated<OpSet> {
+    let mut those = no_ops();
+    for op in ops.all() {
+        let others = needs_of(alloc, path, *op)?;
+        if others.all() == needs.all() {
+            those = those.with(*op);
+        }
     }
+    Ok(those)
 }
 
-// Takes up an operation that waits into the group of those that wait for the same.
-fn gather(
-    alloc: Global,
-    groups: &mut Vec<Group>,
+// Where operations wait for the same in the path of this number: told where this one is the first of them.
+fn of_wait<'a>(
+    loss: Loss<'_>,
+    number: usize,
     op: OpId,
-    needs: Vec<OpId>,
-) -> Result<(), AllocError> {
-    for group in &mut *groups {
-        if group.needs == needs {
-            group.ops.push(op)?;
-            return Ok(());
-        }
-    }
-    let mut ops = Vec::new(alloc);
-    ops.push(op)?;
-    groups.push(Group { ops, needs })?;
-    Ok(())
+    ops: OpSet,
+    needs: OpSet,
+) -> Option<Remark<'a>> {
+    let sentence = match ops.all() {
+        [first] if *first == op => "here `%` waits for an end of `$`",
+        [first, ..] if *first == op => "here `%` wait for an end of `$`",
+        _ => return None,
+    };
+    let said = Phrase {
+        second: Words::Names(needs, Joint::Or),
+        ..with_one(sentence, Words::Names(ops, Joint::And))
+    };
+    let path = path_tokens(loss.case.tokens, number);
+    at_token(path, find_name(path, name_of(loss.case.object, op))?, said)
 }
 
-// Adds where the operations wait that the path of this number refuses, and for which no path before it has a note.
-fn push_path(
-    alloc: Global,
+// Adds where operations wait that the path of this number refuses.
+fn push_waits(
     out: &mut Vec<u8>,
-    case: Case<'_>,
+    loss: Loss<'_>,
     number: usize,
-    told: &mut Vec<OpId>,
-) -> Result<(), AllocError> {
-    let paths: &[PathTree] = &case.object.paths;
-    let (Some(path), Some(alone)) = (paths.get(number), paths.get(number..=number)) else {
-        return Ok(());
-    };
-    let counters = counted(alloc, alone, count_of(case.object), case.calls)?;
-    let mut groups = Vec::new(alloc);
-    for op in case.lost {
-        if !told.contains(op) && !counters.can_start(*op) {
-            told.push(*op)?;
-            gather(alloc, &mut groups, *op, needs_of(alloc, path, *op)?)?;
-        }
-    }
-    for group in &groups {
-        push_group(alloc, out, case, number, group)?;
+    path: &PathTree,
+    refused: OpSet,
+) -> Allocated<()> {
+    let alloc = loss.case.alloc;
+    for op in refused.all() {
+        let needs = needs_of(alloc, path, *op)?;
+        let ops = waiting_for(alloc, path, refused, needs)?;
+        push_found(out, loss.case, of_wait(loss, number, *op, ops, needs))?;
     }
     Ok(())
 }
 
 /// Adds where each lost operation waits after the calls: in the first path that refuses it.
-pub(crate) fn push_waiting(
-    alloc: Global,
-    out: &mut Vec<u8>,
-    case: Case<'_>,
-) -> Result<(), AllocError> {
-    let mut told = Vec::new(alloc);
-    for number in 0..case.object.paths.len() {
-        push_path(alloc, out, case, number, &mut told)?;
+pub(crate) fn push_waiting(out: &mut Vec<u8>, loss: Loss<'_>) -> Allocated<()> {
+    let mut told = no_ops();
+    for (number, path) in loss.case.object.paths.iter().enumerate() {
+        let refused = refused_by(loss, path, told)?;
+        push_waits(out, loss, number, path, refused)?;
+        told = told.with_all(refused.all());
     }
     Ok(())
 }
