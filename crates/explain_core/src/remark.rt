@@ -4,7 +4,7 @@ use crate::case::{Case, name_of};
 use crate::op_set::OpSet;
 use decl_core::object::Object;
 use itoa::Buffer;
-use note_core::finding::only;
+use note_core::finding::two;
 use note_core::page::{push_help, push_note};
 use note_core::span::{Span, span_of};
 use note_core::tokens::tokens_from;
@@ -146,8 +146,8 @@ pub(crate) fn push_found(
         Some(remark) => {
             let text = text_of(case, remark.said)?;
             match remark.place {
-                Some(span) => push_note(out, case.page, span, "%", only(&text)),
-                None => push_help(out, "%", only(&text)),
+                Some(span) => push_note(out, case.page, span, "%", two(&text, b"")),
+                None => push_help(out, "%", two(&text, b"")),
             }
         }
         None => Ok(()),
