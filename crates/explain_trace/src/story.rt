@@ -4,7 +4,6 @@ use crate::called::operation_named;
 use crate::rules::MOST_CALLS;
 use crate::script::line_at;
 use apply_core::fits::{arguments_fit, parts_fit};
-use apply_core::reply::Reply;
 use decl_core::object::{Object, Operation, Part};
 use hex::FromHexError;
 use known_core::apply::apply_all;
@@ -18,6 +17,7 @@ use value_bytes::decode::{DecodeFault, decode_kept};
 use value_core::datum::Datum;
 use value_core::value::Value;
 use word_core::number::integer_of;
+use word_core::reply::push_reply;
 use word_core::word::Word;
 use word_core::words::{data_of, words_of};
 
@@ -92,38 +92,41 @@ fn arguments_in(alloc: Global, line: &[u8]) -> Result<Option<Vec<Datum>>, AllocE
     }
 }
 
-/// What the object replies to a call of this trace on these values, which are those after it then.
+/// The words of the reply that the object gives to a call of this trace on these values, each behind a space. The values
+/// are those after it then.
 pub(crate) fn reply_to(
     alloc: Global,
     object: &Object,
     text: &[u8],
     call: SeenCall,
     values: &mut Vec<Value>,
-) -> Result<Option<Reply>, AllocError> {
+) -> Result<Vec<u8>, AllocError> {
     let Some(operation) = object.operations.get(call.operation) else {
-        return Ok(None);
+        return Ok(Vec::new(alloc));
     };
     match arguments_in(alloc, text_at(text, call.started))? {
         Some(arguments) => given(alloc, operation, &arguments, values),
-        None => Ok(None),
+        None => Ok(Vec::new(alloc)),
     }
 }
 
-// What an operation replies to these arguments on these values, where they fit it.
+// The words of what an operation replies to these arguments on these values, where they fit it.
 fn given(
     alloc: Global,
     operation: &Operation,
     arguments: &[Datum],
     values: &mut Vec<Value>,
-) -> Result<Option<Reply>, AllocError> {
+) -> Result<Vec<u8>, AllocError> {
     if !arguments_fit(operation, arguments) {
-        return Ok(None);
+        return Ok(Vec::new(alloc));
     }
     if !parts_fit(operation, values) {
-        return Ok(None);
+        return Ok(Vec::new(alloc));
     }
     let reply = apply_all(alloc, operation, arguments, values)?;
-    Ok(Some(reply))
+    let mut text = Vec::new(alloc);
+    push_reply(&mut text, &reply)?;
+    Ok(text)
 }
 
 // Hears the opening value of the next part.
@@ -191,7 +194,7 @@ fn hear_end(
     if let Some(Some(call)) = story.calls.get_mut(number) {
         call.ended = Some(line);
         if !is_same_word(words.bare(2), b"failed") {
-            let _reply = reply_to(alloc, object, words.text, *call, &mut story.values)?;
+            let _words = reply_to(alloc, object, words.text, *call, &mut story.values)?;
         }
     }
     Ok(())
