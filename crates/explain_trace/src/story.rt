@@ -4,6 +4,7 @@ use crate::called::operation_named;
 use crate::rules::MOST_CALLS;
 use crate::script::line_at;
 use apply_core::fits::{arguments_fit, parts_fit};
+use apply_core::reply::Reply;
 use decl_core::object::{Object, Operation, Part};
 use hex::FromHexError;
 use known_core::apply::apply_all;
@@ -105,28 +106,40 @@ pub(crate) fn reply_to(
         return Ok(Vec::new(alloc));
     };
     match arguments_in(alloc, text_at(text, call.started))? {
-        Some(arguments) => given(alloc, operation, &arguments, values),
+        Some(arguments) => words_given(alloc, operation, &arguments, values),
         None => Ok(Vec::new(alloc)),
     }
 }
 
 // The words of what an operation replies to these arguments on these values, where they fit it.
-fn given(
+fn words_given(
     alloc: Global,
     operation: &Operation,
     arguments: &[Datum],
     values: &mut Vec<Value>,
 ) -> Result<Vec<u8>, AllocError> {
+    let mut text = Vec::new(alloc);
+    if let Some(reply) = given(alloc, operation, arguments, values)? {
+        push_reply(&mut text, &reply)?;
+    }
+    Ok(text)
+}
+
+// What an operation replies to these arguments on these values, where they fit it.
+fn given(
+    alloc: Global,
+    operation: &Operation,
+    arguments: &[Datum],
+    values: &mut Vec<Value>,
+) -> Result<Option<Reply>, AllocError> {
     if !arguments_fit(operation, arguments) {
-        return Ok(Vec::new(alloc));
+        return Ok(None);
     }
     if !parts_fit(operation, values) {
-        return Ok(Vec::new(alloc));
+        return Ok(None);
     }
     let reply = apply_all(alloc, operation, arguments, values)?;
-    let mut text = Vec::new(alloc);
-    push_reply(&mut text, &reply)?;
-    Ok(text)
+    Ok(Some(reply))
 }
 
 // Hears the opening value of the next part.
