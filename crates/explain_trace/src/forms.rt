@@ -114,9 +114,14 @@ const OF_OTHER_TEXTS: FirstWords = &[
     ),
 ];
 
+// The table alone, so that it is looked at once.
+fn verbs() -> &'static [(&'static str, &'static str, WordRules)] {
+    VERBS
+}
+
 /// The kind of a line, by its words.
 pub(crate) fn verb_of(words: &LineWords<'_>) -> Option<Verb> {
-    for (word, form, rules) in VERBS {
+    for (word, form, rules) in verbs() {
         if is_same_word(word.as_bytes(), words.bare(0)) {
             let is_keyed = *word == "call" && words.bare(2).starts_with(b"#");
             return Some(Verb {
@@ -131,7 +136,7 @@ pub(crate) fn verb_of(words: &LineWords<'_>) -> Option<Verb> {
 
 // The kind of line whose first word this one is in another case, or differs from in one letter.
 fn verb_like(first: &[u8]) -> Option<Verb> {
-    for (word, form, rules) in VERBS {
+    for (word, form, rules) in verbs() {
         let bytes = word.as_bytes();
         if bytes.eq_ignore_ascii_case(first) || are_alike(bytes, first) {
             return Some(Verb { word, form, rules });

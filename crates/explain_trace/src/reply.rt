@@ -10,7 +10,6 @@ use note_core::said::say;
 use note_core::span::Span;
 use std::alloc::{AllocError, Global};
 use value_core::value::Value;
-use word_core::reply::push_reply;
 
 /// The call of the number that a faulty line has, where the lines before it told one.
 pub(crate) fn call_of(faulty: FaultyLine<'_>) -> Option<SeenCall> {
@@ -60,18 +59,14 @@ fn copies(alloc: Global, values: &[Value]) -> Result<Vec<Value>, AllocError> {
     Ok(all)
 }
 
-// The words of the reply that the object gives to a call, each behind a space.
+// The words of the reply that the object gives to a call of a line, each behind a space.
 fn reply_text(
     alloc: Global,
     faulty: FaultyLine<'_>,
     call: SeenCall,
 ) -> Result<Vec<u8>, AllocError> {
     let mut values = copies(alloc, &faulty.story.values)?;
-    let mut text = Vec::new(alloc);
-    if let Some(reply) = reply_to(alloc, faulty.object, faulty.page.source, call, &mut values)? {
-        push_reply(&mut text, &reply)?;
-    }
-    Ok(text)
+    reply_to(alloc, faulty.object, faulty.page.source, call, &mut values)
 }
 
 // That the object gives this reply to a call of the operation of this name.
@@ -90,11 +85,13 @@ fn push_before(
         Some(operation) => reads(operation),
         None => 0,
     };
-    let parts = faulty.object.parts.iter().zip(faulty.story.values.iter());
-    for (number, (part, value)) in parts.enumerate() {
+    for (number, part) in faulty.object.parts.iter().enumerate() {
         if number < MOST_PARTS && is_in(number, named) {
-            let found = Diagnostic::at(None, say("before it `%` is $", ""), part.name.as_bytes());
-            push(out, faulty.page, found.with(Piece::Value(value), NO_PIECE))?;
+            if let Some(value) = faulty.story.values.get(number) {
+                let said = say("before it `%` is $", "");
+                let found = Diagnostic::at(None, said, part.name.as_bytes());
+                push(out, faulty.page, found.with(Piece::Value(value), NO_PIECE))?;
+            }
         }
     }
     let order =

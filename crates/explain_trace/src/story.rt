@@ -18,6 +18,7 @@ use value_bytes::decode::{DecodeFault, decode_kept};
 use value_core::datum::Datum;
 use value_core::value::Value;
 use word_core::number::integer_of;
+use word_core::reply::push_reply;
 use word_core::word::Word;
 use word_core::words::{data_of, words_of};
 
@@ -92,21 +93,36 @@ fn arguments_in(alloc: Global, line: &[u8]) -> Result<Option<Vec<Datum>>, AllocE
     }
 }
 
-/// What the object replies to a call of this trace on these values, which are those after it then.
+/// The words of the reply that the object gives to a call of this trace on these values, each behind a space. The values
+/// are those after it then.
 pub(crate) fn reply_to(
     alloc: Global,
     object: &Object,
     text: &[u8],
     call: SeenCall,
     values: &mut Vec<Value>,
-) -> Result<Option<Reply>, AllocError> {
+) -> Result<Vec<u8>, AllocError> {
     let Some(operation) = object.operations.get(call.operation) else {
-        return Ok(None);
+        return Ok(Vec::new(alloc));
     };
     match arguments_in(alloc, text_at(text, call.started))? {
-        Some(arguments) => given(alloc, operation, &arguments, values),
-        None => Ok(None),
+        Some(arguments) => words_given(alloc, operation, &arguments, values),
+        None => Ok(Vec::new(alloc)),
     }
+}
+
+// The words of what an operation replies to these arguments on these values, where they fit it.
+fn words_given(
+    alloc: Global,
+    operation: &Operation,
+    arguments: &[Datum],
+    values: &mut Vec<Value>,
+) -> Result<Vec<u8>, AllocError> {
+    let mut text = Vec::new(alloc);
+    if let Some(reply) = given(alloc, operation, arguments, values)? {
+        push_reply(&mut text, &reply)?;
+    }
+    Ok(text)
 }
 
 // What an operation replies to these arguments on these values, where they fit it.
@@ -191,7 +207,7 @@ fn hear_end(
     if let Some(Some(call)) = story.calls.get_mut(number) {
         call.ended = Some(line);
         if !is_same_word(words.bare(2), b"failed") {
-            let _reply = reply_to(alloc, object, words.text, *call, &mut story.values)?;
+            let _words = reply_to(alloc, object, words.text, *call, &mut story.values)?;
         }
     }
     Ok(())
