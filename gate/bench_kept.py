@@ -16,7 +16,7 @@ from gate.tried import TOP, new_folder
 from tools import make_ready
 
 USES = (
-    "path_tree value_core text_core decl_core decl_read path_count live_core guest_core post_core hosted_core recover_core "
+    "path_tree value_core decl_core decl_read path_count live_core guest_core post_core hosted_core recover_core "
 )
 MAIN = r'''//! Times of a kept object.
 #![tactic(auto)]
@@ -36,7 +36,7 @@ use recover_core::text_recover::recover;
 use std::alloc::Global;
 use std::process::ExitCode;
 use std::time::Instant;
-use text_core::text::Text;
+use value_core::text::Text;
 use value_core::datum::Datum;
 use value_core::value::Value;
 

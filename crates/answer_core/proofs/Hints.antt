@@ -2,7 +2,7 @@
 use Rattle.std.proofs.Common.{ℕ, List, Option, codes, length, take, subst, sym}
 use Rattle.std.proofs.Math.Seq.{take-length}
 use Rattle.std.specs.Io.KnownBytes.{Appends}
-use Rattle.text_core.proofs.Known.{Appends-none}
+use Rattle.value_core.proofs.Known.{Appends-none}
 use Rattle.answer_core.specs.Lacks.{AppendsFront}
 use Rattle.answer_core.specs.Telling.{IsHinted}
 

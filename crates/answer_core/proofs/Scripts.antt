@@ -5,15 +5,15 @@ use Rattle.std.specs.Io.KnownBytes.{Appends, Consumes}
 use Rattle.std.specs.Fmt.{option_append}
 use Rattle.decl_core.specs.declared.object.Object.{Object}
 use Rattle.decl_core.specs.ObjectMap.{object_of}
-use Rattle.text_core.specs.Runs.{NoLineFeed}
-use Rattle.text_core.proofs.Known.{Appends-none}
+use Rattle.value_core.specs.Runs.{NoLineFeed}
+use Rattle.value_core.proofs.Known.{Appends-none}
 use Rattle.check_core.specs.Named.{IsHead}
 use Rattle.check_core.specs.Opening.{IsReady, IsTold}
 use Rattle.check_core.proofs.Heads.{told_alike, ready_alike}
 use Rattle.world_core.specs.Run.{IsScript, IsFront}
 use Rattle.world_core.specs.declared.script.ScriptEnd.{ScriptEnd}
-use Rattle.text_core.specs.declared.machine.LinesFault.{LinesFault}
-use Rattle.text_core.specs.declared.machine.LinesFault.TheVariants as faults
+use Rattle.value_core.specs.declared.machine.LinesFault.{LinesFault}
+use Rattle.value_core.specs.declared.machine.LinesFault.TheVariants as faults
 use Rattle.answer_core.specs.declared.failure.ToolFailure.{ToolFailure}
 use Rattle.answer_core.specs.Status.{script_status, paths_failure, IsFault}
 use Rattle.answer_core.specs.ScriptRun.{IsScriptRun, IsScriptFront, told, ran, nothing, told_front, ran_front}

@@ -3,7 +3,7 @@ use Rattle.std.specs.Prelude.{◌≡◌, ℕ, List, [], ◌++◌, codes, decimal
 use Rattle.decl_core.specs.ObjectForm.{ObjectForm}
 use Rattle.decl_core.specs.declared.object.Object.{Object}
 use Rattle.decl_core.specs.ObjectMap.{object_of}
-use Rattle.text_core.specs.Reply.{reply}
+use Rattle.value_core.specs.Reply.{reply}
 use Rattle.check_core.specs.Named.{NamesObject}
 use Rattle.check_core.specs.Opening.{IsReady, IsTold}
 use Rattle.audit_core.specs.Verdicts.{IsVerdict, IsLegalTrace}

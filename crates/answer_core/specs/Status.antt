@@ -8,10 +8,10 @@ use Rattle.clap.specs.declared.error.Error.{Error as UsageError}
 use Rattle.clap.specs.declared.error.kind.ErrorKind.TheVariants as kinds
 use Rattle.answer_core.specs.declared.failure.ToolFailure.{ToolFailure}
 use Rattle.answer_core.specs.declared.failure.ToolFailure.TheVariants as failures
-use Rattle.text_core.specs.declared.machine.LinesFault.{LinesFault}
-use Rattle.text_core.specs.declared.machine.LinesFault.TheVariants as faults
-use Rattle.text_core.specs.declared.machine.LinesEnd.{LinesEnd}
-use Rattle.text_core.specs.declared.machine.LinesEnd.TheVariants as ends
+use Rattle.value_core.specs.declared.machine.LinesFault.{LinesFault}
+use Rattle.value_core.specs.declared.machine.LinesFault.TheVariants as faults
+use Rattle.value_core.specs.declared.machine.LinesEnd.{LinesEnd}
+use Rattle.value_core.specs.declared.machine.LinesEnd.TheVariants as ends
 use Rattle.check_core.specs.declared.report.CheckFault.{CheckFault}
 use Rattle.check_core.specs.declared.report.CheckFault.TheVariants as check_faults
 use Rattle.check_core.specs.declared.report.CheckEnd.{CheckEnd}

@@ -2,7 +2,7 @@
 
 ghost use Rattle.std.specs.Prelude.{◌≡◌, ◌≤◌, ◌⊎◌, ℕ, List, IfOk, IfErr, IfSome, IsErrOf, take};
 ghost use Rattle.std.specs.Io.KnownBytes.{Appends, Consumes, Keeps};
-ghost use Rattle.text_core.specs.declared.machine.LinesEnd.{LinesEnd};
+ghost use Rattle.value_core.specs.declared.machine.LinesEnd.{LinesEnd};
 ghost use Rattle.path_count.specs.Run.{IsRun, IsFront, IsRunSoFar};
 ghost use Rattle.check_core.specs.Report.{IsCheck};
 ghost use Rattle.check_core.specs.declared.report.CheckEnd.{CheckEnd};

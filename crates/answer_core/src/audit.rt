@@ -17,8 +17,8 @@ use check_core::head::named_object;
 use check_core::open::{OpenedScript, open_script};
 use std::alloc::{AllocError, Global};
 use std::io::{Read, Write};
-use text_core::reply::{push_count, push_number};
-use text_core::write_whole;
+use value_core::reply::{push_count, push_number};
+use value_core::write_whole;
 
 // What an audit ends with: the exit status, and the line that is written.
 #[derive(Drop)]

@@ -15,7 +15,7 @@ use explain_trace::trace::explain_trace;
 use note_core::files::Files;
 use std::alloc::{AllocError, Global};
 use std::io::Write;
-use text_core::write_whole;
+use value_core::write_whole;
 
 /// How much standard error gets of why something is refused.
 #[derive(Clone, Copy, Debug, PartialEq, Eq)]

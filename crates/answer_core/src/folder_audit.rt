@@ -16,7 +16,7 @@ use recover_core::text::{HeldFront, cut_held, read_held};
 use std::alloc::{AllocError, Global};
 use std::rt::Files;
 use std::str;
-use text_core::reply::push_number;
+use value_core::reply::push_number;
 
 /// What is said of the objects of a folder.
 #[derive(Drop)]

@@ -12,11 +12,11 @@ use crate::failure::ToolFailure;
 use crate::said::written;
 use check_core::report::push_source_fault;
 use decl_read::fault::DeclFault;
-use explain_fault::rules::explain_held;
 use hold_read::read::Held;
+use note_core::rules::explain_held;
 use std::alloc::{AllocError, Global};
 use std::io::Write;
-use text_core::write_whole;
+use value_core::write_whole;
 
 /// What a command answers of a source that has this fault in its holds: its line, and the exit status. `error` gets what
 /// is wrong, as far as that is to be told.

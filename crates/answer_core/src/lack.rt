@@ -11,8 +11,8 @@ ghost use Rattle.answer_core.specs.declared.failure.ToolFailure.TheVariants.{Rea
 use crate::failure::ToolFailure;
 use std::alloc::{AllocError, Global};
 use std::io::{self, ErrorKind, Write};
-use text_core::reply::push_number;
-use text_core::write_whole;
+use value_core::reply::push_number;
+use value_core::write_whole;
 
 /// What a command needs.
 #[derive(Clone, Copy, Debug, PartialEq, Eq)]

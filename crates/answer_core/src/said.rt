@@ -12,7 +12,7 @@ use crate::lack::{Lacking, Unmet, Wanted, tell_lack};
 use command_line::request::Explain;
 use note_core::kept::CopyingReader;
 use std::io::{ErrorKind, IsTerminal, Read, Write};
-use text_core::write_whole;
+use value_core::write_whole;
 
 /// How much is told of why something is refused: with `AtTerminal` all where standard error is one, else that there is more.
 pub fn telling_of(rt: &HostRuntime, when: Explain) -> Telling

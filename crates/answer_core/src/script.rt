@@ -15,7 +15,7 @@ use check_core::open::{OpenedScript, open_script};
 use decl_core::analyse::Accepted;
 use std::alloc::Global;
 use std::io::{Read, Write};
-use text_core::write_whole;
+use value_core::write_whole;
 use world_core::script::{ScriptEnd, run_script};
 
 /// The exit status of a script that ended so: 0 where each line was answered, 1 where a bad line ended it.

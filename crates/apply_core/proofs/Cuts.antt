@@ -10,8 +10,8 @@ use Rattle.std.specs.FinMap as map
 use Rattle.std.specs.FinMap.{is_sorted}
 use Rattle.std.specs.FinMap.Entries.{below_all}
 use Rattle.std.proofs.lemmas.List.Elements.{All-cons, All-nil}
-use Rattle.text_core.specs.Plain.{IsText}
-use Rattle.text_core.specs.TextOrder.{text_cmp}
+use Rattle.value_core.specs.Plain.{IsText}
+use Rattle.value_core.specs.TextOrder.{text_cmp}
 use Rattle.value_core.specs.declared.format.Format.TheVariants.{Second}
 use Rattle.value_core.specs.declared.datum.Datum.{Datum}
 use Rattle.value_core.specs.declared.kind.Elem.{Elem}

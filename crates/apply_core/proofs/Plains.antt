@@ -3,7 +3,7 @@ use Rattle.std.proofs.Common.{◌≡◌, ◌↔◌, ◌&&◌, Bool, true, false,
 use Rattle.std.specs.Prelude.{All, IsTrue, IsFalse}
 use Rattle.std.proofs.lemmas.Bool.{false≢true}
 use Rattle.std.proofs.lemmas.List.Elements.{All-nil, All-cons, All-append}
-use Rattle.text_core.specs.Plain.{IsPlain}
+use Rattle.value_core.specs.Plain.{IsPlain}
 use Rattle.value_core.proofs.TableRows.{head, tail}
 
 fore : (xs ys : List ℕ) → All IsPlain (xs ++ ys) → All IsPlain xs

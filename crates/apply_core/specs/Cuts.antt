@@ -2,7 +2,7 @@
 use Rattle.std.specs.Prelude.{◌≡◌, ℕ, List, ◌∷◌, ◌++◌, All}
 use Rattle.std.specs.List.{flat_map}
 use Rattle.std.specs.declared.cmp.Ordering.TheVariants.{Less, Greater}
-use Rattle.text_core.specs.TextOrder.{text_cmp}
+use Rattle.value_core.specs.TextOrder.{text_cmp}
 use Rattle.value_core.specs.declared.datum.Datum.{Datum}
 use Rattle.value_bytes.specs.Spelling.{spelled_datum, spelled_row}
 

@@ -2,7 +2,7 @@
 
 ghost use Rattle.std.specs.Prelude.{◌≡◌, ◌<◌, List, ℕ, All, IsTrue, IsFalse};
 ghost use Rattle.std.specs.FinMap.{FinMap, entries};
-ghost use Rattle.text_core.specs.TextOrder.{text_cmp};
+ghost use Rattle.value_core.specs.TextOrder.{text_cmp};
 ghost use Rattle.value_core.specs.declared.datum.Datum.{Datum};
 ghost use Rattle.value_core.specs.declared.format.Format.TheVariants.{Second};
 ghost use Rattle.value_bytes.specs.Spelling.{SpellRows};
@@ -11,8 +11,8 @@ ghost use Rattle.apply_core.specs.Cuts.{StandsIn, GapIn};
 use crate::order::order;
 use crate::skip::{skip, split_text};
 use std::cmp::Ordering;
-use text_core::text::Text;
 use value_core::kind::Elem;
+use value_core::text::Text;
 
 // As `find_text`, by the bytes of a key.
 fn find<'a>(sort: Elem, count: u16, bytes: &'a [u8], key: &[u8]) -> (bool, &'a [u8], &'a [u8])

@@ -1,7 +1,7 @@
 //! The order of texts, by their bytes, which are looked at eight at a time.
 
 ghost use Rattle.std.specs.Prelude.{◌≡◌};
-ghost use Rattle.text_core.specs.TextOrder.{text_cmp};
+ghost use Rattle.value_core.specs.TextOrder.{text_cmp};
 
 use std::cmp::Ordering;
 

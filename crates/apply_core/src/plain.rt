@@ -1,9 +1,9 @@
 //! Whether bytes are a text. Eight at a time are looked at.
 
 ghost use Rattle.std.specs.Prelude.{◌≡◌, ◌∷◌, ◌↔◌, ◌&&◌, [], All, IsTrue};
-ghost use Rattle.text_core.specs.Plain.{IsPlain, IsText};
+ghost use Rattle.value_core.specs.Plain.{IsPlain, IsText};
 
-use text_core::limits::MOST_TEXT_BYTES;
+use value_core::limits::MOST_TEXT_BYTES;
 
 // Whether a text may have this byte.
 fn is_plain(byte: u8) -> bool

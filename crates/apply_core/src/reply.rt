@@ -2,9 +2,9 @@
 
 ghost use Rattle.std.specs.Prelude.{◌≡◌, ◌↔◌, IsTrue};
 
-use text_core::text::Text;
 use thiserror::Error;
 use value_core::datum::Datum;
+use value_core::text::Text;
 
 /// Why a call failed. Its parts are as they were.
 #[derive(Clone, Copy, Debug, PartialEq, Eq, Error)]

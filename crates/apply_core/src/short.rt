@@ -3,16 +3,16 @@
 ghost use Rattle.std.specs.Prelude.{◌≡◌, ◌≤◌, ◌↔◌, IsTrue, Some, None, vec_capacity};
 ghost use Rattle.value_core.specs.declared.datum.Datum.TheVariants as datum;
 ghost use Rattle.apply_core.specs.declared.reply.Reply.TheVariants.{Done, Refused, Failed};
-ghost use Rattle.text_core.specs.Limits.{most_text_bytes};
+ghost use Rattle.value_core.specs.Limits.{most_text_bytes};
 ghost use Rattle.apply_core.specs.Short.{reply_of, IsDone};
 
 use crate::reply::{Failure, Reply};
 use std::alloc::Global;
 use std::marker::Model;
 use std::mem;
-use text_core::row::Row;
-use text_core::text::Text;
 use value_core::datum::Datum;
+use value_core::row::Row;
+use value_core::text::Text;
 
 /// A reply of which a text has memory of its own. A contract sees it as the reply.
 #[derive(Drop)]

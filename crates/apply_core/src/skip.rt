@@ -4,15 +4,15 @@ ghost use Rattle.std.specs.Int.{w16, w32, to_be_bytes};
 ghost use Rattle.value_core.specs.declared.kind.Elem.TheVariants as elem;
 ghost use Rattle.std.specs.Prelude.{◌≡◌, ◌≢◌, ◌<◌, ◌≤◌, ◌^◌, ◌++◌, List, ℕ, All, IfSome, IfNone, length, drop};
 ghost use Rattle.std.specs.List.{flat_map};
-ghost use Rattle.text_core.specs.Plain.{IsText};
+ghost use Rattle.value_core.specs.Plain.{IsText};
 ghost use Rattle.value_core.specs.declared.datum.Datum.{Datum};
 ghost use Rattle.value_core.specs.Datum.{IsElement};
 ghost use Rattle.value_bytes.specs.Spelling.{spelled_text, spelled_datum};
 
 use crate::strip::{past_length, read_integer};
-use text_core::text::Text;
 use value_core::datum::Datum;
 use value_core::kind::Elem;
+use value_core::text::Text;
 
 // So many first bytes, and those behind them.
 fn cut(bytes: &[u8], len: usize) -> (&[u8], &[u8])

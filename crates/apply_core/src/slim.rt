@@ -5,8 +5,8 @@ ghost use Rattle.apply_core.specs.Slim.{datum_of};
 
 use std::alloc::{AllocError, Global};
 use std::marker::Model;
-use text_core::row::Row;
 use value_core::datum::Datum;
+use value_core::row::Row;
 
 // A datum of which a text has memory of its own.
 #[derive(Drop)]

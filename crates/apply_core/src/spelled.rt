@@ -15,11 +15,11 @@ use crate::splice::joined;
 use crate::{array, queue, table};
 use std::alloc::{AllocError, Global};
 use std::marker::Model;
-use text_core::text::Text;
 use value_bytes::decode::DecodeFault;
 use value_core::datum::Datum;
 use value_core::kind::{Elem, Kind};
 use value_core::refusal::{GrowFault, Refusal};
+use value_core::text::Text;
 
 /// An array, a queue or a table in the bytes that spell it in the second format. A contract sees it as its contents.
 #[derive(Drop)]

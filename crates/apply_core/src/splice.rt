@@ -5,10 +5,10 @@ ghost use Rattle.std.specs.Prelude.{◌≡◌, ◌++◌, ◌∷◌, OnOk, IfOk};
 ghost use Rattle.value_bytes.specs.Spelling.{code_of, spelled_text, spelled_datum, spelled_row, header};
 
 use std::alloc::{AllocError, Global};
-use text_core::limits::TextLength;
-use text_core::text::Text;
 use value_core::datum::Datum;
 use value_core::kind::{Elem, Kind};
+use value_core::limits::TextLength;
+use value_core::text::Text;
 
 /// The first byte of a value.
 pub const NUMBER: u8 = 2;

@@ -4,8 +4,8 @@ ghost use Rattle.std.specs.Int.{w16, w32, to_be_bytes};
 ghost use Rattle.value_core.specs.declared.kind.Elem.TheVariants as elem;
 ghost use Rattle.std.specs.Prelude.{◌≡◌, ◌≢◌, ◌<◌, ◌^◌, ◌++◌, ◌↔◌, List, [], ℕ, IfSome, IfNone, IsTrue, IsFalse};
 ghost use Rattle.std.specs.FinMap.{FinMap};
-ghost use Rattle.text_core.specs.Plain.{IsText};
-ghost use Rattle.text_core.specs.TextOrder.{text_cmp};
+ghost use Rattle.value_core.specs.Plain.{IsText};
+ghost use Rattle.value_core.specs.TextOrder.{text_cmp};
 ghost use Rattle.value_core.specs.declared.datum.Datum.{Datum};
 ghost use Rattle.value_core.specs.declared.format.Format.TheVariants.{Second};
 ghost use Rattle.value_core.specs.Datum.{IsElement};
@@ -16,8 +16,8 @@ ghost use Rattle.apply_core.specs.There.{last_key, BytesTell};
 use crate::order::order;
 use crate::plain::is_text;
 use std::cmp::Ordering;
-use text_core::limits::TextLength;
 use value_core::kind::Elem;
+use value_core::limits::TextLength;
 
 /// The number in two bytes, and what is behind it.
 pub fn past_length(bytes: &[u8]) -> Option<(TextLength, &[u8])>

@@ -2,7 +2,7 @@
 
 ghost use Rattle.std.specs.FinMap.{FinMap, entries};
 ghost use Rattle.std.specs.Prelude.{◌≡◌, ◌<◌, ◌≤◌, ◌++◌, List, ℕ, IfOk};
-ghost use Rattle.text_core.specs.TextOrder.{text_cmp};
+ghost use Rattle.value_core.specs.TextOrder.{text_cmp};
 ghost use Rattle.value_core.specs.declared.datum.Datum.{Datum};
 ghost use Rattle.value_core.specs.declared.format.Format.TheVariants.{Second};
 ghost use Rattle.value_core.specs.declared.kind.Kind.TheVariants as kinds;
@@ -17,11 +17,11 @@ use crate::header::opened;
 use crate::skip::{before, datum_at, skip};
 use crate::splice::{joined, over_row, with_row};
 use std::alloc::Global;
-use text_core::text::Text;
 use value_core::datum::Datum;
 use value_core::kind::{Elem, Kind};
 use value_core::limits::MOST_ELEMENTS;
 use value_core::refusal::{GrowFault, Refusal};
+use value_core::text::Text;
 
 /// Whether the table that these bytes spell has a key.
 pub fn has(sort: Elem, bytes: &[u8], key: &Text) -> bool

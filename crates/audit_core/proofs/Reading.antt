@@ -2,7 +2,7 @@
 use Rattle.std.proofs.Common.{◌≡◌, ℕ, List, [], ◌∷◌, sym, ap, ◌∙◌}
 use Rattle.std.specs.Prelude.{Some, option_map}
 use Rattle.value_core.specs.declared.datum.Datum.TheVariants.{Integer}
-use Rattle.text_core.specs.Words.{drop_spaces}
+use Rattle.value_core.specs.Spaces.{drop_spaces}
 use Rattle.word_core.specs.Words.{bare}
 use Rattle.word_core.specs.Data.{◌>>=◌, integer_of}
 use Rattle.word_core.specs.Ending.{done}

@@ -9,7 +9,7 @@ use crate::verdict::{AuditFault, AuditVerdict};
 use decl_core::analyse::Accepted;
 use decl_core::object::Object;
 use std::alloc::{AllocError, Global};
-use text_core::next_line;
+use value_core::next_line;
 
 /// Reads a trace of an object, and tells whether it is legal, or its first fault.
 ///

@@ -9,8 +9,8 @@ ghost use Rattle.audit_core.specs.EpochView.{asked_view, said_view, IsSaid};
 use crate::said as lines;
 use crate::told::ToldReply;
 use std::alloc::{AllocError, Global};
-use text_core::words::is_same_word;
 use value_core::datum::Datum;
+use value_core::words::is_same_word;
 use word_core::front::{next_bare, only_bare};
 use word_core::number::session_of;
 

@@ -19,10 +19,10 @@ use Rattle.apply_core.specs.declared.reply.Failure.TheVariants as failures
 use Rattle.apply_core.specs.declared.reply.Reply.{Reply}
 use Rattle.apply_core.specs.declared.reply.Reply.TheVariants.{Done, Refused, Failed}
 use Rattle.apply_core.specs.Fits.{IsNamed}
-use Rattle.call_core.specs.Given.{AreSpelled}
-use Rattle.call_core.specs.Calls.{call_of}
-use Rattle.call_core.specs.Truths.{IsTrueOf, IsTrueAt, AreLeft, PinHolds}
-use Rattle.call_core.specs.Outcomes.{if_done}
+use Rattle.page_core.specs.Given.{AreSpelled}
+use Rattle.page_core.specs.CallPins.{call_of}
+use Rattle.page_core.specs.Truths.{IsTrueOf, IsTrueAt, AreLeft, PinHolds}
+use Rattle.page_core.specs.Outcomes.{if_done}
 use Rattle.board_core.specs.Free.{IsNeeded}
 use Rattle.board_core.specs.Sound.{IsPinned}
 use Rattle.board_core.specs.Laws.{RunningNeverConflict, PinsStay, PickedAreFree, TruthIsNoted}

@@ -30,10 +30,10 @@ use Rattle.apply_core.specs.declared.reply.Reply.{Reply}
 use Rattle.apply_core.specs.declared.reply.Reply.TheVariants.{Done, Refused, Failed}
 use Rattle.apply_core.specs.Fits.{IsNamed}
 use Rattle.apply_core.specs.History.{IsReplyOn, left_by}
-use Rattle.call_core.specs.Given.{AreSpelled}
-use Rattle.call_core.specs.Outcomes.{if_done}
-use Rattle.call_core.specs.Calls.{Call, call_of}
-use Rattle.call_core.specs.Truths.{PinHolds, IsLeft, IsTrueAt, IsPinWhole, PinsAreWhole}
+use Rattle.page_core.specs.Given.{AreSpelled}
+use Rattle.page_core.specs.Outcomes.{if_done}
+use Rattle.page_core.specs.CallPins.{Call, call_of}
+use Rattle.page_core.specs.Truths.{PinHolds, IsLeft, IsTrueAt, IsPinWhole, PinsAreWhole}
 use Rattle.apply_core.proofs.HeldReads.{reads_held}
 use Rattle.apply_core.proofs.Histories.{refused_leaves}
 use Rattle.page_core.proofs.ListBytes.{some_same}

@@ -8,8 +8,8 @@ use Rattle.decl_core.proofs.stmt.Stmt.TheLaws.TheKnot as statement
 use Rattle.decl_core.specs.contracts.object.Operation as operation
 use Rattle.decl_core.specs.contracts.object.Object as object
 use Rattle.decl_core.specs.contracts.analyse.Accepted as accepted
-use Rattle.call_core.specs.contracts.ticket.Ticket as ticket
-use Rattle.call_core.specs.contracts.outcome.Outcome as outcome
+use Rattle.page_core.specs.contracts.ticket.Ticket as ticket
+use Rattle.page_core.specs.contracts.outcome.Outcome as outcome
 use Rattle.board_core.specs.contracts.call.Call as call
 use Rattle.board_core.specs.contracts.entry.Entry as entry
 use Rattle.board_core.specs.contracts.receipt.Receipt as receipt

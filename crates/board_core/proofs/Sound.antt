@@ -19,7 +19,7 @@ use Rattle.decl_core.proofs.NeverMeet.{separated_never_meet}
 use Rattle.device_core.specs.declared.hand.Stamp.{Stamp}
 use Rattle.page_core.specs.PartPins.{PartPin, pin_at}
 use Rattle.apply_core.specs.declared.reply.Reply.{Reply}
-use Rattle.call_core.specs.Outcomes.{if_done}
+use Rattle.page_core.specs.Outcomes.{if_done}
 use Rattle.board_core.specs.declared.event.TraceEvent.{TraceEvent}
 use Rattle.board_core.specs.declared.event.TraceEvent.TheVariants.{Start, End}
 use Rattle.board_core.specs.Lists.{Every, EachPair, Among}

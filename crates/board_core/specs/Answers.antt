@@ -7,11 +7,11 @@ use Rattle.value_core.specs.declared.datum.Datum.{Datum}
 use Rattle.decl_core.specs.declared.object.Object.{Object}
 use Rattle.decl_core.specs.declared.object.Operation.{Operation}
 use Rattle.apply_core.specs.Fits.{ArgumentsFit}
-use Rattle.call_core.specs.Calls.{call_of}
-use Rattle.call_core.specs.Outcomes.{outcome_call, outcome_reply, outcome_news, outcome_free, IsFresh, TellsSame}
-use Rattle.call_core.specs.declared.outcome.Outcome.{Outcome}
+use Rattle.page_core.specs.CallPins.{call_of}
+use Rattle.page_core.specs.Outcomes.{outcome_call, outcome_reply, outcome_news, outcome_free, IsFresh, TellsSame}
+use Rattle.page_core.specs.declared.outcome.Outcome.{Outcome}
 use Rattle.board_core.specs.declared.receipt.Receipt.{Receipt}
-use Rattle.call_core.specs.Tickets.{ticket_call}
+use Rattle.page_core.specs.Tickets.{ticket_call}
 use Rattle.guest_core.specs.declared.answer.SubmitFault.{SubmitFault}
 use Rattle.guest_core.specs.declared.answer.SubmitFault.TheVariants.{Gone, UnknownOp, BadArgs, SessionBusy, Full}
 use Rattle.guest_core.specs.declared.answer.SubmitFault.TheVariants.{HistoryFull, Memory}

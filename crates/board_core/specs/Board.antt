@@ -13,7 +13,7 @@ use Rattle.decl_core.specs.ObjectMap.{object_of}
 use Rattle.device_core.specs.declared.hand.Stamp.{Stamp}
 use Rattle.apply_core.specs.declared.reply.Reply.{Reply}
 use Rattle.page_core.specs.PartPins.{PartPin, pins_in}
-use Rattle.call_core.specs.Outcomes.{if_done}
+use Rattle.page_core.specs.Outcomes.{if_done}
 use Rattle.board_core.specs.declared.event.TraceEvent.{TraceEvent}
 use Rattle.board_core.specs.declared.event.TraceEvent.TheVariants.{Start, End}
 use Rattle.board_core.specs.Calls.{AcceptedCall, WaitingCall, RunningCall, Noted, noted_of}

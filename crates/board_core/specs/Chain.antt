@@ -11,10 +11,10 @@ use Rattle.device_core.specs.Device.{Assignment}
 use Rattle.page_core.specs.Bytes.{list_bytes, AreWhole}
 use Rattle.page_core.specs.PartPins.{PartPin, pin_at}
 use Rattle.apply_core.specs.Fits.{IsNamed}
-use Rattle.call_core.specs.Calls.{call_of}
-use Rattle.call_core.specs.Truths.{IsTrueOf}
+use Rattle.page_core.specs.CallPins.{call_of}
+use Rattle.page_core.specs.Truths.{IsTrueOf}
 use Rattle.apply_core.specs.History.{End, IsLegal, leads_to}
-use Rattle.call_core.specs.Outcomes.{if_done}
+use Rattle.page_core.specs.Outcomes.{if_done}
 use Rattle.board_core.specs.Calls.{Noted}
 use Rattle.board_core.specs.Board.{published}
 use Rattle.board_core.specs.Lists.{Every}

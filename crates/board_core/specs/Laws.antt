@@ -6,8 +6,8 @@ use Rattle.device_core.specs.declared.hand.Stamp.{Stamp}
 use Rattle.device_core.specs.Device.{Assignment}
 use Rattle.page_core.specs.PartPins.{PartPin, pin_at}
 use Rattle.apply_core.specs.declared.reply.Reply.{Reply}
-use Rattle.call_core.specs.Calls.{Call}
-use Rattle.call_core.specs.Truths.{IsTrueOf}
+use Rattle.page_core.specs.CallPins.{Call}
+use Rattle.page_core.specs.Truths.{IsTrueOf}
 use Rattle.board_core.specs.Lists.{Every, Among}
 use Rattle.board_core.specs.Calls.{WaitingCall, RunningCall, Noted}
 use Rattle.board_core.specs.Board.{Board, Rests, Admits, entry_of, ended}

@@ -1,7 +1,7 @@
 -- Calls that wait or run, as they are kept.
 use Rattle.std.specs.Prelude.{◌≡◌, ◌≤◌, [], ⊤, false, Option, Some, None, is_none, vec_capacity}
 use Rattle.std.specs.Arc.{arc_value}
-use Rattle.text_core.specs.Limits.{most_text_bytes}
+use Rattle.value_core.specs.Limits.{most_text_bytes}
 use Rattle.decl_core.specs.Bodies.{body_of}
 use Rattle.decl_core.specs.Footprint.{reads_of}
 use Rattle.page_core.specs.PartPins.{room_in}

@@ -1,9 +1,9 @@
 -- Which running call an outcome is of, and which entry is made of it.
 use Rattle.std.specs.Prelude.{◌≡◌, ℕ}
 use Rattle.decl_core.specs.ObjectMap.{operation_of}
-use Rattle.call_core.specs.Calls.{Call}
-use Rattle.call_core.specs.declared.outcome.Outcome.{Outcome}
-use Rattle.call_core.specs.Outcomes.{outcome_call, outcome_reply, outcome_pins}
+use Rattle.page_core.specs.CallPins.{Call}
+use Rattle.page_core.specs.declared.outcome.Outcome.{Outcome}
+use Rattle.page_core.specs.Outcomes.{outcome_call, outcome_reply, outcome_pins}
 use Rattle.board_core.specs.Calls.{RunningCall, Noted}
 
 -- an outcome, by its call, comes from this running call

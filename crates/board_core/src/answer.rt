@@ -5,9 +5,9 @@ ghost use Rattle.board_core.specs.Answers.{receipt_by};
 
 use crate::receipt::{NotedOutcome, Receipt};
 use apply_core::reply::Reply;
-use call_core::outcome::Outcome;
-use call_core::ticket::Ticket;
 use device_core::hand::Stamp;
+use page_core::outcome::Outcome;
+use page_core::ticket::Ticket;
 
 /// What became of an accepted call.
 #[derive(Clone, Copy, Debug, PartialEq, Eq)]

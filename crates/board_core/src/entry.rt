@@ -2,7 +2,7 @@
 
 ghost use Rattle.std.specs.Prelude.{◌≡◌, [], IfSome, IfNone};
 ghost use Rattle.std.specs.Arc.{arc_value};
-ghost use Rattle.call_core.specs.Outcomes.{if_done};
+ghost use Rattle.page_core.specs.Outcomes.{if_done};
 ghost use Rattle.board_core.specs.Calls.{noted_of};
 
 use crate::call::Call;
@@ -28,7 +28,7 @@ pub struct Entry {
 impl Model for Entry {
     ghost use Rattle.std.specs.Arc.{arc_value};
     ghost use Rattle.board_core.specs.Calls.{Noted, noted_of};
-    ghost use Rattle.call_core.specs.Outcomes.{if_done};
+    ghost use Rattle.page_core.specs.Outcomes.{if_done};
     ghost use Rattle.decl_core.specs.contracts.object.Operation as e;
     ghost use Rattle.std.specs.Coded.{codes};
 

@@ -3,7 +3,7 @@
 ghost use Rattle.std.specs.Prelude.{◌≡◌, ◌↔◌, ◌⊎◌, ◌<◌, IsTrue, IfSome, IfNone, Some, false, slice_get, ◌==◌};
 ghost use Rattle.std.specs.List.{list_any};
 ghost use Rattle.decl_core.specs.declared.object.Operation.{Operation as AnOperation};
-ghost use Rattle.call_core.specs.Outcomes.{outcome_call, IsFresh};
+ghost use Rattle.page_core.specs.Outcomes.{outcome_call, IsFresh};
 ghost use Rattle.board_core.specs.Lists.{Every};
 ghost use Rattle.board_core.specs.Calls.{RunningCall};
 ghost use Rattle.board_core.specs.Board.{bodies};
@@ -12,9 +12,9 @@ ghost use Rattle.board_core.specs.Answers.{HasName, IsNamedAt};
 
 use crate::call::Call;
 use crate::open_call::{Running, Waiting};
-use call_core::outcome::Outcome;
 use decl_core::object::{Object, Operation};
 use decl_core::same::same_declaration;
+use page_core::outcome::Outcome;
 use value_core::datum::Datum;
 
 // Whether an operation has this name.

@@ -4,9 +4,9 @@ ghost use Rattle.std.specs.Prelude.{◌≡◌, ◌+◌, ◌*◌, ◌≤◌, [], 
 ghost use Rattle.std.specs.Arc.{arc_value};
 ghost use Rattle.page_core.specs.PartPins.{pins_in, room_in, count_pages};
 ghost use Rattle.apply_core.specs.Fits.{ArgumentsFit};
-ghost use Rattle.call_core.specs.Calls.{HasPins, call_of};
-ghost use Rattle.call_core.specs.Tickets.{ticket_call};
-ghost use Rattle.call_core.specs.Outcomes.{if_done};
+ghost use Rattle.page_core.specs.CallPins.{HasPins, call_of};
+ghost use Rattle.page_core.specs.Tickets.{ticket_call};
+ghost use Rattle.page_core.specs.Outcomes.{if_done};
 ghost use Rattle.board_core.specs.Calls.{noted_of};
 ghost use Rattle.board_core.specs.Board.{read_pins};
 
@@ -15,7 +15,6 @@ use crate::entry::Entry;
 use apply_core::reply::Reply;
 use apply_core::short::Short;
 use apply_core::slim::Slims;
-use call_core::ticket::Ticket;
 use decl_core::footprint::{is_in, reads};
 use decl_core::id::MOST_PARTS;
 use decl_core::object::Operation;
@@ -23,13 +22,14 @@ use device_core::hand::Stamp;
 use page_core::page_list::PageList;
 use page_core::part_pins::PartPins;
 use page_core::pins::Pins;
+use page_core::ticket::Ticket;
 use path_tree::node::OpId;
 use std::alloc::{AllocError, Global};
 use std::marker::Model;
 use std::mem;
 use std::sync::Arc;
-use text_core::limits::MOST_TEXT_BYTES;
 use value_core::datum::Datum;
+use value_core::limits::MOST_TEXT_BYTES;
 
 // What a ticket is made of.
 #[derive(Drop)]

@@ -1,11 +1,11 @@
 //! What a finish gives.
 
 ghost use Rattle.std.specs.Prelude.{◌≡◌};
-ghost use Rattle.call_core.specs.Outcomes.{outcome_reply};
+ghost use Rattle.page_core.specs.Outcomes.{outcome_reply};
 
 use apply_core::reply::Reply;
-use call_core::outcome::Outcome;
 use device_core::hand::Stamp;
+use page_core::outcome::Outcome;
 
 /// The entry of a call that finished: its session, and the outcome that was handed in.
 #[derive(Drop)]

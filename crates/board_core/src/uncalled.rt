@@ -3,7 +3,7 @@
 ghost use Rattle.std.specs.Prelude.{◌≡◌, ◌↔◌, [], IsTrue, IfSome, IfNone};
 ghost use Rattle.std.specs.Arc.{arc_value};
 ghost use Rattle.board_core.specs.Outcomes.{IsEntryOf};
-ghost use Rattle.call_core.specs.Outcomes.{outcome_call, outcome_pins};
+ghost use Rattle.page_core.specs.Outcomes.{outcome_call, outcome_pins};
 
 use crate::entry::Entry;
 use crate::receipt::NotedOutcome;

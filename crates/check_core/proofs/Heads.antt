@@ -7,9 +7,9 @@ use Rattle.std.specs.Str.Lines.{lines}
 use Rattle.std.proofs.lemmas.Bool.{cases_lt, cases_eq}
 use Rattle.std.proofs.lemmas.List.{append-nil, take-append-le}
 use Rattle.std.proofs.lemmas.List.Elements.{All-nil, All-cons, All-head, All-tail, All-take}
-use Rattle.text_core.specs.Runs.{NoLineFeed}
-use Rattle.text_core.proofs.Cutting.{lines-at}
-use Rattle.text_core.proofs.Known.{Consumes-then}
+use Rattle.value_core.specs.Runs.{NoLineFeed}
+use Rattle.value_core.proofs.Cutting.{lines-at}
+use Rattle.value_core.proofs.Known.{Consumes-then}
 use Rattle.std.proofs.lemmas.Grind.{common_steps}
 use Rattle.decl_core.specs.ObjectForm.{ObjectForm}
 use Rattle.word_core.specs.First.{IsFirstObject, IsObjectLine}

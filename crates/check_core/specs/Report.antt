@@ -6,7 +6,7 @@ use Rattle.path_tree.specs.declared.lex.fault.LexFault.{LexFault}
 use Rattle.path_tree.specs.declared.lex.fault.LexFault.TheVariants as lex_faults
 use Rattle.path_tree.specs.declared.path_fault.PathFault.TheVariants as path_faults
 use Rattle.path_tree.specs.Tokens.{IsFirstFault}
-use Rattle.text_core.specs.Reply.{fault_text}
+use Rattle.value_core.specs.Reply.{fault_text}
 use Rattle.decl_read.specs.declared.fault.DeclFault.{DeclFault}
 use Rattle.decl_read.specs.declared.fault.DeclFault.TheVariants as faults
 use Rattle.decl_read.specs.DeclFaults.{fault_number, fault_name, fault_place}

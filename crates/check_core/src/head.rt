@@ -3,14 +3,14 @@
 ghost use Rattle.std.specs.Prelude.{◌≡◌, ◌↔◌, ◌++◌, ◌≤◌, ℕ, List, IfOk, IfErr, IsTrue, MatchOption, length, vec_len};
 ghost use Rattle.std.specs.Result.{IsErrOf};
 ghost use Rattle.std.specs.Io.KnownBytes.{Consumes};
-ghost use Rattle.text_core.specs.Runs.{NoLineFeed};
-ghost use Rattle.text_core.specs.declared.machine.LinesFault.{LinesFault};
+ghost use Rattle.value_core.specs.Runs.{NoLineFeed};
+ghost use Rattle.value_core.specs.declared.machine.LinesFault.{LinesFault};
 ghost use Rattle.check_core.specs.Named.{HasShortLine, IsHead, NamesObject};
 
 use path_tree::name::Name;
 use std::alloc::{AllocError, Global};
 use std::io::{ErrorKind, Read};
-use text_core::{LinesFault, MOST_READS};
+use value_core::{LinesFault, MOST_READS};
 use word_core::first::first_object;
 
 /// The most bytes that the first line of a script may have, its line end counted.

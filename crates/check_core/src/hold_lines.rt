@@ -10,7 +10,7 @@ use decl_core::hold::{Every, Hold, Rules};
 use decl_core::object::Object;
 use path_tree::node::OpId;
 use std::alloc::AllocError;
-use text_core::reply::push_number;
+use value_core::reply::push_number;
 
 // The name of an operation of an object.
 fn operation_name(object: &Object, place: usize) -> &[u8]

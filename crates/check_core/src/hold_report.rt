@@ -14,7 +14,7 @@ use decl_core::analyse::{Accepted, ObjectRefusal, Refused, analyse};
 use decl_core::hold::Rules;
 use decl_core::object::Object;
 use std::alloc::{AllocError, Global};
-use text_core::reply::push_number;
+use value_core::reply::push_number;
 
 /// The report of objects, and how it ends.
 #[derive(Drop)]

@@ -14,7 +14,7 @@ use path_tree::tree::PathTree;
 use std::alloc::{AllocError, Global};
 use stuck_core::found::{Finding, Findings, StuckVerdict, Why};
 use stuck_core::wait::{HoldingNode, waits_of};
-use text_core::reply::push_number;
+use value_core::reply::push_number;
 
 // The name of an operation of an object.
 fn name_of(object: &Object, op: usize) -> &[u8]

@@ -26,9 +26,9 @@ use path_tree::name::Name;
 use path_tree::path_fault::PathFault;
 use std::alloc::{AllocError, Global};
 use std::io::Write;
-use text_core::reply::{push_fault, push_number};
-use text_core::write_whole;
 use thiserror::Error;
+use value_core::reply::{push_fault, push_number};
+use value_core::write_whole;
 
 /// How a check ended.
 #[derive(Clone, Copy, Debug, PartialEq, Eq)]

@@ -28,8 +28,8 @@ use path_tree::path_fault::PathFault;
 use std::alloc::{AllocError, Global};
 use std::io::Write;
 use stuck_search::find::{MOST_STATES, find};
-use text_core::reply::push_number;
-use text_core::write_whole;
+use value_core::reply::push_number;
+use value_core::write_whole;
 
 /// How a check ended that was also asked what can get stuck.
 #[derive(Clone, Copy, Debug, PartialEq, Eq)]

@@ -8,7 +8,7 @@ use decl_core::certificate::SeparatedPair;
 use decl_core::object::Object;
 use decl_read::fault::DeclFault;
 use std::alloc::AllocError;
-use text_core::reply::push_number;
+use value_core::reply::push_number;
 
 // The name of an operation of an object.
 fn operation_name(object: &Object, place: usize) -> &[u8]

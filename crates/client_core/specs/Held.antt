@@ -2,7 +2,7 @@
 use Rattle.std.specs.Prelude.{◌≡◌, ◌+◌, ℕ, Bool, true, false, Option, Some, None, List, [], ◌∷◌, ◌++◌, length, drop}
 use Rattle.std.specs.Prelude.{Result, IfOk, option_map, slice_get}
 use Rattle.std.specs.declared.alloc.AllocError.{AllocError}
-use Rattle.text_core.specs.Runs.{NoLineFeed}
+use Rattle.value_core.specs.Runs.{NoLineFeed}
 use Rattle.client_core.specs.declared.ask.Ask.{Ask}
 use Rattle.client_core.specs.declared.client.ClientPlace.{ClientPlace}
 use Rattle.client_core.specs.declared.client.OpenObject.{OpenObject}

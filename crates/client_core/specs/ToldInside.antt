@@ -11,13 +11,13 @@ use Rattle.client_core.specs.declared.ask.Sight.{Sight}
 use Rattle.client_core.specs.declared.ask.Sight.TheVariants as insides
 use Rattle.client_core.specs.declared.client.OpenObject.{OpenObject}
 use Rattle.client_core.specs.People.{Person, name_in, since_in, called_in}
-use Rattle.inside_text.specs.Lacks.{Why}
-use Rattle.inside_text.specs.Tells.{Tells}
-use Rattle.inside_text.specs.declared.why.CallStatus.{CallStatus as CallState}
-use Rattle.inside_text.specs.declared.why.CallStatus.TheVariants as states
-use Rattle.inside_text.specs.Why.{state_line, why_text}
-use Rattle.inside_text.specs.Who.{Sitting, Refused, who_line, seat_line, waits_line}
-use Rattle.inside_text.specs.List.{list_text}
+use Rattle.stuck_core.specs.Lacks.{Why}
+use Rattle.stuck_core.specs.Tells.{Tells}
+use Rattle.stuck_core.specs.declared.why.CallStatus.{CallStatus as CallState}
+use Rattle.stuck_core.specs.declared.why.CallStatus.TheVariants as states
+use Rattle.stuck_core.specs.Why.{state_line, why_text}
+use Rattle.stuck_core.specs.Who.{Sitting, Refused, who_line, seat_line, waits_line}
+use Rattle.stuck_core.specs.List.{list_text}
 use Rattle.decl_core.specs.HoldForm.{HoldForm}
 use Rattle.guest_core.specs.Held.{HeldCall}
 use Rattle.check_core.specs.HeldTold.{holds_line}

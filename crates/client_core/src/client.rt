@@ -2,7 +2,7 @@
 
 ghost use Rattle.std.specs.Prelude.{◌≡◌, ◌≤◌, ◌↔◌, ◌++◌, ◌∷◌, [], ℕ, List, length, drop, true, false, Some, None};
 ghost use Rattle.std.specs.Prelude.{MatchOption, OnOk, OnErr};
-ghost use Rattle.text_core.specs.Runs.{NoLineFeed};
+ghost use Rattle.value_core.specs.Runs.{NoLineFeed};
 ghost use Rattle.client_core.specs.Held.{rest_in, waits_in, IsFirstLine, is_whole_before};
 ghost use Rattle.client_core.specs.Held.{IsHeld, IsPassed, IsSame, IsSetTo};
 ghost use Rattle.client_core.specs.People.{person_of, newcomer, stranger};

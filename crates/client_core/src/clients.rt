@@ -2,7 +2,7 @@
 
 ghost use Rattle.std.specs.Prelude.{◌≡◌, ◌<◌, ◌==◌, ◌%◌, [], ℕ, true, false, Some, None, IfOk, IfSome, IfNone, length, slice_get};
 ghost use Rattle.std.specs.Prelude.{◌↔◌, ◌≤◌, ◌⊎◌, OnOk, OnErr, option_map};
-ghost use Rattle.text_core.specs.Runs.{NoLineFeed};
+ghost use Rattle.value_core.specs.Runs.{NoLineFeed};
 ghost use Rattle.client_core.specs.Held.{rest_in, waits_in, AreSame, AreSameRows, IsAsked};
 ghost use Rattle.client_core.specs.Held.{ChangesPerson, HasOpened, IsHeld, IsPassed, IsSame, IsSetTo, IsTaken};
 ghost use Rattle.client_core.specs.People.{person_in, newcomer, stranger, named, called_at, name_in, since_in, called_in};

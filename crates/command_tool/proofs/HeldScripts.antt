@@ -4,7 +4,7 @@ use Rattle.std.specs.Prelude.{Option, Some, None, Result, Ok, Err, IfOk, IfErr, 
 use Rattle.std.specs.Io.KnownBytes.{Appends, Consumes}
 use Rattle.decl_core.specs.declared.object.Object.{Object}
 use Rattle.decl_core.specs.ObjectMap.{object_of}
-use Rattle.text_core.proofs.Known.{Appends-none}
+use Rattle.value_core.proofs.Known.{Appends-none}
 use Rattle.check_core.specs.Named.{IsHead}
 use Rattle.check_core.specs.Opening.{IsReady, IsTold}
 use Rattle.check_core.proofs.Heads.{told_alike, ready_alike}

@@ -1,6 +1,6 @@
 -- How the program ends that has served.
 use Rattle.std.specs.Prelude.{ℕ, Result, Ok, Err}
-use Rattle.text_core.specs.declared.machine.LinesFault.{LinesFault}
+use Rattle.value_core.specs.declared.machine.LinesFault.{LinesFault}
 use Rattle.answer_core.specs.Status.{paths_failure}
 use Rattle.answer_core.specs.declared.failure.ToolFailure.{ToolFailure}
 use Rattle.answer_core.specs.declared.failure.ToolFailure.TheVariants.{ReadFault}

@@ -1,3 +1,4 @@
 pub mod Ends
 pub mod HeldRun
 pub mod Starts
+pub mod Untold

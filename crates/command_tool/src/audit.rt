@@ -19,7 +19,7 @@ use decl_core::analyse::Accepted;
 use decl_core::hold::Rules;
 use note_core::files::Files;
 use std::io;
-use text_core::write_whole;
+use value_core::write_whole;
 
 // Tells what objects are in a folder, by these rules.
 fn tell_folder(

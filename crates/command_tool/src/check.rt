@@ -14,11 +14,11 @@ use answer_core::source::read_source;
 use answer_core::sources::{WithoutHolds, without_holds};
 use answer_core::stuck::check_stuck;
 use command_line::request::Explain;
-use explain_fault::pairs::explain_pairs;
 use hold_read::read::{Look, look_at};
 use note_core::kept::CopyingReader;
+use note_core::pairs::explain_pairs;
 use std::io;
-use text_core::write_whole;
+use value_core::write_whole;
 
 // `pathserve check` of a source that was read.
 fn check_text(

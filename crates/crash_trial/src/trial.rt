@@ -10,7 +10,7 @@ use decl_core::object::Object;
 use recover_core::recover::{House, Recovered};
 use std::alloc::{AllocError, AllocFailed, Global};
 use std::io::Write;
-use text_core::write_whole;
+use value_core::write_whole;
 
 /// What is tried.
 #[derive(Drop)]

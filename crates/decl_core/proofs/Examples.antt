@@ -1,7 +1,7 @@
 -- Bodies that are done, step by step.
 use Rattle.std.proofs.Common.{◌≡◌, true, [], ◌∷◌, Some, None, codes, refl}
 use Rattle.value_core.specs.declared.datum.Datum.{Datum}
-use Rattle.text_core.specs.TextOrder.{text_cmp}
+use Rattle.value_core.specs.TextOrder.{text_cmp}
 use Rattle.value_core.specs.declared.datum.Datum.TheVariants as datum
 use Rattle.value_core.specs.declared.kind.Elem.TheVariants as elem
 use Rattle.std.specs.FinMap as map

@@ -6,7 +6,7 @@ use denote.Struct.Props.{props}
 use Rattle.value_core.specs.declared.kind.Elem.{Elem}
 use Rattle.value_core.specs.declared.kind.Elem.TheVariants as elem
 use Rattle.value_core.specs.declared.kind.Kind.{Kind}
-use Rattle.text_core.specs.Plain.{IsText}
+use Rattle.value_core.specs.Plain.{IsText}
 use Rattle.decl_core.specs.KindOnce.{elem_set, kind_set}
 use Rattle.decl_core.specs.RefusalWord.{IsRefusalWord}
 use Rattle.decl_core.specs.Form.{From, argument, element, oldest, under, Integers, number, integer_from, count, add}

@@ -3,7 +3,7 @@
 //! Names are resolved: a constant is its value, a parameter and a part are their numbers.
 
 use crate::id::{ParamId, PartId};
-use text_core::text::Text;
+use value_core::text::Text;
 
 /// An expression.
 #[derive(Drop)]

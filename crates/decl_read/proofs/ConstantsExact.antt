@@ -5,11 +5,11 @@ use Rattle.path_tree.specs.Lexeme.{Lexeme, symbol, number as number_lexeme, iden
 use Rattle.path_tree.specs.Reading.{symbol_at}
 use Rattle.path_tree.specs.Known.{value_of}
 use Rattle.path_tree.proofs.Found.{symbol_found}
-use Rattle.body_read.specs.Reading.{name_at}
-use Rattle.body_read.specs.Series.{IsSeries, series_at}
+use Rattle.decl_read.specs.Reading.{name_at}
+use Rattle.decl_read.specs.Series.{IsSeries, series_at}
 use Rattle.decl_read.specs.Declarations.{begins, begins_name, IsConstant, constant, IsConsts, consts}
 use Rattle.decl_read.specs.DeclarationReading.{provided, number_at, constant_in, consts_in}
-use Rattle.body_read.proofs.Exact.{Exact, bind_some, read_is, series_exact}
+use Rattle.decl_read.proofs.Exact.{Exact, bind_some, read_is, series_exact}
 use Rattle.decl_read.proofs.Fronts.{name_front, number_front, provided_is, is_false, is_none, below, is_below, along}
 
 constant_found : (before : List (List ℕ × ℕ)) (ws : List Lexeme) (x : List (List ℕ × ℕ)) (rest : List Lexeme) → constant_in before ws ≡ Some (x, rest) → IsConstant before ws x rest

@@ -2,9 +2,9 @@
 use Rattle.std.proofs.Common.{◌≡◌, ℕ, ◌<◌, ◌≤◌, Bool, true, false, List, [], ◌∷◌, Option, Some, None, nat_lt, nat_le, ◌&&◌, ◌||◌, not, is_some, refl, sym, ap, subst, ◌∙◌, arith}
 use Rattle.std.proofs.lemmas.Bool.Decides.{nat_tests}
 use Rattle.path_tree.specs.Lexeme.{Lexeme, symbol, number as number_lexeme, identifier, string, end_mark}
-use Rattle.body_read.specs.Reading.{name_at}
+use Rattle.decl_read.specs.Reading.{name_at}
 use Rattle.decl_read.specs.DeclarationReading.{provided, number_at}
-use Rattle.body_read.proofs.Exact.{read_is}
+use Rattle.decl_read.proofs.Exact.{read_is}
 
 pub name_front : (ws : List Lexeme) (q : List ℕ × List Lexeme) → name_at ws ≡ Some q → ws ≡ identifier q.0 ∷ q.1
 name_front [] q h = absurd cc

@@ -13,7 +13,7 @@ use Rattle.value_core.specs.declared.kind.Kind.{Kind}
 use Rattle.value_core.specs.declared.kind.Kind.TheVariants as kind
 use Rattle.decl_read.specs.Declarations.{IsSize, by_number, by_constant, IsElem, integer, text, IsKind, an_array, a_queue, a_table}
 use Rattle.decl_read.specs.DeclarationReading.{allowed, size_at, size_in, elem_of, elem_at, of_elem_in, array_in, queue_in, table_in, kind_by_symbol, kind_in}
-use Rattle.body_read.proofs.Exact.{Exact, bind_some, read_is}
+use Rattle.decl_read.proofs.Exact.{Exact, bind_some, read_is}
 use Rattle.decl_read.proofs.Fronts.{provided_is, both_are, at_most, is_at_most, along}
 
 -- a word for elements, in front

@@ -14,7 +14,7 @@ use Rattle.decl_core.specs.PartKinds.{AreKindsOf, EachKindsOf}
 use Rattle.decl_core.proofs.KnownKinds.{kinds_known}
 use Rattle.decl_read.specs.Declarations.{IsEntry, a_procedure, a_function, begins}
 use Rattle.decl_read.specs.DeclarationReading.{entry_in}
-use Rattle.body_read.specs.Series.{series_at}
+use Rattle.decl_read.specs.Series.{series_at}
 use Rattle.decl_read.proofs.Entries.{entries_exact}
 use Rattle.decl_read.proofs.Limits.{series_keeps}
 

@@ -7,12 +7,12 @@ use Rattle.path_tree.specs.declared.token.Symbol.TheVariants as symbols
 use Rattle.path_tree.specs.Lexeme.{Lexeme, lexemes, lexeme_of}
 use Rattle.path_tree.specs.Reading.{symbol_at}
 use Rattle.path_tree.proofs.Found.{symbol_found}
-use Rattle.body_read.specs.Reader.{Reader}
-use Rattle.body_read.specs.Reading.{name_at}
+use Rattle.decl_read.specs.Reader.{Reader}
+use Rattle.decl_read.specs.Reading.{name_at}
 use Rattle.decl_read.specs.Declarations.{IsConsts, begins}
 use Rattle.decl_read.specs.DeclarationReading.{consts_in}
-use Rattle.body_read.specs.Series.{IsSeries, series_at}
-use Rattle.body_read.proofs.Exact.{Exact}
+use Rattle.decl_read.specs.Series.{IsSeries, series_at}
+use Rattle.decl_read.proofs.Exact.{Exact}
 use Rattle.decl_read.proofs.ConstantsExact.{constants_exact}
 use Rattle.decl_read.proofs.Fronts.{name_front}
 

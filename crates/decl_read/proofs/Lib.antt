@@ -19,3 +19,16 @@ pub mod SkippedTexts
 pub mod SkippedStatements
 pub mod SkippedDeclarations
 pub mod OperationNames
+pub mod Literals
+pub mod Sums
+pub mod Again
+pub mod Found
+pub mod Exact
+pub mod Conditions
+pub mod StatementSteps
+pub mod StatementsRead
+pub mod StatementsFound
+pub mod Refusals
+pub mod Typing
+pub mod Naming
+pub mod Operations

@@ -14,7 +14,7 @@ use Rattle.decl_read.specs.Declarations.{IsKind, an_array, a_queue, a_table, IsP
 use Rattle.decl_core.specs.ObjectForm.{operation_with}
 use Rattle.decl_read.specs.DeclarationReading.{kind_in, path_item_in, entry_in}
 use Rattle.decl_core.specs.ObjectMap.{operation_of, operations_of}
-use Rattle.body_read.specs.Series.{IsSeries, no_more, and_another, series_at}
+use Rattle.decl_read.specs.Series.{IsSeries, no_more, and_another, series_at}
 use Rattle.decl_read.proofs.KindsExact.{kind_exact}
 use Rattle.decl_read.proofs.PathItems.{paths_exact}
 use Rattle.decl_read.proofs.Entries.{entries_exact}

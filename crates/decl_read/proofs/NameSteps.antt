@@ -1,9 +1,9 @@
 -- The steps of reading names up to a colon.
 use Rattle.std.proofs.Common.{◌≡◌, ℕ, zero, suc, ◌-◌, ◌<◌, List, refl, arith}
 use Rattle.path_tree.specs.Lexeme.{Lexeme}
-use Rattle.body_read.specs.declared.text_fault.TextFault.{TextFault}
-use Rattle.body_read.specs.Reader.{Fails}
-use Rattle.body_read.specs.Reading.{Names}
+use Rattle.decl_read.specs.declared.text_fault.TextFault.{TextFault}
+use Rattle.decl_read.specs.Reader.{Fails}
+use Rattle.decl_read.specs.Reading.{Names}
 use Rattle.decl_read.specs.DeclarationReading.{names_with, names_at}
 use Rattle.decl_read.proofs.Steps.{fails_none}
 

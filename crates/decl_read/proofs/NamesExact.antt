@@ -4,10 +4,10 @@ use Rattle.path_tree.specs.declared.token.Symbol.TheVariants as symbols
 use Rattle.path_tree.specs.Lexeme.{Lexeme, identifier}
 use Rattle.path_tree.specs.Reading.{symbol_at}
 use Rattle.path_tree.proofs.Found.{symbol_found}
-use Rattle.body_read.specs.Reading.{Names, is_among, is_known, name_at}
+use Rattle.decl_read.specs.Reading.{Names, is_among, is_known, name_at}
 use Rattle.decl_read.specs.Declarations.{IsNames, last_name, name_and}
 use Rattle.decl_read.specs.DeclarationReading.{provided, names_by, names_with, names_at}
-use Rattle.body_read.proofs.Exact.{Exact, bind_some, read_is}
+use Rattle.decl_read.proofs.Exact.{Exact, bind_some, read_is}
 use Rattle.decl_read.proofs.Fronts.{name_front, provided_is, is_false, neither_is, along}
 
 module _ (names : Names) where

@@ -5,11 +5,11 @@ use Rattle.path_tree.specs.Lexeme.{Lexeme, symbol}
 use Rattle.path_tree.specs.Reading.{symbol_at}
 use Rattle.path_tree.proofs.Found.{symbol_found}
 use Rattle.value_core.specs.declared.kind.Elem.{Elem}
-use Rattle.body_read.specs.Reading.{Names}
-use Rattle.body_read.specs.Series.{IsSeries, series_at}
+use Rattle.decl_read.specs.Reading.{Names}
+use Rattle.decl_read.specs.Series.{IsSeries, series_at}
 use Rattle.decl_read.specs.Declarations.{begins, each_with, with_params, IsNames, IsGroup, group, IsNextGroup, next_group, IsParams, no_params, some_params}
 use Rattle.decl_read.specs.DeclarationReading.{names_at, elem_at, group_of_params, next_group_in, params_by, params_in}
-use Rattle.body_read.proofs.Exact.{Exact, bind_some, read_is, series_exact}
+use Rattle.decl_read.proofs.Exact.{Exact, bind_some, read_is, series_exact}
 use Rattle.decl_read.proofs.Fronts.{along}
 use Rattle.decl_read.proofs.KindsExact.{elem_found, elem_read}
 use Rattle.decl_read.proofs.NamesExact.{names_exact}

@@ -5,10 +5,10 @@ use Rattle.path_tree.specs.Lexeme.{Lexeme, symbol}
 use Rattle.path_tree.specs.Reading.{symbol_at}
 use Rattle.path_tree.proofs.Found.{symbol_found}
 use Rattle.value_core.specs.declared.kind.Kind.{Kind}
-use Rattle.body_read.specs.Series.{IsSeries, series_at}
+use Rattle.decl_read.specs.Series.{IsSeries, series_at}
 use Rattle.decl_read.specs.Declarations.{begins, begins_name, each_with, names_of_parts, IsKind, IsPartGroup, part_group, IsVar, var}
 use Rattle.decl_read.specs.DeclarationReading.{names_at, kind_in, part_group_in, var_in}
-use Rattle.body_read.proofs.Exact.{Exact, bind_some, read_is, series_exact}
+use Rattle.decl_read.proofs.Exact.{Exact, bind_some, read_is, series_exact}
 use Rattle.decl_read.proofs.Fronts.{along}
 use Rattle.decl_read.proofs.KindsExact.{kind_exact}
 use Rattle.decl_read.proofs.NamesExact.{names_exact}

@@ -10,10 +10,10 @@ use Rattle.path_tree.specs.Known.{Known}
 use Rattle.path_tree.specs.Reading.{path_at}
 use Rattle.decl_read.specs.Declarations.{IsPathItem, a_path, begins}
 use Rattle.decl_read.specs.DeclarationReading.{provided, path_item_in}
-use Rattle.body_read.specs.Series.{IsSeries, series_at}
+use Rattle.decl_read.specs.Series.{IsSeries, series_at}
 use Rattle.path_tree.proofs.Found.{symbol_found}
 use Rattle.path_tree.proofs.ReadPaths.{front_found, front_read}
-use Rattle.body_read.proofs.Exact.{Exact, bind_some, read_is, series_exact}
+use Rattle.decl_read.proofs.Exact.{Exact, bind_some, read_is, series_exact}
 
 -- no path stands where no tokens are
 pub no_path : (known : Known) (most : ℕ) (tokens : List Token) → length tokens ≡ 0 → path_at known most (lexemes tokens) ≡ None

@@ -2,11 +2,11 @@
 use Rattle.std.proofs.Common.{◌≡◌, ℕ, zero, suc, ◌-◌, ◌<◌, Bool, true, false, List, Option, Some, None, refl, sym, subst, ◌∙◌, arith}
 use Rattle.std.specs.Prelude.{Result}
 use Rattle.path_tree.specs.Lexeme.{Lexeme}
-use Rattle.body_read.specs.declared.text_fault.TextFault.{TextFault}
-use Rattle.body_read.specs.declared.text_fault.TextFault.TheVariants as faults
-use Rattle.body_read.specs.Reader.{◌>>=◌, Reader, Fails, Gives}
-use Rattle.body_read.specs.Series.{series_by, series_at}
-use Rattle.body_read.proofs.Sums.{by_fault}
+use Rattle.decl_read.specs.declared.text_fault.TextFault.{TextFault}
+use Rattle.decl_read.specs.declared.text_fault.TextFault.TheVariants as faults
+use Rattle.decl_read.specs.Reader.{◌>>=◌, Reader, Fails, Gives}
+use Rattle.decl_read.specs.Series.{series_by, series_at}
+use Rattle.decl_read.proofs.Sums.{by_fault}
 
 -- a fault says that nothing is read, where nothing is
 pub fails_none : {Y : Type 0} (e : TextFault) (read : Option Y) → read ≡ None → Fails e read

@@ -12,10 +12,10 @@ use Rattle.value_core.specs.declared.kind.Elem.TheVariants as elem
 use Rattle.value_core.specs.declared.kind.Kind.{Kind}
 use Rattle.value_core.specs.declared.kind.Kind.TheVariants as kind
 use Rattle.decl_read.specs.declared.collect.Opening.TheVariants as openings
-use Rattle.body_read.specs.Reader.{◌>>=◌, Reader}
-use Rattle.body_read.specs.Reading.{Names, is_among, is_known, name_at}
-use Rattle.body_read.specs.StatementReading.{body_in}
-use Rattle.body_read.specs.Series.{series_at}
+use Rattle.decl_read.specs.Reader.{◌>>=◌, Reader}
+use Rattle.decl_read.specs.Reading.{Names, is_among, is_known, name_at}
+use Rattle.decl_read.specs.StatementReading.{body_in}
+use Rattle.decl_read.specs.Series.{series_at}
 use Rattle.decl_core.specs.ObjectForm.{OperationForm, ObjectForm}
 use Rattle.decl_read.specs.Declarations.{begins, begins_name, each_with, names_of_parts, with_params, is_parameter}
 use Rattle.decl_read.specs.Declarations.{names_before, names_within, names_in_function, entry_names}

@@ -15,10 +15,10 @@ use Rattle.value_core.specs.declared.kind.Kind.TheVariants as kind
 use Rattle.decl_read.specs.declared.collect.Opening.{Opening}
 use Rattle.decl_read.specs.declared.collect.Opening.TheVariants as openings
 use Rattle.decl_core.specs.Form.{Statements}
-use Rattle.body_read.specs.Scopes.{operation_names}
-use Rattle.body_read.specs.Reading.{Names, found_in, is_among, is_known}
-use Rattle.body_read.specs.Series.{IsSeries}
-use Rattle.body_read.specs.Statements.{IsStmts}
+use Rattle.decl_read.specs.Scopes.{operation_names}
+use Rattle.decl_read.specs.Reading.{Names, found_in, is_among, is_known}
+use Rattle.decl_read.specs.Series.{IsSeries}
+use Rattle.decl_read.specs.Statements.{IsStmts}
 use Rattle.decl_core.specs.ObjectForm.{OperationForm, ObjectForm, operation_with}
 
 -- whether a symbol stands in front, and whether a name does

@@ -9,8 +9,8 @@ use Rattle.path_tree.specs.Path.{Path}
 use Rattle.path_tree.specs.declared.lookup.Constant.{Constant}
 use Rattle.path_tree.specs.declared.path_fault.PathFault.{PathFault}
 use Rattle.path_tree.specs.declared.path_fault.PathFault.TheVariants as path_faults
-use Rattle.body_read.specs.declared.text_fault.TextFault.{TextFault}
-use Rattle.body_read.specs.declared.text_fault.TextFault.TheVariants as faults
+use Rattle.decl_read.specs.declared.text_fault.TextFault.{TextFault}
+use Rattle.decl_read.specs.declared.text_fault.TextFault.TheVariants as faults
 use Rattle.path_tree.specs.declared.token.Token.{Token}
 use Rattle.value_core.specs.declared.kind.Elem.{Elem}
 use Rattle.value_core.specs.declared.kind.Kind.{Kind}

@@ -2,11 +2,11 @@
 
 ghost use Rattle.std.specs.Prelude.{◌≡◌, ◌++◌, Some};
 ghost use Rattle.path_tree.specs.Lexeme.{lexeme_of, lexemes};
-ghost use Rattle.body_read.specs.Reader.{Gives};
+ghost use Rattle.decl_read.specs.Reader.{Gives};
 ghost use Rattle.decl_read.specs.Declarations.{entry_names, is_entry, is_object_word, opening_after, name_behind};
 ghost use Rattle.decl_read.specs.declared.collect.Opening.TheVariants.{Nothing};
 
-use body_read::text_fault::TextFault;
+use crate::text_fault::TextFault;
 use path_tree::name::Name;
 use path_tree::token::{Symbol, Token, TokenKind, is_same_symbol};
 use std::alloc::Global;

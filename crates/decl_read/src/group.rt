@@ -4,16 +4,16 @@ ghost use Rattle.std.specs.Prelude.{◌≡◌, ◌+◌, ◌≤◌, IfOk, length}
 ghost use Rattle.path_tree.specs.Lexeme.{lexemes};
 ghost use Rattle.decl_read.specs.Declarations.{begins as begins_with, begins_name as a_name_begins};
 ghost use Rattle.decl_read.specs.DeclarationReading.{names_at, names_with};
-ghost use Rattle.body_read.specs.Reader.{Gives};
-ghost use Rattle.body_read.specs.Reading.{is_among as is_one_of};
+ghost use Rattle.decl_read.specs.Reader.{Gives};
+ghost use Rattle.decl_read.specs.Reading.{is_among as is_one_of};
 ghost use Rattle.decl_read.specs.Views.{names_read};
-ghost use Rattle.body_read.specs.Scopes.{names_of};
+ghost use Rattle.decl_read.specs.Scopes.{names_of};
 
-use body_read::front::{after, behind, name, start_of};
-use body_read::lookup::is_known;
-use body_read::scope::BodyScope;
-use body_read::terms::TextRead;
-use body_read::text_fault::TextFault;
+use crate::front::{after, behind, name, start_of};
+use crate::lookup::is_known;
+use crate::scope::BodyScope;
+use crate::terms::TextRead;
+use crate::text_fault::TextFault;
 use path_tree::name::Name;
 use path_tree::token::{Symbol, Token, TokenKind};
 use std::alloc::Global;

@@ -12,7 +12,7 @@ ghost use Rattle.decl_read.specs.Sources.{AreObjectsOf, lex_fault_told, text_fau
 
 use crate::fault::DeclFault;
 use crate::objects::file;
-use body_read::text_fault::TextFault;
+use crate::text_fault::TextFault;
 use decl_core::object::Object;
 use indexmap::IndexMap;
 use path_tree::lex::fault::LexFault;

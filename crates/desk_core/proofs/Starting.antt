@@ -25,7 +25,7 @@ use Rattle.decl_core.proofs.DeclTouched.{reads_bits}
 use Rattle.device_core.specs.declared.hand.Stamp.{Stamp}
 use Rattle.page_core.specs.PartPins.{PartPin, pin_at, pins_in, put_if}
 use Rattle.apply_core.proofs.HeldReads.{reads_held}
-use Rattle.call_core.specs.Calls.{HasPins}
+use Rattle.page_core.specs.CallPins.{HasPins}
 use Rattle.board_core.proofs.Kept.{kept_at}
 use Rattle.board_core.proofs.Lists.{Every-map, Every-at, Every-among, among_at, filter_one, filter_less, eqb_same}
 use Rattle.board_core.proofs.Sound.{made_at}

@@ -7,7 +7,7 @@ use Rattle.board_core.specs.declared.event.TraceEvent.{TraceEvent}
 use Rattle.board_core.specs.declared.event.TraceEvent.TheVariants.{Start, End}
 use Rattle.board_core.specs.Calls.{AcceptedCall, WaitingCall, RunningCall, Noted}
 use Rattle.device_core.specs.declared.hand.Stamp.{Stamp}
-use Rattle.call_core.specs.Outcomes.{if_done}
+use Rattle.page_core.specs.Outcomes.{if_done}
 use Rattle.board_core.specs.Keys.{resumed}
 use Rattle.board_core.specs.Board.{Board, most_sessions, opened, joined, dismissed, released, taken_at, marked, started, ended, published, read_pins}
 

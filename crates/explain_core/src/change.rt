@@ -5,7 +5,7 @@ use crate::remark::{Allocated, Phrase, Remark, Words, push_found, text_of, with_
 use decl_core::analyse::{ObjectRefusal, analyse};
 use decl_core::object::Object;
 use decl_read::read::read_objects;
-use explain_fault::fault::is_want_of_memory;
+use note_core::fault::is_want_of_memory;
 use note_core::page::push_new_line;
 use note_core::span::{Span, behind, front};
 use path_tree::node::OpId;

@@ -9,7 +9,7 @@ use decl_core::analyse::{ObjectRefusal, analyse};
 use decl_core::object::Object;
 use decl_read::fault::DeclFault;
 use decl_read::read::read_objects;
-use explain_fault::fault::{is_want_of_memory, push_fault};
+use note_core::fault::{is_want_of_memory, push_fault};
 use note_core::page::Page;
 use path_tree::lex::lex;
 use std::alloc::{AllocError, Global};

@@ -12,8 +12,8 @@ use note_core::line_words::LineWords;
 use note_core::said::{Message, say};
 use note_core::span::Span;
 use std::alloc::{AllocError, Global};
-use text_core::words::is_same_word;
 use value_core::kind::{Elem, Kind};
+use value_core::words::is_same_word;
 
 const KNOWN_NUMBER: WordRule = WordRule(
     Want::KnownNumber,

@@ -9,7 +9,7 @@ use decl_core::object::Object;
 use note_core::alike::are_alike;
 use note_core::line_words::LineWords;
 use note_core::said::{Message, say};
-use text_core::words::is_same_word;
+use value_core::words::is_same_word;
 use word_core::number::session_of;
 
 /// A kind of line: its first word, its form, as it is told, and what its words have to be.

@@ -2,9 +2,9 @@
 
 use decl_core::object::Object;
 use indexmap::IndexMap;
-use inside_text::list::{push_list, push_object, push_operations};
 use path_tree::name::Name;
 use std::alloc::{AllocError, Global};
+use stuck_core::list::{push_list, push_object, push_operations};
 
 /// What `list` is answered at a prompt: the names of all objects, in order, and the operations of this one.
 pub fn listed(

@@ -5,7 +5,7 @@ use decl_core::analyse::Accepted;
 use note_core::span::{behind, front, text_at};
 use std::alloc::{AllocError, Global};
 use std::io::{self, Read, Write};
-use text_core::write_whole;
+use value_core::write_whole;
 use word_core::first::one_bare;
 
 /// What is told of the lines that are read.

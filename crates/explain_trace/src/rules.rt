@@ -6,7 +6,7 @@ use note_core::line_words::LineWords;
 use note_core::said::{Message, say};
 use note_core::span::Span;
 use path_tree::name::is_identifier;
-use text_core::words::is_same_word;
+use value_core::words::is_same_word;
 use word_core::number::{integer_of, session_of};
 
 /// The most that a call of a trace may be numbered, and a session.

@@ -13,7 +13,7 @@ use note_core::line_words::words_at;
 use note_core::page::Page;
 use note_core::span::{Span, behind, text_at};
 use std::alloc::{AllocError, Global};
-use text_core::next_line;
+use value_core::next_line;
 use word_core::said::{is_skipped, read_line};
 use world_core::question::question_of;
 

@@ -26,8 +26,8 @@ use Rattle.apply_core.specs.declared.reply.Failure.{Failure}
 use Rattle.apply_core.specs.declared.reply.Failure.TheVariants.{Device, Memory, Damaged}
 use Rattle.apply_core.specs.declared.reply.Reply.{Reply}
 use Rattle.apply_core.specs.declared.reply.Reply.TheVariants.{Done, Refused, Failed}
-use Rattle.text_core.specs.Plain.{IsPlain}
-use Rattle.text_core.specs.Runs.{NoLineFeed}
+use Rattle.value_core.specs.Plain.{IsPlain}
+use Rattle.value_core.specs.Runs.{NoLineFeed}
 use Rattle.word_core.specs.Words.{Word, words_text}
 use Rattle.word_core.specs.Data.{datum_word, session_word}
 use Rattle.word_core.proofs.Numerals.{digits}

@@ -6,7 +6,7 @@ use Rattle.std.proofs.lemmas.List.{append-nil}
 use Rattle.std.specs.Prelude.{All}
 use Rattle.std.proofs.lemmas.List.Elements.{All-head, All-tail}
 use Rattle.path_tree.specs.Identifier.{IsName}
-use Rattle.text_core.specs.Runs.{NoLineFeed}
+use Rattle.value_core.specs.Runs.{NoLineFeed}
 use Rattle.value_core.specs.declared.kind.Kind.{Kind}
 use Rattle.value_core.specs.Contents.{Contents, IsContents, kind_of}
 use Rattle.decl_core.specs.ObjectForm.{ObjectForm}

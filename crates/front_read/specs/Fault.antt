@@ -1,7 +1,7 @@
 -- At which rest of a text no front goes on.
 use Rattle.std.specs.Prelude.{◌≡◌, ℕ, suc, true, false, ◌⊎◌, List, [], ◌∷◌, ◌++◌, codes, Result, MatchResult}
 use Rattle.std.specs.Borrow.{Bor}
-use Rattle.text_core.specs.Runs.{NoLineFeed}
+use Rattle.value_core.specs.Runs.{NoLineFeed}
 use Rattle.value_core.specs.declared.kind.Kind.{Kind}
 use Rattle.value_core.specs.Contents.{Contents}
 use Rattle.decl_core.specs.ObjectForm.{ObjectForm}

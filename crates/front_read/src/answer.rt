@@ -14,9 +14,9 @@ ghost use Rattle.front_read.specs.Answers.{tells_datum, FindsAnswer, FindsInTwo}
 
 use apply_core::reply::{Failure, Reply};
 use decl_core::word::is_refusal_word;
-use text_core::text::Text;
-use text_core::words::is_same_word;
 use value_core::datum::Datum;
+use value_core::text::Text;
+use value_core::words::is_same_word;
 use word_core::ending::{Ending, ending_of};
 use word_core::number::datum_of;
 use word_core::word::Word;

@@ -14,8 +14,8 @@ use decl_core::object::{Object, Operation};
 use path_tree::node::OpId;
 use std::alloc::{AllocError, Global};
 use std::sync::Arc;
-use text_core::words::is_same_word;
 use value_core::datum::Datum;
+use value_core::words::is_same_word;
 use word_core::word::Word;
 use word_core::words::{bare_of, data_of};
 

@@ -6,7 +6,7 @@ ghost use Rattle.front_read.specs.Words.{with_rest, behind_verb as behind_verb_i
 ghost use Rattle.front_read.specs.Words.{long_first as long_first_in, key_first as key_first_in};
 ghost use Rattle.front_read.specs.Words.{count_first as count_first_in, session_first as session_first_in};
 
-use text_core::words::is_same_word;
+use value_core::words::is_same_word;
 use word_core::number::{integer_of, long_of, session_of};
 use word_core::word::Word;
 use word_core::words::bare_of;

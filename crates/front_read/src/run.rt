@@ -20,7 +20,7 @@ use live_core::past::PastRun;
 use live_core::write::push_past;
 use path_tree::node::OpId;
 use std::alloc::{AllocError, Global};
-use text_core::words::is_same_word;
+use value_core::words::is_same_word;
 use word_core::names::object_has_names;
 use word_core::number::integer_of;
 use word_core::word::Word;

@@ -1,7 +1,7 @@
 //! Pieces of a text.
 
 ghost use Rattle.std.specs.Prelude.{◌≡◌, ◌≤◌, length, [], ◌+◌, ◌++◌, ◌∷◌, ◌<◌, ◌^◌, ℕ, List, MatchOption, IsTrue, ◌↔◌};
-ghost use Rattle.text_core.specs.Runs.{NoLineFeed};
+ghost use Rattle.value_core.specs.Runs.{NoLineFeed};
 ghost use Rattle.front_read.specs.Text.{begins, goes_on, goes_on_behind_parts, goes_on_with_calls, feeds_in};
 
 /// What stands behind these bytes, where a text begins with them.

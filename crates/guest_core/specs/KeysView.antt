@@ -1,6 +1,6 @@
 -- What is seen of keys, without where they lie in memory.
 use Rattle.std.specs.Prelude.{◌≢◌, ◌<◌, ◌≤◌, length, None, vec_capacity}
-use Rattle.text_core.specs.Limits.{most_text_bytes}
+use Rattle.value_core.specs.Limits.{most_text_bytes}
 use Rattle.guest_core.specs.declared.keys.Keys.TheInside.{Inside}
 use Rattle.guest_core.specs.Keys.{Keys}
 

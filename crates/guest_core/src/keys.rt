@@ -10,9 +10,9 @@ use apply_core::short::Short;
 use path_tree::node::OpId;
 use std::alloc::{AllocError, Global};
 use std::marker::Model;
-use text_core::limits::MOST_TEXT_BYTES;
 use thiserror::Error;
 use value_core::datum::Datum;
+use value_core::limits::MOST_TEXT_BYTES;
 
 /// So many calls of each name are kept.
 pub const MOST_KEPT: usize = 16;

@@ -4,7 +4,7 @@ use Rattle.std.specs.Prelude.{Bool, true, false, ◌==◌, if◌then◌else◌, 
 use Rattle.std.specs.Str.Lines.{strip_carriage_return}
 use Rattle.std.proofs.lemmas.Bool.Decides.{eqb_tells}
 use Rattle.std.proofs.lemmas.List.Elements.{All-cons, All-head, All-nil, All-tail}
-use Rattle.text_core.specs.Runs.{NoLineFeed}
+use Rattle.value_core.specs.Runs.{NoLineFeed}
 use Rattle.decl_core.specs.declared.object.Object.{Object}
 use Rattle.word_core.specs.Events.{Called}
 use Rattle.hosted_core.specs.Scene.{Scene}

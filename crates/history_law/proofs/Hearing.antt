@@ -4,7 +4,7 @@ use Rattle.std.specs.Prelude.{Bool, true, false, ◌==◌, Option, Some, None, s
 use Rattle.std.specs.Str.Lines.{strip_carriage_return}
 use Rattle.std.proofs.lemmas.List.{append-nil}
 use Rattle.std.proofs.lemmas.List.Elements.{All-head, All-tail}
-use Rattle.text_core.specs.Runs.{NoLineFeed}
+use Rattle.value_core.specs.Runs.{NoLineFeed}
 use Rattle.word_core.specs.Reads.{Reads}
 use Rattle.guest_core.specs.declared.answer.SubmitFault.TheVariants as faults
 use Rattle.session_text.specs.declared.line.ReplyLine.TheVariants as lines

@@ -2,7 +2,7 @@
 use Rattle.std.proofs.Common.{◌≡◌, ◌∙◌, ap, sym, subst, refl, ℕ, List, [], ◌∷◌, ◌++◌, append_assoc}
 use Rattle.std.specs.Prelude.{Bool, true, false, ◌==◌, Option, Some, None}
 use Rattle.std.proofs.lemmas.List.Elements.{All-head, All-tail}
-use Rattle.text_core.specs.Runs.{NoLineFeed}
+use Rattle.value_core.specs.Runs.{NoLineFeed}
 use Rattle.client_core.specs.Held.{is_not, is_whole_before}
 use Rattle.client_core.specs.State.{cut_of}
 use Rattle.history_law.specs.Awaits.{Lines, SaidBy, AreHeard}

@@ -4,11 +4,11 @@ use Rattle.std.specs.Prelude.{codes}
 use Rattle.apply_core.specs.declared.reply.Reply.{Reply}
 use Rattle.apply_core.specs.declared.reply.Reply.TheVariants.{Done, Refused, Failed}
 use Rattle.decl_core.specs.ObjectForm.{ObjectForm}
-use Rattle.inside_text.specs.Lacks.{Why}
-use Rattle.inside_text.specs.declared.why.CallStatus.{CallStatus}
-use Rattle.inside_text.specs.Why.{state_line, why_text}
-use Rattle.inside_text.specs.Who.{Sitting, Refused as Waits}
-use Rattle.inside_text.specs.List.{list_text}
+use Rattle.stuck_core.specs.Lacks.{Why}
+use Rattle.stuck_core.specs.declared.why.CallStatus.{CallStatus}
+use Rattle.stuck_core.specs.Why.{state_line, why_text}
+use Rattle.stuck_core.specs.Who.{Sitting, Refused as Waits}
+use Rattle.stuck_core.specs.List.{list_text}
 use Rattle.word_core.specs.Answers.{kept_line, cancelled_line, finished_line}
 use Rattle.session_text.specs.Lines.{accepted_text, bye_text, ended_text, line_text, opened_text, withdrawn_text}
 use Rattle.session_text.specs.declared.line.ReplyLine.{ReplyLine}

@@ -4,7 +4,7 @@ use Rattle.std.specs.Global.{Vec}
 use Rattle.value_core.specs.declared.datum.Datum.{Datum}
 use Rattle.decl_core.specs.declared.object.Object.{Object}
 use Rattle.decl_core.specs.ObjectMap.{object_of}
-use Rattle.text_core.specs.Runs.{NoLineFeed}
+use Rattle.value_core.specs.Runs.{NoLineFeed}
 use Rattle.word_core.specs.Events.{Called}
 use Rattle.word_core.specs.Text.{operation_name}
 use Rattle.session_text.specs.Lines.{accepted_text}

@@ -8,10 +8,10 @@ use Rattle.path_tree.specs.Lexeme.{Lexeme, symbol, number as number_lexeme, iden
 use Rattle.path_tree.specs.Reading.{symbol_at}
 use Rattle.path_tree.specs.Known.{place_of, next}
 use Rattle.path_tree.proofs.Found.{symbol_found}
-use Rattle.body_read.specs.Reading.{name_at}
-use Rattle.body_read.specs.Scopes.{operation_names}
-use Rattle.body_read.specs.Series.{IsSeries, series_at}
-use Rattle.body_read.proofs.Exact.{Exact, bind_some, read_is, series_exact}
+use Rattle.decl_read.specs.Reading.{name_at}
+use Rattle.decl_read.specs.Scopes.{operation_names}
+use Rattle.decl_read.specs.Series.{IsSeries, series_at}
+use Rattle.decl_read.proofs.Exact.{Exact, bind_some, read_is, series_exact}
 use Rattle.decl_core.specs.ObjectForm.{OperationForm}
 use Rattle.decl_core.specs.HoldForm.{signatures_of, signature_of}
 use Rattle.decl_core.specs.HoldForm.{HoldForm, EveryForm, Signature, MayEnd, IsEvery, is_one_of, named_in, ending_in, called_in}

@@ -7,7 +7,7 @@ use Rattle.path_tree.specs.Lexeme.{Lexeme, symbol, end_mark}
 use Rattle.path_tree.specs.Tokens.{Placed, AreTokens, end_at}
 use Rattle.path_tree.proofs.Gaps.{gap_le}
 use Rattle.path_tree.proofs.TokenLists.{tokens_few, one_list}
-use Rattle.body_read.specs.Series.{IsSeries, no_more, and_another}
+use Rattle.decl_read.specs.Series.{IsSeries, no_more, and_another}
 use Rattle.decl_core.specs.ObjectForm.{ObjectForm}
 use Rattle.decl_read.specs.Declarations.{begins, is_object_word, IsNextObject, next_object, IsFile, file}
 use Rattle.decl_read.specs.Sources.{AreObjectsOf}

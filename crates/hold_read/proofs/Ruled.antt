@@ -6,8 +6,8 @@ use Rattle.path_tree.specs.Lexeme.{Lexeme, symbol}
 use Rattle.path_tree.specs.Reading.{symbol_at}
 use Rattle.path_tree.specs.Tokens.{Placed}
 use Rattle.path_tree.proofs.Found.{symbol_found}
-use Rattle.body_read.specs.Series.{IsSeries, series_at}
-use Rattle.body_read.proofs.Exact.{Exact, bind_some}
+use Rattle.decl_read.specs.Series.{IsSeries, series_at}
+use Rattle.decl_read.proofs.Exact.{Exact, bind_some}
 use Rattle.decl_core.specs.ObjectForm.{OperationForm, ObjectForm}
 use Rattle.decl_read.specs.Declarations.{is_object_word}
 use Rattle.decl_read.proofs.Fronts.{provided_is}

@@ -7,10 +7,10 @@ use Rattle.path_tree.specs.Reading.{symbol_at}
 use Rattle.path_tree.specs.Known.{place_of}
 use Rattle.value_core.specs.declared.kind.Elem.{Elem}
 use Rattle.value_core.specs.declared.kind.Elem.TheVariants as elem
-use Rattle.body_read.specs.Reader.{◌>>=◌, Reader}
-use Rattle.body_read.specs.Reading.{name_at}
-use Rattle.body_read.specs.Scopes.{operation_names}
-use Rattle.body_read.specs.Series.{series_at}
+use Rattle.decl_read.specs.Reader.{◌>>=◌, Reader}
+use Rattle.decl_read.specs.Reading.{name_at}
+use Rattle.decl_read.specs.Scopes.{operation_names}
+use Rattle.decl_read.specs.Series.{series_at}
 use Rattle.decl_core.specs.ObjectForm.{OperationForm}
 use Rattle.decl_read.specs.Declarations.{begins}
 use Rattle.decl_read.specs.DeclarationReading.{provided, number_at}

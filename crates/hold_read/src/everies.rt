@@ -2,8 +2,8 @@
 
 ghost use Rattle.std.specs.Prelude.{◌≡◌, ◌≤◌, ◌||◌, IfOk, length};
 ghost use Rattle.path_tree.specs.Lexeme.{lexemes};
-ghost use Rattle.body_read.specs.Reader.{Gives};
-ghost use Rattle.body_read.specs.Series.{series_at};
+ghost use Rattle.decl_read.specs.Reader.{Gives};
+ghost use Rattle.decl_read.specs.Series.{series_at};
 ghost use Rattle.decl_core.specs.HoldForm.{is_one_of as is_one, called_in, ending_in};
 ghost use Rattle.decl_core.specs.HoldMap.{everies_of, holds_of};
 ghost use Rattle.decl_core.specs.ObjectMap.{operations_of};
@@ -16,11 +16,11 @@ ghost use Rattle.decl_read.specs.DeclarationReading.{number_at};
 
 use crate::holds::{is_one_of, operation, takes_none};
 use crate::words::{HoldKeyword, begins_word, behind_word};
-use body_read::front::{behind, start_of};
-use body_read::terms::TextRead;
-use body_read::text_fault::TextFault;
 use decl_core::hold::{Every, Hold};
 use decl_core::object::Operation;
+use decl_read::front::{behind, start_of};
+use decl_read::terms::TextRead;
+use decl_read::text_fault::TextFault;
 use path_tree::node::OpId;
 use path_tree::token::{Symbol, Token, TokenKind};
 use std::alloc::Global;

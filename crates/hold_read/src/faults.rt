@@ -3,10 +3,10 @@
 use crate::rules::rules;
 use crate::sections::{begin_of, behind_object, rules_at};
 use crate::words::{HoldKeyword, begins_word};
-use body_read::text_fault::TextFault;
 use decl_core::object::Object;
 use decl_read::fault::DeclFault;
 use decl_read::read::read_objects;
+use decl_read::text_fault::TextFault;
 use path_tree::name::Name;
 use path_tree::token::{Symbol, Token, TokenKind, is_same_symbol};
 use std::alloc::{AllocError, Global};

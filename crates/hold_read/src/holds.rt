@@ -4,9 +4,9 @@ ghost use Rattle.std.specs.Prelude.{◌≡◌, ◌≤◌, ◌<◌, ◌||◌, ◌
 ghost use Rattle.path_tree.specs.declared.token.Symbol.TheVariants.{Comma};
 ghost use Rattle.path_tree.specs.Lexeme.{lexemes};
 ghost use Rattle.path_tree.specs.Known.{place_of as place_of_name};
-ghost use Rattle.body_read.specs.Reader.{Gives};
-ghost use Rattle.body_read.specs.Scopes.{operation_names};
-ghost use Rattle.body_read.specs.Series.{series_at};
+ghost use Rattle.decl_read.specs.Reader.{Gives};
+ghost use Rattle.decl_read.specs.Scopes.{operation_names};
+ghost use Rattle.decl_read.specs.Series.{series_at};
 ghost use Rattle.decl_core.specs.HoldForm.{is_one_of as is_one, named_in};
 ghost use Rattle.decl_core.specs.HoldMap.{holds_of};
 ghost use Rattle.decl_core.specs.HoldForm.{signature_of};
@@ -22,11 +22,11 @@ ghost use Rattle.hold_read.specs.HoldReading.{undo_in, next_undo_in, undos_in, l
 ghost use Rattle.hold_read.specs.Views.{holds_read, numbers_read};
 
 use crate::words::{HoldKeyword, after_word, begins_word, behind_word};
-use body_read::front::{after, behind, name, start_of};
-use body_read::terms::TextRead;
-use body_read::text_fault::TextFault;
 use decl_core::hold::Hold;
 use decl_core::object::{Operation, Param};
+use decl_read::front::{after, behind, name, start_of};
+use decl_read::terms::TextRead;
+use decl_read::text_fault::TextFault;
 use path_tree::node::OpId;
 use path_tree::token::{Symbol, Token};
 use std::alloc::Global;

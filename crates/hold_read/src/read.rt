@@ -17,11 +17,11 @@ ghost use Rattle.hold_read.specs.declared.read.Look.TheVariants.{Held as TheHeld
 use crate::cut::cut_of;
 use crate::faults::first_fault;
 use crate::rules::all_rules;
-use body_read::text_fault::TextFault;
 use decl_core::hold::Rules;
 use decl_core::object::Object;
 use decl_read::fault::DeclFault;
 use decl_read::read::read_objects;
+use decl_read::text_fault::TextFault;
 use indexmap::IndexMap;
 use path_tree::lex::fault::LexFault;
 use path_tree::lex::lex;

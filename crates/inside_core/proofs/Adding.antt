@@ -10,7 +10,7 @@ use Rattle.client_core.specs.declared.client.OpenObject.{OpenObject}
 use Rattle.decl_core.specs.HoldForm.{HoldForm}
 use Rattle.guest_core.specs.Held.{HeldCall}
 use Rattle.check_core.specs.HeldTold.{holds_line}
-use Rattle.inside_text.specs.Who.{Sitting, Refused, seat_line, waits_line, who_line}
+use Rattle.stuck_core.specs.Who.{Sitting, Refused, seat_line, waits_line, who_line}
 use Rattle.client_core.specs.ToldInside.{Crowd, IsSeatOf, AreSeats, IsWaitOf, AreWaits, AreSitting, last_told, is_between, waiting_in, held_in, IsWho}
 use Rattle.inside_core.specs.Adds.{AddsSeats, AddsWaits, AddsHeld}
 

@@ -3,7 +3,7 @@ use Rattle.std.proofs.Common.{◌≡◌, ◌∙◌, ap, sym, ℕ, ◌+◌, ◌<�
 use Rattle.std.specs.Prelude.{flat_map}
 use Rattle.std.proofs.lemmas.List.{take_more}
 use Rattle.hosted_core.specs.Scene.{Scene}
-use Rattle.inside_text.specs.List.{object_line}
+use Rattle.stuck_core.specs.List.{object_line}
 
 abbrev pub names_text : List Scene → List ℕ
 names_text objects = flat_map object_line (map (λ (s : Scene). s.hall.object.name) objects)

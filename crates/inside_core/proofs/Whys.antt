@@ -7,8 +7,8 @@ use Rattle.path_count.specs.Stands.{StandsFor}
 use Rattle.decl_core.specs.ObjectMap.{object_of}
 use Rattle.live_core.specs.Hall.{trace}
 use Rattle.hosted_core.specs.Scene.{Scene}
-use Rattle.inside_text.specs.Lacks.{Why}
-use Rattle.inside_text.specs.Tells.{Tells}
+use Rattle.stuck_core.specs.Lacks.{Why}
+use Rattle.stuck_core.specs.Tells.{Tells}
 use Rattle.client_core.specs.ToldInside.{AreWhys}
 
 -- what counters tell of whatever they stand for is told of all that happened

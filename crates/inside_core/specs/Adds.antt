@@ -11,9 +11,9 @@ use Rattle.client_core.specs.People.{people_of}
 use Rattle.decl_core.specs.HoldForm.{HoldForm}
 use Rattle.guest_core.specs.Held.{HeldCall}
 use Rattle.check_core.specs.HeldTold.{holds_line}
-use Rattle.inside_text.specs.Who.{Sitting, Refused, seat_line, waits_line}
+use Rattle.stuck_core.specs.Who.{Sitting, Refused, seat_line, waits_line}
 use Rattle.client_core.specs.State.{peers_of}
-use Rattle.inside_text.specs.Found.{whys_of}
+use Rattle.stuck_core.specs.ReasonViews.{whys_of}
 use Rattle.client_core.specs.ToldInside.{Crowd, AreSeats, AreWaits, AreWhys}
 use Rattle.inside_core.specs.declared.who.Refusing.{Refusing}
 use Rattle.inside_core.specs.declared.who.Whom.{Whom}

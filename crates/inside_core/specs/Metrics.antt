@@ -1,6 +1,6 @@
 -- Metrics in the text format of Prometheus.
 use Rattle.std.specs.Prelude.{ℕ, List, ◌++◌, codes, decimal}
-use Rattle.text_core.specs.Reply.{reply}
+use Rattle.value_core.specs.Reply.{reply}
 use Rattle.inside_core.specs.declared.metric.MetricKind.{MetricKind}
 use Rattle.inside_core.specs.declared.metric.MetricKind.TheVariants.{Counter, Gauge}
 

@@ -4,7 +4,7 @@ ghost use Rattle.std.specs.Prelude.{◌≡◌, ◌++◌, OnOk};
 ghost use Rattle.inside_core.specs.Metrics.{head, label_text, sample_text, one_text, object_line};
 
 use std::alloc::AllocError;
-use text_core::reply::push_count;
+use value_core::reply::push_count;
 
 /// What the number of a metric does.
 #[derive(Clone, Copy, Debug, PartialEq, Eq)]

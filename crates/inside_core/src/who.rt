@@ -11,8 +11,8 @@ ghost use Rattle.client_core.specs.ToldInside.{is_asked, sits_in, sitting_from, 
 ghost use Rattle.client_core.specs.ToldInside.{is_caller, calls_at, AreWhys, WaitsFor, held_in, IsWho};
 ghost use Rattle.decl_core.specs.ObjectMap.{object_of};
 ghost use Rattle.hosted_core.specs.Scene.{Scene, told_of};
-ghost use Rattle.inside_text.specs.Found.{whys_of};
-ghost use Rattle.inside_text.specs.Who.{waits_line};
+ghost use Rattle.stuck_core.specs.ReasonViews.{whys_of};
+ghost use Rattle.stuck_core.specs.Who.{waits_line};
 ghost use Rattle.decl_core.specs.HoldMap.{holds_of};
 ghost use Rattle.inside_core.specs.Adds.{crowd_of, AddsSeats, AddsWaits, AddsHeld, AreKnown};
 
@@ -23,12 +23,12 @@ use client_core::clients::ClientPlaces;
 use decl_core::hold::Hold;
 use guest_core::held::HeldCall;
 use hosted_core::hosted::Hosted;
-use inside_text::reason::Reason;
-use inside_text::who::{SessionRow, WaitingRow, push_seat, push_waits, push_who};
 use live_core::call::LiveCall;
 use path_tree::name::Name;
 use path_tree::node::OpId;
 use std::alloc::{AllocError, Global};
+use stuck_core::reason::Reason;
+use stuck_core::who::{SessionRow, WaitingRow, push_seat, push_waits, push_who};
 
 // At most so many sessions are told.
 const MOST_TOLD: usize = 256;

@@ -3,19 +3,19 @@
 ghost use Rattle.std.specs.Prelude.{◌≡◌, ◌≢◌, ◌++◌, [], ℕ, IfOk, IfSome, IfNone, OnOk, Some, slice_get};
 ghost use Rattle.decl_core.specs.ObjectMap.{object_of};
 ghost use Rattle.word_core.specs.Events.{Called};
-ghost use Rattle.inside_text.specs.Found.{whys_of};
-ghost use Rattle.inside_text.specs.Why.{why_text};
+ghost use Rattle.stuck_core.specs.ReasonViews.{whys_of};
+ghost use Rattle.stuck_core.specs.Why.{why_text};
 ghost use Rattle.live_core.specs.Hall.{Every};
 ghost use Rattle.hosted_core.specs.Scene.{is_given, told_of};
 ghost use Rattle.client_core.specs.ToldInside.{AreWhys, SaysState, SaysWhy, IsWhy, state_by};
 
 use hosted_core::hosted::Hosted;
-use inside_text::find::reasons_by;
-use inside_text::reason::Reason;
-use inside_text::why::{CallStatus, push_state, push_why};
 use live_core::call::LiveCall;
 use path_tree::node::OpId;
 use std::alloc::{AllocError, Global};
+use stuck_core::find::reasons_by;
+use stuck_core::reason::Reason;
+use stuck_core::why::{CallStatus, push_state, push_why};
 
 // The waiting call of which this number was told.
 fn waiting_as(object: &Hosted, told: u64) -> Option<&LiveCall>

@@ -7,7 +7,7 @@ ghost use Rattle.keep_log.specs.Lines.Field.{number as a_number, word as a_word}
 use crate::moment::push_moment;
 use jiff_core::civil::DateTime;
 use std::alloc::AllocError;
-use text_core::reply::push_number;
+use value_core::reply::push_number;
 
 /// How a log is written.
 #[derive(Clone, Copy, Debug, PartialEq, Eq)]

@@ -14,7 +14,7 @@ use jiff_core::civil::DateTime;
 use std::alloc::{AllocError, Global};
 use std::io::Write;
 use std::time::{Clock, SystemTime};
-use text_core::write_whole;
+use value_core::write_whole;
 
 /// A log in this form, or none: then nothing is written. Where a line cannot be made or written the log lacks it, or its
 /// end, and nothing else changes.

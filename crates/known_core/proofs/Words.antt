@@ -1,7 +1,7 @@
 -- A short word in its row.
 use Rattle.std.proofs.Common.{◌≡◌, ℕ, ◌≤◌, ◌-◌, List, ◌++◌, length, drop, replicate, refl, sym, ap, ◌∙◌, subst, arith, length-append}
 use Rattle.std.proofs.lemmas.List.{drop-replicate, take_at, drop_at, length-replicate}
-use Rattle.text_core.specs.Plain.{IsText}
+use Rattle.value_core.specs.Plain.{IsText}
 use Rattle.known_core.specs.StopWord.{IsKeptWord}
 
 -- bytes written over the front of a row of zeros

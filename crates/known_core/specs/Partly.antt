@@ -6,7 +6,7 @@ use Rattle.value_core.specs.declared.datum.Datum.TheVariants as datum
 use Rattle.value_core.specs.declared.refusal.Refusal.{Refusal}
 use Rattle.value_core.specs.Contents.{Contents}
 use Rattle.value_core.specs.Words.{word_of}
-use Rattle.text_core.specs.TextOrder.{text_eq}
+use Rattle.value_core.specs.TextOrder.{text_eq}
 use Rattle.value_core.specs.Meaning.{element_at, with_element, oldest_of, without_oldest, with_newest, has_key}
 use Rattle.value_core.specs.Meaning.{under_key, with_row, without_key, count_of, sum_of, difference_of}
 use Rattle.decl_core.specs.Form.{From, argument, element, oldest, under, Integers, number, integer_from, count, add}

@@ -2,7 +2,7 @@
 use Rattle.std.specs.Prelude.{◌≡◌, ℕ, ◌-◌, ◌≤◌, List, ◌++◌, length, take, drop, replicate}
 use Rattle.std.proofs.Common.{sym, ap, ◌∙◌, arith, length-take}
 use Rattle.std.proofs.lemmas.List.{take-append-drop}
-use Rattle.text_core.specs.Plain.{IsText}
+use Rattle.value_core.specs.Plain.{IsText}
 use Rattle.known_core.specs.declared.stop_word.StopWord.TheInside.{Inside}
 
 -- the word is the front of its row

@@ -22,10 +22,10 @@ use crate::parts::PartValues;
 use decl_core::expr::{IntegerExpr, Signed, Source, TextExpr};
 use decl_core::id::{ParamId, PartId};
 use decl_core::stmt::{Cond, Relation};
-use text_core::text::Text;
 use value_core::arithmetic::{add, sub};
 use value_core::datum::Datum;
 use value_core::refusal::Refusal;
+use value_core::text::Text;
 
 /// Why an expression has no value.
 #[derive(Clone, Copy)]

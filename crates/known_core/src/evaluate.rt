@@ -15,9 +15,9 @@ use crate::act::{Stop, act_all};
 use crate::pages::Pages;
 use crate::parts::PartValues;
 use decl_core::object::Operation;
-use text_core::text::Text;
 use value_core::datum::Datum;
 use value_core::kind::Elem;
+use value_core::text::Text;
 
 /// Does the body of an operation on values, in place: that of part p stands at place p, where the operation reads it,
 /// and in the place of an element that is not known stands any. A body that ends otherwise leaves them changed in part.

@@ -15,9 +15,9 @@ ghost use Rattle.known_core.specs.Breaks.{changing, Leaves};
 use crate::act::Stop;
 use crate::parts::PartValues;
 use decl_core::id::PartId;
-use text_core::text::Text;
 use value_core::datum::Datum;
 use value_core::refusal::Refusal;
+use value_core::text::Text;
 use value_core::undo::Undo;
 use value_core::value::Value;
 

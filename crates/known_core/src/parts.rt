@@ -14,9 +14,9 @@ ghost use Rattle.known_core.specs.Breaks.{changing, Leaves};
 
 use crate::act::Stop;
 use decl_core::id::PartId;
-use text_core::text::Text;
 use value_core::datum::Datum;
 use value_core::refusal::Refusal;
+use value_core::text::Text;
 
 /// The values of the parts of an object: a body reads them, and changes them in place. An operation that stops may
 /// leave any values of the same kinds.

@@ -1,11 +1,11 @@
 //! The word by which a body stops, in little room.
 
 ghost use Rattle.std.specs.Prelude.{◌≡◌, ◌≤◌, ◌++◌, length, drop};
-ghost use Rattle.text_core.specs.Plain.{IsText};
+ghost use Rattle.value_core.specs.Plain.{IsText};
 
 use decl_core::word::MOST_LETTERS;
 use std::marker::Model;
-use text_core::text::Text;
+use value_core::text::Text;
 
 /// A word of at most 16 bytes: it is copied without memory, and in less room than a text. A contract sees it as the text.
 #[derive(Clone, Copy, Drop)]

@@ -12,7 +12,7 @@ use decl_read::read::read_objects;
 use indexmap::IndexMap;
 use path_tree::name::Name;
 use std::alloc::{AllocError, Global};
-use text_core::next_line;
+use value_core::next_line;
 
 // The names of objects, with commas between them.
 fn names_of(alloc: Global, all: &IndexMap<Name, Object>) -> Result<Vec<u8>, AllocError> {

@@ -1,5 +1,4 @@
-//! What notes on a text are made of: where its bytes stand, the words of a source or of a line, and the lines that a
-//! note shows.
+//! Notes on a text: what they are made of, and those that tell why a source is not taken.
 //!
 //! `place::place_of` says what line and column are. `tokens` are the words of a source with their places, `name` what a
 //! name in it was declared as, and `alike` which names are almost the same. `page` adds the line of a text, with a
@@ -9,20 +8,34 @@
 //! shows one of them, and `lacking` what is said of an object that the file lacks. `kept` keeps a text while it is read, and
 //! `files` names the two texts of a run.
 //!
+//! `fault::push_fault` tells where the fault of a source stands, what is wrong in a sentence, and what would help. Of
+//! holds that are not taken `rules::explain_held` tells it, and `pairs::explain_pairs` that for each `a; b` that could be
+//! held and is not. What is said stands in tables (`misplaced`, `names`, `paths`, `signs`, `rules`): a row has tests of
+//! the tokens around the fault (`seen`), a sentence and what helps, and the first row that fits is said (`rows`).
+//!
 //! That the texts are safe to make, and end, is proved, and `place_of` is exact; what notes say is tested by the cases
 //! of `cases/check`, `cases/run` and `cases/audit`.
 #![tactic(auto)]
 
 pub mod alike;
+pub mod fault;
 pub mod files;
 pub mod finding;
 pub mod kept;
 pub mod lacking;
 pub mod line_words;
+mod misplaced;
 pub mod name;
+mod names;
 pub mod nodes;
 pub mod page;
+pub mod pairs;
+mod paths;
 pub mod place;
+mod rows;
+pub mod rules;
 pub mod said;
+mod seen;
+mod signs;
 pub mod span;
 pub mod tokens;

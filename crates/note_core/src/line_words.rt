@@ -2,7 +2,7 @@
 
 use crate::span::{Span, text_at};
 use std::alloc::{AllocError, Global};
-use text_core::words::skip_spaces;
+use value_core::words::skip_spaces;
 use word_core::next::{Next, next_word};
 use word_core::number::datum_of;
 use word_core::word::Word;

@@ -6,7 +6,7 @@ use crate::span::{Span, behind, front};
 use itoa::Buffer;
 use path_tree::token::Token;
 use std::alloc::AllocError;
-use text_core::next_line;
+use value_core::next_line;
 
 /// A source, the name of its file, and its tokens, where it has some.
 #[derive(Clone, Copy)]

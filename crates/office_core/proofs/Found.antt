@@ -3,8 +3,8 @@ use Rattle.std.proofs.Common.{◌≡◌, ◌∙◌, ap, sym, subst, refl, suc, �
 use Rattle.std.specs.Arc.{arc_value}
 use Rattle.std.proofs.lemmas.Option.{same_Some}
 use Rattle.decl_core.specs.ObjectMap.{operation_of}
-use Rattle.call_core.specs.declared.ticket.Ticket.{Ticket}
-use Rattle.call_core.specs.Calls.{Call}
+use Rattle.page_core.specs.declared.ticket.Ticket.{Ticket}
+use Rattle.page_core.specs.CallPins.{Call}
 use Rattle.board_core.specs.Calls.{AcceptedCall}
 use Rattle.board_core.specs.Board.{Board, call_at, joined}
 use Rattle.board_core.specs.Started.{Settles}

@@ -6,7 +6,7 @@ use Rattle.device_core.specs.Device.{Assignment}
 use Rattle.page_core.specs.PartPins.{PartPin}
 use Rattle.apply_core.specs.declared.reply.Reply.{Reply}
 use Rattle.apply_core.specs.declared.reply.Reply.TheVariants as replies
-use Rattle.call_core.specs.Outcomes.{outcome_reply, outcome_news, if_done}
+use Rattle.page_core.specs.Outcomes.{outcome_reply, outcome_news, if_done}
 use Rattle.board_core.specs.declared.receipt.Receipt.{Receipt}
 use Rattle.board_core.specs.Lists.{Every}
 use Rattle.board_core.specs.Calls.{Noted, RunningCall}

@@ -2,9 +2,9 @@
 use Rattle.std.specs.Prelude.{◌≡◌, ℕ, ◌+◌, List, slice_get, Some}
 use Rattle.value_core.specs.Contents.{Contents}
 use Rattle.device_core.specs.Device.{Assignment}
-use Rattle.call_core.specs.Truths.{IsTrueOf}
+use Rattle.page_core.specs.Truths.{IsTrueOf}
 use Rattle.apply_core.specs.History.{IsLegal, leads_to}
-use Rattle.call_core.specs.Outcomes.{outcome_call, outcome_reply, outcome_pins}
+use Rattle.page_core.specs.Outcomes.{outcome_call, outcome_reply, outcome_pins}
 use Rattle.board_core.specs.declared.receipt.Receipt.{Receipt}
 use Rattle.board_core.specs.Lists.{Every, Among}
 use Rattle.board_core.specs.Calls.{Noted}

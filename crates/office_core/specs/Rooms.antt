@@ -1,6 +1,6 @@
 -- When there is room for a slip.
 use Rattle.std.specs.Prelude.{◌≡◌, ◌≤◌, List, vec_capacity}
-use Rattle.text_core.specs.Limits.{most_text_bytes}
+use Rattle.value_core.specs.Limits.{most_text_bytes}
 use Rattle.value_core.specs.declared.datum.Datum.{Datum}
 use Rattle.office_core.specs.declared.room.SlipRoom.{SlipRoom}
 

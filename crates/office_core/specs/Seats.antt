@@ -1,7 +1,7 @@
 -- Seats, and what a `complete` answers.
 use Rattle.std.specs.Prelude.{◌≡◌, ℕ, ◌+◌, ◌≤◌, ◌<◌, length, Result, Ok, Err}
-use Rattle.call_core.specs.declared.outcome.Outcome.{Outcome}
-use Rattle.call_core.specs.Outcomes.{TellsSame}
+use Rattle.page_core.specs.declared.outcome.Outcome.{Outcome}
+use Rattle.page_core.specs.Outcomes.{TellsSame}
 use Rattle.board_core.specs.Sound.{IsSound}
 use Rattle.board_core.specs.declared.receipt.Receipt.{Receipt}
 use Rattle.board_core.specs.Answers.{Finishes, IsStranger, receipt_by}

@@ -4,10 +4,10 @@ use Rattle.decl_core.specs.ObjectMap.{operation_of}
 use Rattle.device_core.specs.Device.{Assignment}
 use Rattle.apply_core.specs.declared.reply.Reply.{Reply}
 use Rattle.page_core.specs.PartPins.{PartPin}
-use Rattle.call_core.specs.Calls.{Call}
-use Rattle.call_core.specs.Truths.{IsTrueOf}
-use Rattle.call_core.specs.declared.outcome.Outcome.{Outcome}
-use Rattle.call_core.specs.Outcomes.{outcome_call, outcome_reply, outcome_pins, if_done}
+use Rattle.page_core.specs.CallPins.{Call}
+use Rattle.page_core.specs.Truths.{IsTrueOf}
+use Rattle.page_core.specs.declared.outcome.Outcome.{Outcome}
+use Rattle.page_core.specs.Outcomes.{outcome_call, outcome_reply, outcome_pins, if_done}
 use Rattle.board_core.specs.declared.receipt.Receipt.{Receipt}
 use Rattle.board_core.specs.Calls.{Noted}
 

@@ -4,8 +4,8 @@ use Rattle.std.specs.Arc.{arc_value}
 use Rattle.value_core.specs.declared.datum.Datum.{Datum}
 use Rattle.decl_core.specs.declared.object.Operation.{Operation}
 use Rattle.decl_core.specs.ObjectMap.{operation_of}
-use Rattle.call_core.specs.declared.ticket.Ticket.{Ticket as Admitted}
-use Rattle.call_core.specs.Tickets.{ticket_call}
+use Rattle.page_core.specs.declared.ticket.Ticket.{Ticket as Admitted}
+use Rattle.page_core.specs.Tickets.{ticket_call}
 use Rattle.board_core.specs.Calls.{AcceptedCall}
 use Rattle.board_core.specs.Board.{Board, call_at}
 use Rattle.board_core.specs.Sound.{IsSound}

@@ -21,10 +21,10 @@
 
 pub mod client_seat;
 pub mod clients;
+pub mod deadline;
 mod find;
 pub mod inside;
 pub mod keyed;
-pub mod late;
 pub mod laws;
 mod made;
 pub mod named;

@@ -8,16 +8,16 @@ ghost use Rattle.office_core.specs.Seats.{ReceivesInPlace, CompletedIn};
 ghost use Rattle.office_core.specs.Closing.{ClosesBySlips};
 
 use crate::client_seat::Seat;
+use crate::deadline::Deadline;
 use crate::inside::{CloseRefused, Closed, Inside, SeatsFull};
-use crate::late::Late;
 use crate::seat::{NotTaken, Started, Submitted, Tried};
 use crate::slip::Slip;
 use crate::turns::Pace;
 use board_core::answer::Finished;
 use board_core::event::TraceEvent;
-use call_core::outcome::Outcome;
 use desk_core::desk::Desk;
 use guest_core::answer::{Cancelled, SubmitFault};
+use page_core::outcome::Outcome;
 use std::alloc::{AllocError, Global};
 use std::hint::spin_loop;
 use std::sync::{Condvar, Mutex, MutexGuard, Wait};
@@ -157,12 +157,12 @@ impl Office {
 
     // Looks for some microseconds whether there were more notifications at the door than these, but no longer
     // than the watch tells.
-    fn glance<R: Clock>(&self, rt: &R, seen: u64, late: &mut Late) -> bool {
+    fn glance<R: Clock>(&self, rt: &R, seen: u64, deadline: &mut Deadline) -> bool {
         for look in 0..GLANCES {
             if self.door.notifications() != seen {
                 return true;
             }
-            if look % LOOKS_A_CLOCK == LOOKS_A_CLOCK - 1 && late.is_over(rt) {
+            if look % LOOKS_A_CLOCK == LOOKS_A_CLOCK - 1 && deadline.is_over(rt) {
                 return false;
             }
             for _ in 0..PAUSES {
@@ -181,7 +181,7 @@ impl Office {
         &self,
         rt: &R,
         op: &str,
-        late: &mut Late,
+        deadline: &mut Deadline,
     ) -> Option<MutexGuard<'_, Box<Inside>>> {
         for _ in 0..NAPS {
             let inside = self.enter(rt);
@@ -191,19 +191,19 @@ impl Office {
                 Pace::Now => return Some(inside),
                 Pace::Soon => {
                     drop(inside);
-                    if late.is_over(rt) {
+                    if deadline.is_over(rt) {
                         return None;
                     }
-                    if !self.glance(rt, seen, late) {
+                    if !self.glance(rt, seen, deadline) {
                         return Some(self.enter(rt));
                     }
                 }
                 Pace::InTurn => {
                     drop(inside);
-                    if late.is_over(rt) {
+                    if deadline.is_over(rt) {
                         return None;
                     }
-                    if !self.glance(rt, seen, late) {
+                    if !self.glance(rt, seen, deadline) {
                         self.door.sleep(rt, seen, Duration::from_micros(NAP));
                     }
                 }
@@ -246,8 +246,8 @@ impl Office {
         ensures tells { IfOk result (λ r. (s : Ask) × Asks op.now args.now s × (r.0 ≡ s.number) × Tells s r.1) }
         ensures seat { seat.new ≡ seat.old }
     {
-        let mut late = Late::new(Duration::from_millis(HOLD));
-        let mut guard = match self.enter_in_turn(rt, op, &mut late) {
+        let mut deadline = Deadline::new(Duration::from_millis(HOLD));
+        let mut guard = match self.enter_in_turn(rt, op, &mut deadline) {
             Some(guard) => guard,
             None => self.enter(rt),
         };
@@ -263,13 +263,13 @@ impl Office {
         seat: &mut Seat,
         op: &str,
         args: &[Datum],
-        late: &mut Late,
+        deadline: &mut Deadline,
     ) -> Option<Result<(u32, Tried), SubmitFault>>
         ensures tells { IfSome result (λ found.
             IfOk found (λ r. (s : Ask) × Asks op.now args.now s × (r.0 ≡ s.number) × Tells s r.1)) }
         ensures seat { seat.new ≡ seat.old }
     {
-        let mut guard = match self.enter_in_turn(rt, op, late) {
+        let mut guard = match self.enter_in_turn(rt, op, deadline) {
             Some(guard) => guard,
             None => return None,
         };

@@ -1,20 +1,20 @@
 //! The making of slips, with memory that is taken ahead.
 
 ghost use Rattle.std.specs.Prelude.{◌≡◌, [], IfSome, IfNone, OnOk};
-ghost use Rattle.call_core.specs.Outcomes.{outcome_call};
+ghost use Rattle.page_core.specs.Outcomes.{outcome_call};
 ghost use Rattle.office_core.specs.Rooms.{IsMade};
 ghost use Rattle.office_core.specs.Slips.{told_by};
 
 use crate::slip::Slip;
 use apply_core::short::Short;
 use apply_core::slim::Slims;
-use call_core::outcome::Outcome;
 use device_core::hand::Stamp;
+use page_core::outcome::Outcome;
 use page_core::part_pins::PartPins;
 use std::alloc::{AllocError, Global};
 use std::mem;
-use text_core::limits::MOST_TEXT_BYTES;
 use value_core::datum::Datum;
+use value_core::limits::MOST_TEXT_BYTES;
 
 // The most pages that the parts of an object may have: 16 parts of 8 pages.
 const MOST_STAMPS: usize = 128;

@@ -4,8 +4,8 @@ ghost use Rattle.std.specs.Prelude.{◌≡◌};
 
 pub use crate::client_seat::Seat;
 use board_core::call::Call;
-use call_core::outcome::Outcome;
-use call_core::ticket::Ticket;
+use page_core::outcome::Outcome;
+use page_core::ticket::Ticket;
 use std::sync::Arc;
 
 /// An accepted call that is waited for. It has to be spent, by a wait for its start.

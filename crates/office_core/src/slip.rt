@@ -30,8 +30,8 @@ pub struct Slip {
 impl Model for Slip {
     ghost use Rattle.std.specs.Arc.{arc_value};
     ghost use Rattle.decl_core.specs.contracts.object.Operation as e;
-    ghost use Rattle.call_core.specs.Calls.{call_of};
-    ghost use Rattle.call_core.specs.Outcomes.{if_done};
+    ghost use Rattle.page_core.specs.CallPins.{call_of};
+    ghost use Rattle.page_core.specs.Outcomes.{if_done};
     ghost use Rattle.office_core.specs.Slips.{Told};
     ghost use Rattle.std.specs.Coded.{codes};
 

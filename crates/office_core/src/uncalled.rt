@@ -26,8 +26,8 @@ use apply_core::reply::Reply;
 use board_core::answer::EarlierCall;
 use board_core::entry::Entry;
 use board_core::receipt::Receipt;
-use call_core::outcome::Outcome;
 use guest_core::answer::{KeyedFault, SubmitFault};
+use page_core::outcome::Outcome;
 use std::sync::Wait;
 use value_core::datum::Datum;
 

@@ -3,7 +3,6 @@
 
 use crate::make::{accepted, pins_of};
 use board_core::answer::Collected;
-use call_core::ticket::Ticket;
 use decl_core::object::Object;
 use desk_core::desk::Desk;
 use device_core::hand::{Hand, Stamp};
@@ -13,6 +12,7 @@ use device_core::retire::retire_all;
 use device_core::uncalled::OnceHand;
 use page_core::open::{OpenFault, open_parts};
 use page_core::save::{SaveFault, save_parts};
+use page_core::ticket::Ticket;
 use run_core::at_once::run_at_once;
 use run_core::perform::perform;
 use run_core::run::Run;

@@ -1,6 +1,5 @@
 //! Objects, and what is made of them.
 
-use call_core::ticket::Ticket;
 use decl_core::analyse::{Accepted, analyse};
 use decl_core::object::Object;
 use decl_read::read::read_objects;
@@ -11,6 +10,7 @@ use office_core::office::Office;
 use office_core::seat::{Seat, Started, Submitted};
 use page_core::open::open_parts;
 use page_core::pins::Pins;
+use page_core::ticket::Ticket;
 use std::alloc::Global;
 use std::process::Abort;
 use std::sync::Wait;

@@ -2,14 +2,14 @@
 
 use crate::make::{office_of, seat_of, ticket_of};
 use board_core::receipt::Receipt;
-use call_core::outcome::Outcome;
-use call_core::ticket::Ticket;
 use device_core::memory::MemHand;
 use office_core::inside::CloseFault;
 use office_core::named::{NameFault, ParkFault};
 use office_core::office::Office;
 use office_core::seat::{CompleteFault, Seat, Tried};
 use office_core::uncalled::Resubmitted;
+use page_core::outcome::Outcome;
+use page_core::ticket::Ticket;
 use path_tree::name::Name;
 use run_core::perform::perform;
 use run_core::run::Run;

@@ -11,7 +11,7 @@ use Rattle.value_core.specs.declared.kind.Kind.{Kind}
 use Rattle.value_core.specs.declared.kind.Kind.TheVariants as kind
 use Rattle.value_core.specs.Datum.{IsElement}
 use Rattle.value_core.specs.Contents.{Contents, array, queue, table, IsContents, IsRow}
-use Rattle.text_core.specs.TextOrder.{text_cmp}
+use Rattle.value_core.specs.TextOrder.{text_cmp}
 use Rattle.value_bytes.specs.Spelling.{spelled_text, spelled_datum, spelled_row, header, spelling}
 use Rattle.page_core.specs.StoreLaws.{SpellingsFit}
 

@@ -16,3 +16,5 @@ pub mod Paging
 pub mod Saving
 pub mod Numbering
 pub mod Asking
+pub mod Inside
+pub mod Touching

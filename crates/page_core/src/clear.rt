@@ -11,7 +11,7 @@ use itoa::Buffer;
 use std::alloc::{AllocError, Global};
 use std::io;
 use std::io::Write;
-use text_core::write_whole;
+use value_core::write_whole;
 
 // The most bytes that a line has of one value file: a space, 20 digits and the ending.
 const NAME_BYTES: usize = 25;

@@ -1,4 +1,5 @@
-//! Parts as lists of pages, from a shelf to the files of a hand and back, and the value files of a folder.
+//! Parts as lists of pages, from a shelf to the files of a hand and back; the value files of a folder; and what a call
+//! is, without how it is run.
 //!
 //! The bytes of a part are cut into at most 8 pages, each in a file of its own. A `PageList` names the files of one
 //! part, `Pins` those of each part of an object, and `PartPins` those of the parts that a call reads or changes, in
@@ -14,6 +15,11 @@
 //! that an earlier run left. `values` is what is asked of these files: which are there, and that one is removed or
 //! moved. `clear` moves away those that an earlier run left, and removes those of a run that has ended;
 //! `specs/Deeds.antt` says what each asks, and so that it asks nothing else.
+//!
+//! A `Ticket` says which operation was called, with which arguments, over which pins. An `Outcome` tells how its run
+//! ended: its reply, the new page lists, and the files that nobody needs. Who shares an object needs no more of a call.
+//! `specs/CallPins.antt` says what a call is, `specs/Given.antt` what a body gives on bytes, and `specs/Truths.antt` when
+//! an outcome is true.
 #![tactic(auto)]
 
 pub mod clear;
@@ -24,6 +30,7 @@ pub mod folder;
 pub mod found;
 pub mod laws;
 pub mod open;
+pub mod outcome;
 pub mod page_list;
 pub mod pages;
 pub mod part_at;
@@ -33,6 +40,7 @@ pub mod plan;
 pub mod read;
 pub mod save;
 pub mod store_laws;
+pub mod ticket;
 pub mod uncalled;
 pub mod values;
 pub mod write;

@@ -5,7 +5,7 @@ use Rattle.path_tree.specs.Trace.{Call, Event, Start, End, IsFresh, IsAmong, IsT
 use Rattle.path_tree.specs.Satisfies.{MayStart}
 use Rattle.path_tree.proofs.CountLaws.{of_operation, started_or}
 use Rattle.std.proofs.lemmas.Bool.Decides.{nat_tests}
-use Rattle.text_core.specs.Reply.{reply}
+use Rattle.value_core.specs.Reply.{reply}
 use Rattle.path_count.specs.State.{State}
 use Rattle.path_count.specs.Stands.{StandsFor, started_calls}
 use Rattle.path_count.specs.Calls.{StartAnswer, FinishAnswer, started, finished}

@@ -11,7 +11,7 @@ use Rattle.path_count.specs.Asked.{Asked, operations, path, start, finish, asked
 use Rattle.path_count.specs.Named.{IsNamed}
 use Rattle.path_count.specs.PathLine.{IsPathLine}
 use Rattle.path_count.specs.ReadLine.{IsLineFault, line_fault_text}
-use Rattle.text_core.specs.Reply.{reply}
+use Rattle.value_core.specs.Reply.{reply}
 use Rattle.path_count.specs.Stands.{StandsFor}
 use Rattle.path_count.specs.Calls.{StartAnswer, FinishAnswer}
 use Rattle.path_count.specs.Told.{Told, AreOperations, IsBadLine}

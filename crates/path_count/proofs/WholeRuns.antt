@@ -4,10 +4,10 @@ use Rattle.std.specs.Prelude.{unwrap_or, IfSome, Result, Ok, Err, OnErr, IsErrAn
 use Rattle.std.specs.Io.KnownBytes.{Appends, Consumes, IsAtEnd}
 use Rattle.std.specs.Str.Lines.{lines}
 use Rattle.std.proofs.lemmas.List.{append-nil}
-use Rattle.text_core.specs.Runs.{Runs, Stops}
-use Rattle.text_core.specs.Ends.{Ends, Begins, Answered, AllAnswered}
-use Rattle.text_core.specs.declared.machine.LinesEnd.{LinesEnd}
-use Rattle.text_core.specs.declared.machine.LinesEnd.TheVariants as ends
+use Rattle.value_core.specs.Runs.{Runs, Stops}
+use Rattle.value_core.specs.Ends.{Ends, Begins, Answered, AllAnswered}
+use Rattle.value_core.specs.declared.machine.LinesEnd.{LinesEnd}
+use Rattle.value_core.specs.declared.machine.LinesEnd.TheVariants as ends
 use Rattle.path_count.specs.declared.paths.machine.Paths.{Paths}
 use Rattle.path_count.specs.Told.{Told, nothing_told}
 use Rattle.path_count.specs.Answers.{Answers}

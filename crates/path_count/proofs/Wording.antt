@@ -5,8 +5,8 @@ use Rattle.std.specs.List.{slice_split}
 use Rattle.std.proofs.lemmas.List.Splits.{slice_split_at, slice_split_none}
 use Rattle.std.proofs.lemmas.Bool.Decides.{nat_tests}
 use Rattle.std.proofs.lemmas.List.{append-nil}
-use Rattle.text_core.specs.Words.{drop_spaces, NoSpace, EndsWord}
-use Rattle.text_core.proofs.Spaces.{drop_spaces-first}
+use Rattle.value_core.specs.Spaces.{drop_spaces, NoSpace, EndsWord}
+use Rattle.value_core.proofs.Spaces.{drop_spaces-first}
 use Rattle.path_count.specs.Words.{is_space, words}
 
 -- a space at the front is no word

@@ -4,7 +4,7 @@ use Rattle.std.specs.Str.{str_to_ascii_lowercase}
 use Rattle.path_tree.specs.Path.{Path}
 use Rattle.path_tree.specs.Trace.{Event}
 use Rattle.path_tree.specs.Canonical.{canonical_bytes}
-use Rattle.text_core.specs.Reply.{reply}
+use Rattle.value_core.specs.Reply.{reply}
 use Rattle.path_count.specs.declared.paths.path_line.LineFault.{LineFault}
 use Rattle.path_count.specs.PathLine.{IsPathLine}
 use Rattle.path_count.specs.ReadLine.{IsLineFault, line_fault_text}

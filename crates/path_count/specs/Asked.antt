@@ -1,7 +1,7 @@
 -- What a line of `paths` asks for.
 use Rattle.std.specs.Prelude.{ℕ, Bool, true, List, [], ◌∷◌, take, codes, if◌then◌else◌}
 use Rattle.std.specs.Str.{bytes_eq, str_to_ascii_lowercase}
-use Rattle.text_core.specs.Words.{drop_spaces}
+use Rattle.value_core.specs.Spaces.{drop_spaces}
 use Rattle.path_count.specs.Words.{words}
 
 pub data Asked : Type 0 where

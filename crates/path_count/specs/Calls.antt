@@ -3,7 +3,7 @@ use Rattle.std.specs.Prelude.{◌≡◌, ◌≢◌, ℕ, ◌<◌, ◌≤◌, Lis
 use Rattle.path_tree.specs.Path.{Path}
 use Rattle.path_tree.specs.Trace.{Call, Event, Start, End, IsFresh, IsAmong, running_calls, starts, ends}
 use Rattle.path_tree.specs.Satisfies.{MayStart}
-use Rattle.text_core.specs.Reply.{reply}
+use Rattle.value_core.specs.Reply.{reply}
 use Rattle.path_count.specs.Stands.{started_calls}
 
 -- the answer to a start, and the trace after it; a call may have any number that no other has

@@ -15,7 +15,7 @@ use Rattle.path_count.specs.declared.paths.path_line.LineFault.{LineFault}
 use Rattle.path_count.specs.declared.paths.path_line.LineFault.TheVariants as faults
 use Rattle.path_count.specs.declared.paths.path_line.PathLine.{PathLine}
 use Rattle.path_count.specs.declared.paths.path_line.PathLine.TheVariants as lines
-use Rattle.text_core.specs.Reply.{fault_text}
+use Rattle.value_core.specs.Reply.{fault_text}
 use Rattle.path_count.specs.PathLine.{IsPathLine, IsPathEnd, StandsBehind, lexemes_of}
 
 -- what a line is told that is no path

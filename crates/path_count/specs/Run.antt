@@ -1,10 +1,10 @@
 -- Runs of `paths` over whole texts.
 use Rattle.std.specs.Prelude.{◌≡◌, ℕ, ◌+◌, Bool, List, ◌∷◌, ◌++◌, length, take}
 use Rattle.std.specs.Str.Lines.{lines}
-use Rattle.text_core.specs.Runs.{Runs, Stops, Cuts, NoLineFeed}
-use Rattle.text_core.specs.Ends.{Answered}
-use Rattle.text_core.specs.declared.machine.LinesEnd.{LinesEnd}
-use Rattle.text_core.specs.declared.machine.LinesEnd.TheVariants.{Whole, Stopped}
+use Rattle.value_core.specs.Runs.{Runs, Stops, Cuts, NoLineFeed}
+use Rattle.value_core.specs.Ends.{Answered}
+use Rattle.value_core.specs.declared.machine.LinesEnd.{LinesEnd}
+use Rattle.value_core.specs.declared.machine.LinesEnd.TheVariants.{Whole, Stopped}
 use Rattle.path_count.specs.Told.{Told, nothing_told}
 use Rattle.path_count.specs.Answers.{Answers}
 

@@ -9,14 +9,14 @@ mod words;
 
 ghost use Rattle.std.specs.Prelude.{◌++◌, [], List, ℕ, IfOk, IfSome, OnErr, IsErrOf, unwrap_or};
 ghost use Rattle.std.specs.Io.KnownBytes.{Appends, Consumes};
-ghost use Rattle.text_core.specs.declared.machine.LinesFault.TheVariants.{ReadFault};
+ghost use Rattle.value_core.specs.declared.machine.LinesFault.TheVariants.{ReadFault};
 ghost use Rattle.path_count.specs.Run.{IsRun, IsFront, IsRunSoFar};
 
 use machine::Paths;
 use std::alloc::Global;
 use std::io::{Read, Write};
-use text_core::run_lines;
-pub use text_core::{LinesEnd as PathsEnd, LinesFault as PathsFault};
+use value_core::run_lines;
+pub use value_core::{LinesEnd as PathsEnd, LinesFault as PathsFault};
 
 /// Answers the lines of a text: line 1 names operations, the next lines give paths, and then
 /// operations start and finish.

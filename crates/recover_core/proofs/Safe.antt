@@ -17,8 +17,8 @@ use Rattle.word_core.specs.Words.{Word, words_text}
 use Rattle.word_core.specs.Data.{datum_word, session_word}
 use Rattle.word_core.proofs.Numerals.{digits}
 use Rattle.word_core.specs.TraceLaws.{HasNames}
-use Rattle.text_core.specs.Plain.{IsPlain}
-use Rattle.text_core.specs.Runs.{NoLineFeed}
+use Rattle.value_core.specs.Plain.{IsPlain}
+use Rattle.value_core.specs.Runs.{NoLineFeed}
 use Rattle.word_core.proofs.Plain.{IsSafeByte, IsSafe, IsSafeWord, EachSafe, words_plain}
 use Rattle.live_core.specs.Front.{Every, IsOperation}
 use Rattle.live_core.specs.Text.{call_words}

@@ -5,7 +5,7 @@ use Rattle.std.proofs.lemmas.Bool.{false≢true}
 use Rattle.std.proofs.lemmas.Bool.Decides.{nat_tests}
 use Rattle.std.proofs.lemmas.List.Elements.{All-head, All-tail}
 use Rattle.decl_core.specs.ObjectForm.{ObjectForm}
-use Rattle.text_core.specs.Runs.{NoLineFeed}
+use Rattle.value_core.specs.Runs.{NoLineFeed}
 use Rattle.word_core.specs.Words.{words_text, line_of}
 use Rattle.word_core.specs.TraceLaws.{HasNames}
 use Rattle.live_core.specs.declared.front.Front.{Front}

@@ -10,7 +10,7 @@ use crate::epochs::EpochFault;
 use crate::recover::RecoverFault;
 use audit_core::verdict::AuditFault;
 use std::alloc::AllocError;
-use text_core::reply::{push_count, push_number};
+use value_core::reply::{push_count, push_number};
 
 // Adds ` line N`, and more.
 fn push_at_line(out: &mut Vec<u8>, line: u64, more: &[u8]) -> Result<(), AllocError>

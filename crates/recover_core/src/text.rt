@@ -2,7 +2,7 @@
 
 ghost use Rattle.std.specs.Prelude.{◌≡◌, ◌⊎◌, ◌++◌, ◌∷◌, ℕ, [], List, false, IfOk, IfErr, MatchOption, MatchResult, codes, drop, suc, take};
 ghost use Rattle.decl_core.specs.ObjectMap.{object_of};
-ghost use Rattle.text_core.specs.Runs.{NoLineFeed};
+ghost use Rattle.value_core.specs.Runs.{NoLineFeed};
 ghost use Rattle.recover_core.specs.Lines.{line_ends as line_ends_in};
 ghost use Rattle.live_core.specs.Front.{Opening, opening_of};
 ghost use Rattle.live_core.specs.Text.{front_text};

@@ -3,7 +3,7 @@ use Rattle.std.proofs.Common.{◌≡◌, ℕ, ◌+◌, ◌<◌, ◌≤◌, inl, 
 use Rattle.std.proofs.lemmas.Bool.{cases_lt}
 use Rattle.decl_core.specs.Bodies.{body_of}
 use Rattle.decl_core.specs.Touched.{Reads}
-use Rattle.call_core.specs.Calls.{Call, IsNext}
+use Rattle.page_core.specs.CallPins.{Call, IsNext}
 
 -- each part that is read has its place
 pub has_place : (call : Call) (from part after last : ℕ) → IsNext call from part → after ≡ part + 1 → after ≤ last → ((p : ℕ) → Reads (body_of call.operation).statements p → part + 1 ≤ p → p < last) → (p : ℕ) → Reads (body_of call.operation).statements p → from ≤ p → p < last

@@ -11,7 +11,7 @@ use Rattle.value_bytes.specs.Spelling.{Spells}
 use Rattle.decl_core.specs.declared.object.Operation.{Operation}
 use Rattle.decl_core.specs.Meaning.{part_at}
 use Rattle.apply_core.specs.Fits.{IsNamed}
-use Rattle.call_core.specs.Given.{AreSpelled}
+use Rattle.page_core.specs.Given.{AreSpelled}
 use Rattle.run_core.specs.Verdicts.{ReadAs}
 use Rattle.known_core.specs.Known.{AgreeAt, Agree}
 use Rattle.known_core.specs.Filled.{by_page}

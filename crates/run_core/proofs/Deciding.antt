@@ -35,7 +35,7 @@ use Rattle.known_core.proofs.Agreeing.{same_length}
 use Rattle.known_core.proofs.Courses.{one_answer, one_course}
 use Rattle.known_core.proofs.Filling.{filled_is_spelled, pages_after}
 use Rattle.known_core.proofs.Full.{full_known, known_or_not, unknown_at, place_within, at_kind, of_contents}
-use Rattle.call_core.specs.Given.{AreSpelled, IsRefused, IsDamaged}
+use Rattle.page_core.specs.Given.{AreSpelled, IsRefused, IsDamaged}
 use Rattle.run_core.specs.Verdicts.{ReadAs}
 use Rattle.run_core.specs.Reads.{pages_of, IsKnownAs, AreKnown, IsDue}
 use Rattle.run_core.specs.Wholes.{AreNewPages, AreNewAs}

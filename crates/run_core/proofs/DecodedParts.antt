@@ -7,7 +7,7 @@ use Rattle.value_core.specs.declared.kind.Elem.TheVariants as elem
 use Rattle.value_core.specs.Contents.{Contents, array}
 use Rattle.decl_core.specs.declared.object.Operation.{Operation}
 use Rattle.apply_core.specs.Fits.{HoldsReads}
-use Rattle.call_core.specs.Given.{AreSpelled}
+use Rattle.page_core.specs.Given.{AreSpelled}
 use Rattle.run_core.specs.Verdicts.{ReadAs, IsPart}
 
 -- what stands in a longer list stood before, or is the last

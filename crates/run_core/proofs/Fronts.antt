@@ -6,7 +6,7 @@ use Rattle.device_core.specs.declared.hand.Stamp.{Stamp}
 use Rattle.page_core.specs.Bytes.{one_behind, list_bytes, AreWhole, IsPage}
 use Rattle.page_core.specs.PartPins.{pin_at}
 use Rattle.page_core.proofs.ListBytes.{some_same}
-use Rattle.call_core.specs.Calls.{Call}
+use Rattle.page_core.specs.CallPins.{Call}
 use Rattle.run_core.specs.Read.{PinIsRead}
 use Rattle.run_core.specs.Seen.{IsPaged, IsPartRead}
 use Rattle.run_core.specs.Seen.{IsFront as IsFirst}

@@ -23,8 +23,8 @@ use Rattle.run_core.specs.Verdicts.{ReadAs}
 use Rattle.run_core.specs.Grown.{IsReadInto}
 use Rattle.run_core.specs.Reads.{AreKnown}
 use Rattle.run_core.proofs.Growing.{known_grows}
-use Rattle.call_core.specs.Calls.{Call}
-use Rattle.call_core.specs.Truths.{PinHolds, PinsAreWhole}
+use Rattle.page_core.specs.CallPins.{Call}
+use Rattle.page_core.specs.Truths.{PinHolds, PinsAreWhole}
 use Rattle.run_core.specs.Placed.{IsPlaced}
 use Rattle.run_core.specs.Seen.{IsPaged, IsSeen}
 use Rattle.run_core.proofs.Lists.{drop_more}

@@ -5,7 +5,7 @@ use Rattle.run_core.specs.declared.phase.Phase.{Phase}
 use Rattle.run_core.specs.declared.phase.Phase.TheVariants.{Reading, Paging, Creating, Appending, Sealing, Ended}
 use Rattle.apply_core.specs.declared.reply.Reply.{Reply}
 use Rattle.run_core.specs.declared.run.Run.{Run}
-use Rattle.call_core.specs.Calls.{Call}
+use Rattle.page_core.specs.CallPins.{Call}
 use Rattle.run_core.specs.Phases.{ending_of, sealed_in}
 use Rattle.run_core.specs.Runs.{run_ending, run_place, run_sealed}
 use Rattle.run_core.specs.Steps.{Place, place_in, at_end, Follows, Leads, there, onward}

@@ -15,11 +15,11 @@ use Rattle.page_core.proofs.Together.{all_renewed}
 use Rattle.run_core.specs.declared.judge.Change.{Change}
 use Rattle.run_core.specs.Given.{IsChanged, bytes_for}
 use Rattle.run_core.specs.Written.{WritesInOrder, parts_changed}
-use Rattle.call_core.specs.Calls.{Call}
+use Rattle.page_core.specs.CallPins.{Call}
 use Rattle.run_core.specs.Laws.{ChangedAreRead, NewPinsAreLeft}
 use Rattle.run_core.specs.CallPlanned.{AreRenewals, no_part, same, renewed}
 use Rattle.run_core.specs.Read.{AreRead, PinIsRead}
-use Rattle.call_core.specs.Truths.{IsLeft}
+use Rattle.page_core.specs.Truths.{IsLeft}
 
 module _ (a : Assignment) (pins : List PartPin) (read : List (List ℕ)) where
   -- the old list of each part that is changed is whole, and has the bytes before

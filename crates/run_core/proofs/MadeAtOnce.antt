@@ -19,7 +19,7 @@ use Rattle.page_core.proofs.Calling.{made_both}
 use Rattle.page_core.proofs.ListBytes.{some_same}
 use Rattle.known_core.specs.Masks.{IsOneMore}
 use Rattle.known_core.specs.Wanted.{IsNextPage}
-use Rattle.call_core.specs.Calls.{Call, IsNext}
+use Rattle.page_core.specs.CallPins.{Call, IsNext}
 use Rattle.run_core.specs.Seen.{IsPaged}
 use Rattle.run_core.specs.AtOnce.{ReadsPart, ReadsParts, reads_none, reads_part, ReadsMore, no_more, one_more, one_fails, FailsFor, WritesAll, GoesOn, RunsAtOnce}
 use Rattle.run_core.specs.Calling.{IsStampAt}

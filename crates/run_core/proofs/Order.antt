@@ -4,7 +4,7 @@ use Rattle.std.proofs.lemmas.Bool.{cases_lt}
 use Rattle.decl_core.specs.Bodies.{body_of}
 use Rattle.decl_core.specs.Touched.{Reads}
 use Rattle.device_core.specs.Device.{Assignment}
-use Rattle.call_core.specs.Calls.{Call}
+use Rattle.page_core.specs.CallPins.{Call}
 use Rattle.run_core.specs.Seen.{IsSeenBefore}
 use Rattle.run_core.specs.SeenLaws.{NoneIsSeen, NextIsSeen, AllIsSeen}
 

@@ -8,8 +8,8 @@ use Rattle.decl_core.specs.Bodies.{body_of}
 use Rattle.decl_core.specs.declared.object.Operation.{Operation}
 use Rattle.device_core.specs.Device.{Assignment}
 use Rattle.known_core.specs.Wanted.{IsWanted}
-use Rattle.call_core.proofs.Touching.{read}
-use Rattle.call_core.specs.Calls.{Call}
+use Rattle.page_core.proofs.Touching.{read}
+use Rattle.page_core.specs.CallPins.{Call}
 use Rattle.run_core.specs.Seen.{IsPaged, IsSeen}
 
 -- what is not otherwise than an array of integers that is read is one

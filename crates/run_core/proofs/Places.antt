@@ -7,11 +7,11 @@ use Rattle.decl_core.specs.Bodies.{body_of}
 use Rattle.decl_core.specs.Touched.{Reads}
 use Rattle.device_core.specs.declared.hand.Stamp.{Stamp}
 use Rattle.apply_core.specs.Fits.{IsNamed}
-use Rattle.call_core.proofs.Touching.{read}
+use Rattle.page_core.proofs.Touching.{read}
 use Rattle.apply_core.specs.Pages.{page_bytes}
 use Rattle.page_core.specs.Cut.{lengths, AreFull}
 use Rattle.page_core.specs.PartPins.{pin_at}
-use Rattle.call_core.specs.Calls.{Call}
+use Rattle.page_core.specs.CallPins.{Call}
 use Rattle.run_core.specs.Seen.{IsPaged}
 
 -- what makes a part one that is read page by page

@@ -22,14 +22,14 @@ use Rattle.page_core.specs.Plans.{Plans}
 use Rattle.page_core.proofs.ListBytes.{some_same}
 use Rattle.known_core.specs.Wanted.{IsFull}
 use Rattle.run_core.specs.declared.judge.Change.{Change}
-use Rattle.call_core.specs.Given.{AreSpelled}
+use Rattle.page_core.specs.Given.{AreSpelled}
 use Rattle.run_core.specs.Written.{WritesInOrder, parts_changed}
 use Rattle.run_core.specs.Reads.{pages_of, IsKnownAs}
 use Rattle.run_core.specs.Wholes.{AreNewAs, IsWholeChange, AreWholeChanges}
 use Rattle.run_core.proofs.Alike.{plans_of_wholes}
-use Rattle.call_core.specs.Calls.{Call}
+use Rattle.page_core.specs.CallPins.{Call}
 use Rattle.run_core.specs.CallPlanned.{IsRenewalOf, AreRenewals, no_part, same, renewed}
-use Rattle.call_core.specs.Truths.{PinHolds, PinsAreWhole}
+use Rattle.page_core.specs.Truths.{PinHolds, PinsAreWhole}
 use Rattle.run_core.specs.Seen.{IsSeen, IsPaged}
 use Rattle.run_core.specs.SeenLaws.{PlansAreWhole}
 use Rattle.run_core.proofs.SeenWholes.{wholes_under, whole_at, holds_once, are_read, list_long, same_pages}

@@ -14,9 +14,9 @@ use Rattle.page_core.specs.Bytes.{list_bytes, AreWhole, ArePages, split_by}
 use Rattle.page_core.specs.Cut.{lengths, together}
 use Rattle.page_core.specs.PartPins.{PartPin, pin_at}
 use Rattle.page_core.proofs.ListBytes.{some_same, page_long, pages_bytes, are_split}
-use Rattle.call_core.specs.Calls.{Call}
+use Rattle.page_core.specs.CallPins.{Call}
 use Rattle.run_core.specs.Read.{AreRead}
-use Rattle.call_core.specs.Truths.{PinHolds, PinsAreWhole}
+use Rattle.page_core.specs.Truths.{PinHolds, PinsAreWhole}
 use Rattle.run_core.specs.Seen.{IsSeen}
 
 -- the bytes under the pin of a part, or none

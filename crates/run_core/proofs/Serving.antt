@@ -9,7 +9,7 @@ use Rattle.device_core.specs.declared.hand.Stamp.{Stamp}
 use Rattle.apply_core.specs.declared.reply.Failure.TheVariants as failures
 use Rattle.apply_core.specs.declared.reply.Reply.{Reply}
 use Rattle.apply_core.specs.declared.reply.Reply.TheVariants as replies
-use Rattle.call_core.specs.Calls.{Call, IsNext}
+use Rattle.page_core.specs.CallPins.{Call, IsNext}
 use Rattle.run_core.specs.declared.phase.Phase.{Phase}
 use Rattle.run_core.specs.Phases.{failure_of}
 use Rattle.run_core.specs.Steps.{Place, at_read, at_page, at_create, at_append, at_seal, at_end, place_in, ReadIsServed, ReadsItsPart, PinsServed, AreServed, Starts, with_part, with_none, IsJudged, changed, not_changed, wants, Follows, reads_on, reads_next, reads_last, misses, pages_on, creates, appends, seals_on, seals_last, fails, stays}

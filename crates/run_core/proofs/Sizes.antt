@@ -4,7 +4,7 @@ use Rattle.device_core.specs.declared.hand.Stamp.{Stamp}
 use Rattle.page_core.specs.Cut.{together}
 use Rattle.page_core.specs.PartPins.{pin_at, pins_by}
 use Rattle.page_core.proofs.ListBytes.{some_same}
-use Rattle.call_core.specs.Calls.{AreSized}
+use Rattle.page_core.specs.CallPins.{AreSized}
 use Rattle.run_core.specs.CallPlanned.{AreShort}
 
 pub sized_by : (from : ℕ) (counts : List ℕ) (stamps : List Stamp) → together counts ≡ length stamps → AreShort counts → AreSized (pins_by from counts stamps)

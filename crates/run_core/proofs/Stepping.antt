@@ -10,7 +10,7 @@ use Rattle.apply_core.specs.declared.need.Need.TheVariants as needs
 use Rattle.apply_core.specs.declared.reply.Reply.{Reply}
 use Rattle.apply_core.specs.declared.reply.Reply.TheVariants as replies
 use Rattle.page_core.specs.declared.plan.PageWrite.{PageWrite}
-use Rattle.call_core.specs.Calls.{Call, ReadsNone}
+use Rattle.page_core.specs.CallPins.{Call, ReadsNone}
 use Rattle.run_core.specs.Verdicts.{HasReads}
 use Rattle.run_core.specs.declared.phase.More.{More}
 use Rattle.run_core.specs.declared.phase.ReadingRun.{ReadingRun}

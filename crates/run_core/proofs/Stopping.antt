@@ -11,7 +11,7 @@ use Rattle.known_core.specs.Masks.{known_by}
 use Rattle.known_core.specs.Partly.{partly_done}
 use Rattle.known_core.specs.Wanted.{AreMasksFor}
 use Rattle.known_core.proofs.Full.{needs_within}
-use Rattle.call_core.specs.Given.{AreSpelled}
+use Rattle.page_core.specs.Given.{AreSpelled}
 use Rattle.run_core.specs.Verdicts.{ReadAs}
 use Rattle.run_core.specs.declared.judge.Verdict.{Verdict}
 use Rattle.run_core.specs.Reads.{AreKnown}

@@ -21,13 +21,13 @@ use Rattle.known_core.specs.Filled.{IsFilled}
 use Rattle.known_core.specs.Wanted.{IsWanted, IsFull}
 use Rattle.known_core.proofs.Filling.{frame_on}
 use Rattle.known_core.proofs.Fitting.{is_full}
-use Rattle.call_core.specs.Given.{IsDamaged}
+use Rattle.page_core.specs.Given.{IsDamaged}
 use Rattle.run_core.specs.Reads.{pages_of, IsKnownAs, IsKnownPart}
 use Rattle.run_core.proofs.Completing.{kind_once}
 use Rattle.run_core.proofs.Growing.{first_is_known}
-use Rattle.call_core.specs.Calls.{Call}
+use Rattle.page_core.specs.CallPins.{Call}
 use Rattle.run_core.specs.Read.{PinIsRead}
-use Rattle.call_core.specs.Truths.{PinHolds, PinsAreWhole}
+use Rattle.page_core.specs.Truths.{PinHolds, PinsAreWhole}
 use Rattle.run_core.specs.Seen.{IsPaged, IsPartRead, IsSeenBefore}
 use Rattle.run_core.proofs.Lists.{both_bytes, front_bytes, zero_bytes, empty}
 use Rattle.run_core.proofs.Rows.{with_row, row_before, row_at}

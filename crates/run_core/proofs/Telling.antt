@@ -6,9 +6,9 @@ use Rattle.apply_core.specs.declared.reply.Failure.TheVariants as failures
 use Rattle.apply_core.specs.declared.reply.Reply.{Reply}
 use Rattle.apply_core.specs.declared.reply.Reply.TheVariants.{Done, Refused, Failed}
 use Rattle.page_core.specs.PartPins.{PartPin}
-use Rattle.call_core.specs.Calls.{Call}
-use Rattle.call_core.specs.Truths.{IsTrueAt}
-use Rattle.call_core.specs.Outcomes.{if_done}
+use Rattle.page_core.specs.CallPins.{Call}
+use Rattle.page_core.specs.Truths.{IsTrueAt}
+use Rattle.page_core.specs.Outcomes.{if_done}
 use Rattle.run_core.specs.Phases.{IsRenewedBy}
 
 -- what is true of the page lists that a run made is true of its new pins

@@ -10,15 +10,15 @@ use Rattle.device_core.specs.Device.{Assignment}
 use Rattle.apply_core.specs.Fits.{IsNamed}
 use Rattle.known_core.specs.Wanted.{IsWanted, IsNextPage}
 use Rattle.run_core.specs.declared.judge.Change.{Change}
-use Rattle.call_core.specs.Given.{AreSpelled}
+use Rattle.page_core.specs.Given.{AreSpelled}
 use Rattle.run_core.specs.Verdicts.{ReadAs}
 use Rattle.run_core.specs.declared.judge.Verdict.{Verdict}
 use Rattle.run_core.specs.declared.judge.Verdict.TheVariants.{Done, Refused, Needs, Damaged, Memory}
 use Rattle.run_core.specs.Reads.{AreKnown}
 use Rattle.run_core.specs.Judged.{JudgedOn, IsNextOf}
 use Rattle.run_core.specs.Wholes.{IsWholeChange, AreWholeChanges}
-use Rattle.call_core.specs.Calls.{Call}
-use Rattle.call_core.specs.Truths.{PinHolds}
+use Rattle.page_core.specs.CallPins.{Call}
+use Rattle.page_core.specs.Truths.{PinHolds}
 use Rattle.run_core.specs.Seen.{IsSeen, JudgedBy}
 use Rattle.run_core.proofs.SeenWholes.{wholes_under, whole_at, holds_whole}
 

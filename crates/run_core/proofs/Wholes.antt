@@ -27,7 +27,7 @@ use Rattle.known_core.proofs.Filling.{contents_after}
 use Rattle.known_core.proofs.Keeping.{KeepsBy, all_keeps}
 use Rattle.known_core.proofs.AllKnown.{is_done as is_body}
 use Rattle.run_core.specs.declared.judge.Change.{Change}
-use Rattle.call_core.specs.Given.{AreSpelled, IsDone}
+use Rattle.page_core.specs.Given.{AreSpelled, IsDone}
 use Rattle.run_core.specs.Given.{IsChanged, AreChanges, bytes_for}
 use Rattle.run_core.specs.Verdicts.{ReadAs, Rising, MayLeave}
 use Rattle.run_core.specs.Reads.{pages_of, AreKnown}

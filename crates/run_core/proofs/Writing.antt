@@ -12,16 +12,16 @@ use Rattle.page_core.specs.PartPins.{PartPin, pins_by}
 use Rattle.page_core.specs.Renewed.{with_sealed, AreSealed}
 use Rattle.page_core.proofs.ListBytes.{some_same}
 use Rattle.run_core.specs.declared.judge.Change.{Change}
-use Rattle.call_core.specs.Given.{IsDone}
+use Rattle.page_core.specs.Given.{IsDone}
 use Rattle.run_core.specs.Given.{AreChanges}
 use Rattle.run_core.specs.Written.{WritesInOrder, parts_changed}
 use Rattle.run_core.specs.declared.plan.PagePlan.{PagePlan}
-use Rattle.call_core.specs.Calls.{Call}
+use Rattle.page_core.specs.CallPins.{Call}
 use Rattle.page_core.specs.Laws.{PartRenewal, ArePlanned, one_part}
 use Rattle.page_core.specs.Laws.{no_part as no_row}
 use Rattle.run_core.specs.CallPlanned.{IsPlanned, AreRenewals, no_part, same, renewed}
 use Rattle.run_core.specs.Read.{AreRead}
-use Rattle.call_core.specs.Truths.{PinHolds, AreLeft, IsTrueAt}
+use Rattle.page_core.specs.Truths.{PinHolds, AreLeft, IsTrueAt}
 use Rattle.run_core.specs.SeenLaws.{IsPlanOf}
 use Rattle.run_core.proofs.Left.{new_pins_are_left, changed_are_read}
 use Rattle.run_core.specs.Phases.{IsSealedSoFar, IsWritten, IsRenewedBy}

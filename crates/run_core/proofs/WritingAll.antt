@@ -14,10 +14,10 @@ use Rattle.page_core.specs.Laws.{no_part as no_row}
 use Rattle.page_core.specs.PartPins.{PartPin}
 use Rattle.page_core.specs.Renewed.{with_sealed, ArePlaces}
 use Rattle.page_core.proofs.Renewing.{set_long}
-use Rattle.call_core.specs.Given.{IsDamaged}
-use Rattle.call_core.specs.Calls.{Call}
+use Rattle.page_core.specs.Given.{IsDamaged}
+use Rattle.page_core.specs.CallPins.{Call}
 use Rattle.run_core.specs.CallPlanned.{IsPlanned, no_part}
-use Rattle.call_core.specs.Truths.{PinHolds, IsTrueAt}
+use Rattle.page_core.specs.Truths.{PinHolds, IsTrueAt}
 use Rattle.run_core.specs.SeenLaws.{IsPlanOf}
 use Rattle.run_core.specs.Phases.{failure_of, IsRenewedBy}
 use Rattle.run_core.proofs.Writing.{all_left}

@@ -10,7 +10,7 @@ use Rattle.page_core.specs.Calls.{AreMade, ReadInOrder, WritesPages}
 use Rattle.page_core.specs.PartPins.{pin_at}
 use Rattle.known_core.specs.Masks.{IsOneMore}
 use Rattle.known_core.specs.Wanted.{IsNextPage}
-use Rattle.call_core.specs.Calls.{Call, IsNext}
+use Rattle.page_core.specs.CallPins.{Call, IsNext}
 use Rattle.run_core.specs.Seen.{IsPaged}
 use Rattle.run_core.specs.Calling.{IsStampAt}
 use Rattle.run_core.specs.Phases.{failure_of}

@@ -6,7 +6,7 @@ use Rattle.device_core.specs.declared.hand.Pen.{Pen}
 use Rattle.device_core.specs.declared.hand.Stamp.{Stamp}
 use Rattle.device_core.specs.Made.{Made, creates, appends, seals, discards, reads}
 use Rattle.page_core.specs.PartPins.{pin_at}
-use Rattle.call_core.specs.Calls.{Call}
+use Rattle.page_core.specs.CallPins.{Call}
 use Rattle.run_core.specs.declared.phase.Phase.{Phase}
 use Rattle.run_core.specs.declared.phase.Phase.TheVariants.{Reading, Paging, Creating, Appending, Sealing, Ended}
 use Rattle.run_core.specs.Phases.{failure_of}

@@ -9,7 +9,7 @@ use Rattle.apply_core.specs.Fits.{IsNamed}
 use Rattle.known_core.specs.Filled.{IsFilled}
 use Rattle.known_core.specs.Masks.{IsOneMore}
 use Rattle.known_core.specs.Wanted.{IsWanted}
-use Rattle.call_core.specs.Given.{IsDamaged}
+use Rattle.page_core.specs.Given.{IsDamaged}
 use Rattle.run_core.specs.Verdicts.{ReadAs}
 use Rattle.run_core.specs.Reads.{pages_of, AreKnown}
 

@@ -9,7 +9,7 @@ use Rattle.apply_core.specs.Pages.{page_of}
 use Rattle.known_core.specs.declared.act.Stop.{Stop}
 use Rattle.known_core.specs.declared.act.Stop.TheVariants as stops
 use Rattle.known_core.specs.Wanted.{IsNextPage}
-use Rattle.call_core.specs.Given.{IsDone, IsRefused, IsDamaged}
+use Rattle.page_core.specs.Given.{IsDone, IsRefused, IsDamaged}
 use Rattle.run_core.specs.Verdicts.{ReadAs, Rising}
 use Rattle.run_core.specs.declared.judge.Verdict.{Verdict}
 use Rattle.run_core.specs.declared.judge.Verdict.TheVariants.{Done, Refused, Needs, Damaged, Memory}

@@ -10,7 +10,7 @@ use Rattle.run_core.specs.declared.judge.Change.{Change}
 use Rattle.run_core.specs.Given.{AreChanges}
 use Rattle.run_core.specs.CallPlanned.{IsPlanned, AreNewPins}
 use Rattle.run_core.specs.Read.{PinIsRead}
-use Rattle.call_core.specs.Truths.{AreLeft}
+use Rattle.page_core.specs.Truths.{AreLeft}
 
 -- the bytes of the parts that are changed are those under their pins
 abbrev pub ChangedAreRead : Assignment → List PartPin → List (List ℕ) → List Change → Type 0

@@ -18,15 +18,15 @@ use Rattle.run_core.specs.Reads.{IsDue}
 use Rattle.page_core.specs.PartPins.{PartPin, pin_at, pins_by}
 use Rattle.page_core.specs.Renewed.{with_sealed, AreSealed}
 use Rattle.run_core.specs.declared.judge.Change.{Change}
-use Rattle.call_core.specs.Given.{IsDone}
+use Rattle.page_core.specs.Given.{IsDone}
 use Rattle.run_core.specs.Given.{AreChanges}
 use Rattle.run_core.specs.Verdicts.{HasReads}
 use Rattle.run_core.specs.Written.{WritesInOrder, parts_changed}
 use Rattle.run_core.specs.declared.plan.PagePlan.{PagePlan}
-use Rattle.call_core.specs.Calls.{Call}
+use Rattle.page_core.specs.CallPins.{Call}
 use Rattle.run_core.specs.CallPlanned.{IsPlanned, AreNewPins}
 use Rattle.run_core.specs.Read.{AreRead}
-use Rattle.call_core.specs.Truths.{PinHolds, IsTrueAt}
+use Rattle.page_core.specs.Truths.{PinHolds, IsTrueAt}
 use Rattle.run_core.specs.Seen.{IsSeen, IsSeenBefore}
 use Rattle.run_core.specs.declared.phase.Phase.{Phase}
 use Rattle.run_core.specs.declared.phase.Phase.TheVariants.{Reading, Paging, Creating, Appending, Sealing, Ended}

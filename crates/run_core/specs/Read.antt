@@ -6,7 +6,7 @@ use Rattle.device_core.specs.declared.hand.Stamp.{Stamp}
 use Rattle.device_core.specs.Device.{Assignment}
 use Rattle.page_core.specs.Bytes.{list_bytes, AreWhole}
 use Rattle.page_core.specs.PartPins.{PartPin, pin_at}
-use Rattle.call_core.specs.Calls.{Call}
+use Rattle.page_core.specs.CallPins.{Call}
 
 -- these bytes were read of the pages of a part's pin, which are whole
 abbrev pub PinIsRead : Assignment → List PartPin → ℕ → List ℕ → Type 0

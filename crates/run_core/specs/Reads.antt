@@ -13,7 +13,7 @@ use Rattle.apply_core.specs.Fits.{IsNamed}
 use Rattle.known_core.specs.Filled.{IsFilled}
 use Rattle.known_core.specs.Masks.{known_by}
 use Rattle.known_core.specs.Partly.{needs, partly_done}
-use Rattle.call_core.specs.Given.{AreSpelled}
+use Rattle.page_core.specs.Given.{AreSpelled}
 use Rattle.run_core.specs.Verdicts.{ReadAs}
 
 -- which pages of a part are known

@@ -10,10 +10,10 @@ use Rattle.run_core.specs.declared.phase.Phase.TheVariants.{Reading, Paging, Cre
 use Rattle.apply_core.specs.declared.reply.Reply.{Reply}
 use Rattle.run_core.specs.declared.run.Run.{Run}
 use Rattle.run_core.specs.Calling.{StepMakes}
-use Rattle.call_core.specs.Calls.{Call}
+use Rattle.page_core.specs.CallPins.{Call}
 use Rattle.run_core.specs.Steps.{Place, place_in, ending_at, sealed_at}
 use Rattle.run_core.specs.Tasks.{task_call}
-use Rattle.call_core.specs.Truths.{PinsAreWhole}
+use Rattle.page_core.specs.Truths.{PinsAreWhole}
 use Rattle.run_core.specs.Phases.{ending_of, sealed_in, news_in, gone_in, pen_in, PenHoldsIn, FoundBy, work_in}
 
 abbrev pub run_call : Run → Call

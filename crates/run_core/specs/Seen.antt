@@ -9,14 +9,14 @@ use Rattle.page_core.specs.Bytes.{IsPage}
 use Rattle.page_core.specs.Cut.{lengths, AreFull}
 use Rattle.page_core.specs.PartPins.{pin_at}
 use Rattle.known_core.specs.Wanted.{IsWanted, IsFull}
-use Rattle.call_core.specs.Given.{IsDone, IsRefused, IsDamaged}
+use Rattle.page_core.specs.Given.{IsDone, IsRefused, IsDamaged}
 use Rattle.run_core.specs.declared.judge.Verdict.{Verdict}
 use Rattle.run_core.specs.declared.judge.Verdict.TheVariants.{Done, Refused, Needs, Damaged, Memory}
 use Rattle.run_core.specs.Reads.{AreKnown, IsKnownPart, IsDue}
 use Rattle.run_core.specs.Wholes.{AreChangesOf}
-use Rattle.call_core.specs.Calls.{Call}
+use Rattle.page_core.specs.CallPins.{Call}
 use Rattle.run_core.specs.Read.{PinIsRead}
-use Rattle.call_core.specs.Truths.{PinHolds}
+use Rattle.page_core.specs.Truths.{PinHolds}
 
 -- a part is read page by page: an array of integers that the call reads, and each page of its pin is as long as a page
 -- of such an array, but for the last

@@ -6,14 +6,14 @@ use Rattle.device_core.specs.declared.hand.Stamp.{Stamp}
 use Rattle.device_core.specs.Device.{Assignment}
 use Rattle.page_core.specs.declared.plan.PageWrite.{PageWrite}
 use Rattle.run_core.specs.declared.judge.Change.{Change}
-use Rattle.call_core.specs.Given.{IsDone}
+use Rattle.page_core.specs.Given.{IsDone}
 use Rattle.run_core.specs.Given.{AreChanges}
 use Rattle.run_core.specs.Written.{WritesInOrder, parts_changed}
 use Rattle.run_core.specs.Wholes.{AreChangesOf}
-use Rattle.call_core.specs.Calls.{Call, HasPins, IsNext, ReadsNone}
+use Rattle.page_core.specs.CallPins.{Call, HasPins, IsNext, ReadsNone}
 use Rattle.run_core.specs.CallPlanned.{IsPlanned}
 use Rattle.run_core.specs.Read.{AreRead}
-use Rattle.call_core.specs.Truths.{PinHolds, PinsAreWhole}
+use Rattle.page_core.specs.Truths.{PinHolds, PinsAreWhole}
 use Rattle.run_core.specs.Seen.{IsSeen, IsSeenBefore}
 
 -- Nothing is seen before the first part, and all pages count as known.

@@ -15,7 +15,7 @@ use Rattle.page_core.specs.declared.plan.PageWrite.{PageWrite}
 use Rattle.page_core.specs.PartPins.{pin_at}
 use Rattle.known_core.specs.Masks.{IsOneMore, unread}
 use Rattle.known_core.specs.Wanted.{IsNextPage}
-use Rattle.call_core.specs.Calls.{Call, IsNext, ReadsNone}
+use Rattle.page_core.specs.CallPins.{Call, IsNext, ReadsNone}
 use Rattle.run_core.specs.Seen.{IsFront}
 use Rattle.run_core.specs.declared.phase.Phase.{Phase}
 use Rattle.run_core.specs.declared.phase.Phase.TheVariants.{Reading, Paging, Creating, Appending, Sealing, Ended}

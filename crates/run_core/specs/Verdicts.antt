@@ -10,7 +10,7 @@ use Rattle.decl_core.specs.Form.{Statements}
 use Rattle.decl_core.specs.Touched.{Reads, Writes}
 use Rattle.run_core.specs.declared.judge.Change.{Change}
 use Rattle.apply_core.specs.Fits.{IsNamed}
-use Rattle.call_core.specs.Given.{AreSpelled}
+use Rattle.page_core.specs.Given.{AreSpelled}
 use Rattle.run_core.specs.Written.{WritesInOrder, parts_changed}
 
 -- the bytes read of part p stand at place p

@@ -11,7 +11,7 @@ ghost use Rattle.apply_core.specs.declared.reply.Failure.TheVariants as failures
 ghost use Rattle.apply_core.specs.declared.reply.Reply.TheVariants as replies;
 ghost use Rattle.run_core.specs.Calling.{StepMakes};
 ghost use Rattle.run_core.specs.Tasks.{task_call};
-ghost use Rattle.call_core.specs.Truths.{PinsAreWhole};
+ghost use Rattle.page_core.specs.Truths.{PinsAreWhole};
 ghost use Rattle.run_core.specs.Steps.{Follows, FailsWith, AreServed, ReadIsServed, place_in};
 ghost use Rattle.run_core.specs.Phases.{ending_of, sealed_in, news_in, answer_to, step_answer, PenHoldsIn, HasItsReads};
 ghost use Rattle.run_core.specs.Phases.{pen_in, FoundBy, work_in};

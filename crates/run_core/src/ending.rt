@@ -2,16 +2,16 @@
 
 ghost use Rattle.std.specs.Prelude.{◌≡◌, ◌≢◌, [], ℕ, List, Some, None};
 ghost use Rattle.device_core.specs.Device.{Assignment};
-ghost use Rattle.call_core.specs.Calls.{Call};
-ghost use Rattle.call_core.specs.Truths.{IsTrueAt};
+ghost use Rattle.page_core.specs.CallPins.{Call};
+ghost use Rattle.page_core.specs.Truths.{IsTrueAt};
 ghost use Rattle.apply_core.specs.declared.reply.Reply.TheVariants as replies;
 ghost use Rattle.std.specs.Arc.{arc_value};
 ghost use Rattle.decl_core.specs.Bodies.{body_of};
 ghost use Rattle.decl_core.specs.Touched.{Writes};
 ghost use Rattle.run_core.specs.Tasks.{task_call};
 ghost use Rattle.page_core.specs.PartPins.{PartPin, pin_at, pins_by};
-ghost use Rattle.call_core.specs.Outcomes.{outcome_call, outcome_reply, outcome_sealed, outcome_news, outcome_gone};
-ghost use Rattle.call_core.specs.Outcomes.{IsFresh};
+ghost use Rattle.page_core.specs.Outcomes.{outcome_call, outcome_reply, outcome_sealed, outcome_news, outcome_gone};
+ghost use Rattle.page_core.specs.Outcomes.{IsFresh};
 ghost use Rattle.run_core.specs.Phases.{ending_of, sealed_in, news_in, failure_of, HasNoPen, pen_in, work_in, FoundBy};
 ghost use Rattle.run_core.specs.Phases.{IsNotDone};
 ghost use Rattle.run_core.specs.Steps.{place_in, at_end};
@@ -20,11 +20,11 @@ use crate::phase::{Leaving, Phase};
 use crate::plan::PagePlan;
 use crate::task::Task;
 use apply_core::reply::{Failure, Reply};
-use call_core::outcome::Outcome;
-use call_core::ticket::Ticket;
 use decl_core::id::MOST_PARTS;
 use device_core::hand::{HandFault, Stamp};
+use page_core::outcome::Outcome;
 use page_core::part_pins::PartPins;
+use page_core::ticket::Ticket;
 use std::alloc::Global;
 
 // How a run ends for a fault.

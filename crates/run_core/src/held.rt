@@ -15,9 +15,9 @@ use apply_core::spelled::Spelled;
 use decl_core::id::PartId;
 use known_core::act::Stop;
 use known_core::parts::PartValues;
-use text_core::text::Text;
 use value_core::datum::Datum;
 use value_core::refusal::Refusal;
+use value_core::text::Text;
 
 /// Values in their bytes. Nothing takes a change back.
 #[derive(Drop)]

@@ -12,7 +12,7 @@ ghost use Rattle.apply_core.specs.Pages.{page_of as in_page};
 ghost use Rattle.apply_core.specs.Fits.{ArgumentsFit};
 ghost use Rattle.known_core.specs.Wanted.{AreMasksFor};
 ghost use Rattle.known_core.specs.declared.act.Stop.TheVariants as stops;
-ghost use Rattle.call_core.specs.Given.{AreSpelled, IsDamaged};
+ghost use Rattle.page_core.specs.Given.{AreSpelled, IsDamaged};
 ghost use Rattle.run_core.specs.Given.{AreChanges};
 ghost use Rattle.run_core.specs.Verdicts.{ReadAs, Rising, AreBits, ReadsNone, HasReads, IsPart, IsChangeOf, IsStep};
 ghost use Rattle.run_core.specs.Verdicts.{MayLeave};
@@ -28,10 +28,10 @@ use known_core::evaluate::evaluate;
 use known_core::pages::Pages;
 use page_core::file_bytes::FileBytes;
 use std::alloc::{AllocError, Global};
-use text_core::text::Text;
 use value_bytes::decode::DecodeFault;
 use value_core::datum::Datum;
 use value_core::kind::Elem;
+use value_core::text::Text;
 
 /// A part that the body changed, and the bytes that spell its new value.
 #[derive(Drop)]

@@ -8,7 +8,7 @@ ghost use Rattle.run_core.specs.Verdicts.{ReadsNone, HasReads};
 ghost use Rattle.run_core.specs.Judged.{OnlyWrites, Settled};
 ghost use Rattle.run_core.specs.declared.judge.Verdict.TheVariants as verdicts;
 ghost use Rattle.run_core.specs.Tasks.{task_call};
-ghost use Rattle.call_core.specs.Truths.{PinsAreWhole};
+ghost use Rattle.page_core.specs.Truths.{PinsAreWhole};
 ghost use Rattle.run_core.specs.Seen.{IsSeen, JudgedBy};
 
 use crate::judge::{Verdict, judge};

@@ -10,8 +10,8 @@ ghost use Rattle.device_core.specs.Device.{Assignment, FaultCause, Shows};
 ghost use Rattle.device_core.specs.Made.{reads, IsDeviceErr};
 ghost use Rattle.page_core.specs.PartPins.{pin_at};
 ghost use Rattle.known_core.specs.Masks.{IsOneMore, unread};
-ghost use Rattle.call_core.specs.Calls.{Call};
-ghost use Rattle.call_core.specs.Truths.{PinsAreWhole};
+ghost use Rattle.page_core.specs.CallPins.{Call};
+ghost use Rattle.page_core.specs.Truths.{PinsAreWhole};
 ghost use Rattle.run_core.specs.Seen.{IsPaged, IsSeen};
 ghost use Rattle.run_core.specs.Placed.{IsPlaced};
 

@@ -7,17 +7,17 @@ ghost use Rattle.device_core.specs.declared.hand.Stamp.{Stamp};
 ghost use Rattle.device_core.specs.Device.{Assignment, Always, Failed as DeviceFailed};
 ghost use Rattle.apply_core.specs.declared.reply.Failure.TheVariants as failures;
 ghost use Rattle.apply_core.specs.declared.reply.Reply.TheVariants as replies;
-ghost use Rattle.call_core.specs.Truths.{IsTrueOf, PinsAreWhole};
+ghost use Rattle.page_core.specs.Truths.{IsTrueOf, PinsAreWhole};
 ghost use Rattle.run_core.specs.Phases.{IsRenewedBy};
 ghost use Rattle.run_core.specs.Runs.{run_call, run_ending, run_place, run_sealed, PenHolds, SoFar};
 ghost use Rattle.run_core.specs.Steps.{Leads, AreServed, PinsServed, at_end};
-ghost use Rattle.call_core.specs.Outcomes.{outcome_call, outcome_reply, outcome_sealed, outcome_news, outcome_gone};
-ghost use Rattle.call_core.specs.Outcomes.{outcome_pins, IsFresh};
+ghost use Rattle.page_core.specs.Outcomes.{outcome_call, outcome_reply, outcome_sealed, outcome_news, outcome_gone};
+ghost use Rattle.page_core.specs.Outcomes.{outcome_pins, IsFresh};
 ghost use Rattle.page_core.specs.PartPins.{pin_at};
 
 use crate::run::Run;
-use call_core::outcome::Outcome;
 use device_core::hand::Hand;
+use page_core::outcome::Outcome;
 
 /// Steps until the run has ended.
 pub fn perform<H: Hand>(run: Run, hand: &mut H) -> Outcome

@@ -2,7 +2,7 @@
 
 ghost use Rattle.std.specs.Prelude.{◌≡◌, ◌<◌, ◌≤◌, length, slice_index};
 ghost use Rattle.std.specs.Int.{bit_at};
-ghost use Rattle.call_core.specs.Calls.{AreSized};
+ghost use Rattle.page_core.specs.CallPins.{AreSized};
 
 use crate::plan::PagePlan;
 use crate::seen::Seen;

@@ -12,7 +12,7 @@ ghost use Rattle.apply_core.specs.declared.reply.Reply.TheVariants as replies;
 ghost use Rattle.page_core.specs.PartPins.{pin_at};
 ghost use Rattle.run_core.specs.Verdicts.{HasReads};
 ghost use Rattle.run_core.specs.Tasks.{task_call};
-ghost use Rattle.call_core.specs.Truths.{PinsAreWhole};
+ghost use Rattle.page_core.specs.Truths.{PinsAreWhole};
 ghost use Rattle.run_core.specs.Seen.{IsFront, IsPartRead, IsSeenBefore};
 ghost use Rattle.run_core.specs.Calling.{MakesRead};
 ghost use Rattle.run_core.specs.Phases.{ending_of, sealed_in, news_in, HasNoPen, HasItsReads, IsReadSoFar};

@@ -8,7 +8,7 @@ ghost use Rattle.device_core.specs.declared.hand.Stamp.{Stamp};
 ghost use Rattle.device_core.specs.Device.{Assignment, IsFree, Failed as DeviceFailed};
 ghost use Rattle.apply_core.specs.declared.reply.Failure.TheVariants as failures;
 ghost use Rattle.apply_core.specs.declared.reply.Reply.TheVariants as replies;
-ghost use Rattle.call_core.specs.Truths.{IsTrueOf, PinsAreWhole};
+ghost use Rattle.page_core.specs.Truths.{IsTrueOf, PinsAreWhole};
 ghost use Rattle.run_core.specs.Tasks.{task_call};
 ghost use Rattle.run_core.specs.Steps.{Starts, Follows, FailsWith, AreServed, PinsServed, ReadsItsPart, place_in};
 ghost use Rattle.run_core.specs.Steps.{need_at};
@@ -26,9 +26,9 @@ use crate::step::StepAnswer;
 use crate::task::Task;
 use apply_core::need::Need;
 use apply_core::reply::{Failure, Reply};
-use call_core::outcome::Outcome;
-use call_core::ticket::Ticket;
 use device_core::hand::Hand;
+use page_core::outcome::Outcome;
+use page_core::ticket::Ticket;
 use std::alloc::Global;
 use std::mem;
 
@@ -76,9 +76,9 @@ fn first_phase(alloc: Global, task: &Task) -> Phase
 }
 
 impl Run {
-    ghost use Rattle.call_core.specs.Tickets.{ticket_call};
-    ghost use Rattle.call_core.specs.Outcomes.{outcome_call, outcome_reply, outcome_sealed, outcome_news, outcome_gone};
-    ghost use Rattle.call_core.specs.Outcomes.{outcome_pins, IsFresh};
+    ghost use Rattle.page_core.specs.Tickets.{ticket_call};
+    ghost use Rattle.page_core.specs.Outcomes.{outcome_call, outcome_reply, outcome_sealed, outcome_news, outcome_gone};
+    ghost use Rattle.page_core.specs.Outcomes.{outcome_pins, IsFresh};
     ghost use Rattle.apply_core.specs.declared.need.Need.TheVariants as needs;
     ghost use Rattle.run_core.specs.Runs.{run_call, run_ending, run_sealed, run_pen, run_place, run_work, RunMakes};
     ghost use Rattle.run_core.specs.Runs.{PenHolds, SoFar};

@@ -9,11 +9,11 @@ ghost use Rattle.value_core.specs.declared.kind.Kind.TheVariants as array_kinds;
 ghost use Rattle.device_core.specs.Device.{Assignment};
 ghost use Rattle.apply_core.specs.Fits.{IsNamed};
 ghost use Rattle.known_core.specs.Masks.{unread};
-ghost use Rattle.call_core.specs.Given.{IsDamaged};
-ghost use Rattle.call_core.specs.Calls.{Call};
+ghost use Rattle.page_core.specs.Given.{IsDamaged};
+ghost use Rattle.page_core.specs.CallPins.{Call};
 ghost use Rattle.run_core.specs.Read.{PinIsRead};
 ghost use Rattle.run_core.specs.Tasks.{task_call};
-ghost use Rattle.call_core.specs.Truths.{PinHolds, PinsAreWhole};
+ghost use Rattle.page_core.specs.Truths.{PinHolds, PinsAreWhole};
 ghost use Rattle.run_core.specs.Seen.{IsPaged, IsFront, IsPartRead, IsFramed, IsSeenBefore};
 
 use crate::task::{Task, pages_of};

@@ -8,12 +8,12 @@ ghost use Rattle.decl_core.specs.Touched.{Reads};
 ghost use Rattle.apply_core.specs.Fits.{ArgumentsFit};
 ghost use Rattle.page_core.specs.PartPins.{pin_at};
 
-use call_core::ticket::Ticket;
 use decl_core::footprint::{is_in, reads};
 use decl_core::id::MOST_PARTS;
 use decl_core::object::Operation;
 use device_core::hand::Stamp;
 use page_core::part_pins::PartPins;
+use page_core::ticket::Ticket;
 use std::sync::Arc;
 use value_core::datum::Datum;
 
@@ -70,8 +70,8 @@ pub fn pages_of(pins: &PartPins, part: usize) -> &[Stamp]
 
 impl Task {
     ghost use Rattle.run_core.specs.Tasks.{task_call};
-    ghost use Rattle.call_core.specs.Tickets.{ticket_call};
-    ghost use Rattle.call_core.specs.Calls.{IsNext, ReadsNone};
+    ghost use Rattle.page_core.specs.Tickets.{ticket_call};
+    ghost use Rattle.page_core.specs.CallPins.{IsNext, ReadsNone};
 
     /// The call of a ticket. It takes no memory.
     pub fn new(ticket: Ticket) -> Task

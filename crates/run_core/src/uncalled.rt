@@ -2,7 +2,7 @@
 
 ghost use Rattle.std.specs.Prelude.{◌≡◌, ◌≢◌, ◌≤◌, ◌↔◌, ℕ, IsTrue, None};
 ghost use Rattle.std.specs.Int.{bit_at};
-ghost use Rattle.call_core.specs.Calls.{HasPins};
+ghost use Rattle.page_core.specs.CallPins.{HasPins};
 ghost use Rattle.device_core.specs.Device.{Assignment};
 ghost use Rattle.page_core.specs.PartPins.{pin_at};
 ghost use Rattle.run_core.specs.Runs.{AreApart, PenHolds, run_call, run_place};

@@ -6,7 +6,7 @@ ghost use Rattle.device_core.specs.Device.{Assignment, IsFree, Failed as DeviceF
 ghost use Rattle.apply_core.specs.declared.reply.Failure.TheVariants as failures;
 ghost use Rattle.apply_core.specs.declared.reply.Reply.TheVariants as replies;
 ghost use Rattle.page_core.specs.PartPins.{pin_at, pins_by};
-ghost use Rattle.call_core.specs.Calls.{Call};
+ghost use Rattle.page_core.specs.CallPins.{Call};
 ghost use Rattle.run_core.specs.Calling.{MakesCreate, MakesAppend, MakesSeal};
 ghost use Rattle.run_core.specs.Phases.{ending_of, sealed_in, news_in, IsWritten, IsWrittenSoFar, PenHoldsIn, HasNoPen};
 ghost use Rattle.run_core.specs.Phases.{pen_in, FoundBy, IsSettled, work_in};

@@ -22,8 +22,8 @@ use std::env;
 use std::fs::File;
 use std::io::{self, Read};
 use std::process::ExitCode;
-use text_core::write_whole;
 use trial::{ScheduleFault, play_all};
+use value_core::write_whole;
 
 // The file that is named, alone, on the command line.
 fn file_of(rt: &HostRuntime) -> Result<Vec<u8>, u8> {

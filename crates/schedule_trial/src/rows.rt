@@ -6,7 +6,7 @@ ghost use Rattle.schedule_trial.specs.Told.{event_of, behind, seen_of};
 
 use keep_loop::ReadEnd;
 use std::alloc::{AllocError, Global};
-use text_core::reply::push_number;
+use value_core::reply::push_number;
 
 /// What happened.
 #[derive(Clone, Copy, Debug, PartialEq, Eq)]

@@ -22,7 +22,7 @@ use live_core::source::source_of;
 use path_count::past::PastEvent;
 use std::alloc::{AllocError, AllocFailed, Global};
 use table_core::table::Table;
-use text_core::next_line;
+use value_core::next_line;
 use value_core::value::Value;
 
 /// Why schedules are not played.

@@ -3,15 +3,15 @@ use Rattle.std.proofs.Common.{◌≡◌, ◌∙◌, ap, sym, subst, refl, arith,
 use Rattle.std.specs.Prelude.{OnOk, OnErr}
 use Rattle.std.specs.declared.alloc.AllocError.{AllocError}
 use Rattle.std.proofs.lemmas.List.{map-append, length-map}
-use Rattle.text_core.specs.declared.machine.LinesFault.{LinesFault}
-use Rattle.text_core.specs.declared.machine.LinesFault.TheVariants.{Memory}
+use Rattle.value_core.specs.declared.machine.LinesFault.{LinesFault}
+use Rattle.value_core.specs.declared.machine.LinesFault.TheVariants.{Memory}
 use Rattle.office_core.specs.Slips.{Told}
-use Rattle.keep_core.specs.declared.trouble.Trouble.{Trouble}
-use Rattle.keep_core.specs.Troubles.{first_of, memory_in}
-use Rattle.keep_core.proofs.Telling.{first_first}
-use Rattle.serve_core.specs.declared.listen.Left.{Left}
-use Rattle.serve_core.specs.declared.listen.Came.{Came}
-use Rattle.serve_core.specs.declared.listen.Came.TheVariants.{Session, Fault}
+use Rattle.serve_core.specs.declared.trouble.Trouble.{Trouble}
+use Rattle.serve_core.specs.Troubles.{first_of, memory_in}
+use Rattle.serve_core.proofs.Telling.{first_first}
+use Rattle.serve_core.specs.declared.listen.SessionLeavings.{SessionLeavings}
+use Rattle.serve_core.specs.declared.listen.SessionResult.{SessionResult}
+use Rattle.serve_core.specs.declared.listen.SessionResult.TheVariants.{Session, Fault}
 use Rattle.serve_core.specs.declared.gather.Gathered.{Gathered}
 use Rattle.serve_core.specs.Gathers.{slips_in, none_of, put_in, put_to, noted_by, mixed_by, with_those_of, Gathers, GathersAll, IsGathered}
 
@@ -28,26 +28,26 @@ none_grown {H = H} gathered more one n m so none is next =
     ∙ ap (λ (xs : List (List Told)). xs ++ [] ∷ []) so ∙ none_more n ∙ ap none_of (sym next)
 
 -- Of all that is gathered what stands before the rest is: whatever the rest comes to, the whole comes to that.
-pub record GatheredSoFar {H : Type 0} (all rest : List (Came H)) (left : ℕ) (before now : Trouble) (were are : List (List Told)) : Type 0 where
+pub record GatheredSoFar {H : Type 0} (all rest : List (SessionResult H)) (left : ℕ) (before now : Trouble) (were are : List (List Told)) : Type 0 where
   pub counted : left ≡ length rest
   pub goes : (after : Trouble) (last : List (List Told)) → GathersAll rest now after are last → GathersAll all before after were last
 
-pub gathered_none : {H : Type 0} (all rest : List (Came H)) (left : ℕ) (t : Trouble) (were : List (List Told)) → rest ≡ all → left ≡ length rest → GatheredSoFar all rest left t t were were
-gathered_none {H = H} all rest left t were same counted = record { counted = counted; goes = λ after last done. subst (λ (cs : List (Came H)). GathersAll cs t after were last) same done }
+pub gathered_none : {H : Type 0} (all rest : List (SessionResult H)) (left : ℕ) (t : Trouble) (were : List (List Told)) → rest ≡ all → left ≡ length rest → GatheredSoFar all rest left t t were were
+gathered_none {H = H} all rest left t were same counted = record { counted = counted; goes = λ after last done. subst (λ (cs : List (SessionResult H)). GathersAll cs t after were last) same done }
 
-pub gathered_more : {H : Type 0} {all rest : List (Came H)} {left : ℕ} {before now then : Trouble} {were are next : List (List Told)} (came : Came H) (later : List (Came H)) (fewer : ℕ) →
+pub gathered_more : {H : Type 0} {all rest : List (SessionResult H)} {left : ℕ} {before now then : Trouble} {were are next : List (List Told)} (came : SessionResult H) (later : List (SessionResult H)) (fewer : ℕ) →
     GatheredSoFar all rest left before now were are → rest ≡ came ∷ later → fewer + 1 ≡ left → Gathers came now then are next → GatheredSoFar all later fewer before then were next
 gathered_more {H = H} {now = now} {then = then} {are = are} {next = next} came later fewer so is fewer_is one = record {
   counted = omega (arith, fewer_is, so.counted, ap length is);
-  goes = λ after last done. so.goes after last (subst (λ (cs : List (Came H)). GathersAll cs now after are last) (sym is) (then, next, one, done));
+  goes = λ after last done. so.goes after last (subst (λ (cs : List (SessionResult H)). GathersAll cs now after are last) (sym is) (then, next, one, done));
 }
 
-pub gathered_all : {H : Type 0} {all : List (Came H)} {before now : Trouble} {were are : List (List Told)} (rest : List (Came H)) (left : ℕ) → GatheredSoFar all rest left before now were are → left ≡ 0 → GathersAll all before now were are
+pub gathered_all : {H : Type 0} {all : List (SessionResult H)} {before now : Trouble} {were are : List (List Told)} (rest : List (SessionResult H)) (left : ℕ) → GatheredSoFar all rest left before now were are → left ≡ 0 → GathersAll all before now were are
 gathered_all {H = H} {now = now} {are = are} [] left so none = so.goes now are (refl, refl)
 gathered_all (came ∷ rest) left so none = absurd (omega (arith, so.counted, none))
 
 -- what a session left of an object was put, or memory was refused for it
-pub gathers_session : {H : Type 0} (left : Left H) (at : ℕ) (before mid after : Trouble) (were are : List (List Told)) (result : Result (Unit {0}) AllocError) → left.object ≡ Some at → mid.fault ≡ first_of before.fault (noted_by left.fault) → mid.refused ≡ mixed_by before.refused left.fault →
+pub gathers_session : {H : Type 0} (left : SessionLeavings H) (at : ℕ) (before mid after : Trouble) (were are : List (List Told)) (result : Result (Unit {0}) AllocError) → left.object ≡ Some at → mid.fault ≡ first_of before.fault (noted_by left.fault) → mid.refused ≡ mixed_by before.refused left.fault →
     after.fault ≡ first_of mid.fault (memory_in result) → after.refused ≡ mid.refused → OnOk result (are ≡ put_in at left.backed were) → OnErr result (are ≡ were) → Gathers (Session left) before after were are
 gathers_session left at before mid after were are (Ok done) there fault refused more same ok err = record {
   wanted = false;
@@ -80,7 +80,7 @@ keep_set {H = H} (x ∷ items) zero g new is same = ap (λ (s : List Told). s �
 keep_set (x ∷ items) (suc place) g new is same = ap (λ (xs : List (List Told)). x.backed ∷ xs) (keep_set items place g new is same)
 
 -- what threads left, or nothing where memory was refused before
-pub gathered_ok : {H : Type 0} (before after : Trouble) (were are last : List (List Told)) (cames : List (Came H)) → last ≡ are → GathersAll cames before after were are → IsGathered H were before after last
+pub gathered_ok : {H : Type 0} (before after : Trouble) (were are last : List (List Told)) (cames : List (SessionResult H)) → last ≡ are → GathersAll cames before after were are → IsGathered H were before after last
 gathered_ok {H = H} before after were are last cames same all = inl (cames, subst (GathersAll cames before after were) (sym same) all)
 
 pub gathered_err : (H : Type 0) (before after : Trouble) (were last : List (List Told)) → last ≡ were → after.fault ≡ first_of before.fault (Some Memory) → after.refused ≡ before.refused → IsGathered H were before after last
@@ -92,18 +92,18 @@ put_many place more [] = refl
 put_many zero more (slips ∷ others) = refl
 put_many (suc place) more (slips ∷ others) = ap suc (put_many place more others)
 
-with_many : {H : Type 0} (came : Came H) (all : List (List Told)) → length (with_those_of came all) ≡ length all
+with_many : {H : Type 0} (came : SessionResult H) (all : List (List Told)) → length (with_those_of came all) ≡ length all
 with_many (Fault fault) all = refl
 with_many (Session left) all = to left.object where
   to : (object : Option ℕ) → length (put_to object left.backed all) ≡ length all
   to None = refl
   to (Some place) = put_many place left.backed all
 
-one_many : {H : Type 0} (came : Came H) (were are : List (List Told)) (wanted : Bool) → are ≡ cond wanted were (with_those_of came were) → length are ≡ length were
+one_many : {H : Type 0} (came : SessionResult H) (were are : List (List Told)) (wanted : Bool) → are ≡ cond wanted were (with_those_of came were) → length are ≡ length were
 one_many came were are true put = ap length put
 one_many came were are false put = ap length put ∙ with_many came were
 
-all_many : {H : Type 0} (cames : List (Came H)) (before after : Trouble) (were are : List (List Told)) → GathersAll cames before after were are → length are ≡ length were
+all_many : {H : Type 0} (cames : List (SessionResult H)) (before after : Trouble) (were are : List (List Told)) → GathersAll cames before after were are → length are ≡ length were
 all_many [] before after were are (same, is) = ap length is
 all_many (came ∷ cames) before after were are (mid, between, one, more) = all_many cames mid after between are more ∙ one_many came were between one.wanted one.put
 

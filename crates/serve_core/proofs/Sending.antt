@@ -9,9 +9,9 @@ use Rattle.office_core.proofs.SlipSending.{slip_send}
 use Rattle.office_core.proofs.seat.Seat.TheSendSync as seat
 use Rattle.office_core.specs.contracts.slip.Slip as slip
 use Rattle.serve_core.specs.contracts.backed.Backed as backed
-use Rattle.serve_core.specs.contracts.listen.Left as left
-use Rattle.serve_core.specs.contracts.listen.Came as came
-use Rattle.serve_core.specs.contracts.listen.Leavings as leavings
+use Rattle.serve_core.specs.contracts.listen.SessionLeavings as left
+use Rattle.serve_core.specs.contracts.listen.SessionResult as came
+use Rattle.serve_core.specs.contracts.listen.Results as results
 use Rattle.serve_core.specs.contracts.gate.Gate as gate
 
 backed_field_send : (H : RattleType) (g : Ghosts H.Denot) → IsSend H → IsSend (backed.the_field H g).row
@@ -23,13 +23,13 @@ left_field_send H g send =
     struct_send (struct_of.shape (left.the_type H g)) all
 
 -- what one thread leaves may go to another thread where the hand may
-pub came_send : (H : RattleType) (g : Ghosts H.Denot) → IsSend H → IsSend (came.the_row H g)
-came_send H g send =
+pub result_send : (H : RattleType) (g : Ghosts H.Denot) → IsSend H → IsSend (came.the_row H g)
+result_send H g send =
     let each : EachSend (enum_of.shape (came.the_type H g)).variants = ((left_field_send H g send, tt), ((search sendable depth 40, tt), tt)) in
     recorded_send _ _ _ (came.the_type H g).to_one (enum_send (enum_of.shape (came.the_type H g)) each)
 
-pub leavings_sync : (C : RattleType) → IsSend C → IsSync (leavings.the_row C)
-leavings_sync C send = let v = Vec-send C send in search (sendable, crosses, v) depth 40
+pub results_sync : (C : RattleType) → IsSend C → IsSync (results.the_row C)
+results_sync C send = let v = Vec-send C send in search (sendable, crosses, v) depth 40
 
 pub gate_sync : IsSync gate.the_row
 gate_sync = search (sendable, crosses) depth 40 fits 20000

@@ -1,7 +1,7 @@
 -- What a server does to the value files of its folder.
 use Rattle.std.proofs.Common.{◌≡◌, refl, subst, arith, inl, inr, ℕ, ◌<◌, List, [], ◌∷◌, length, Option, Result, Err}
-use Rattle.text_core.specs.declared.machine.LinesFault.{LinesFault}
-use Rattle.text_core.specs.declared.machine.LinesFault.TheVariants.{Memory}
+use Rattle.value_core.specs.declared.machine.LinesFault.{LinesFault}
+use Rattle.value_core.specs.declared.machine.LinesFault.TheVariants.{Memory}
 use Rattle.page_core.specs.Deeds.{Deed, MovesLeft}
 use Rattle.serve_core.specs.declared.serve.ServeEnd.{ServeEnd}
 use Rattle.serve_core.specs.Tidies.{MovesFound}

@@ -1,6 +1,6 @@
 -- The end that a server comes to.
 use Rattle.std.specs.Prelude.{◌≡◌, Bool, true, false, Option, Some, None, Result, Ok, Err}
-use Rattle.text_core.specs.declared.machine.LinesFault.{LinesFault}
+use Rattle.value_core.specs.declared.machine.LinesFault.{LinesFault}
 use Rattle.serve_core.specs.declared.serve.ServeEnd.{ServeEnd}
 use Rattle.serve_core.specs.declared.serve.ServeEnd.TheVariants.{Whole, Refused}
 

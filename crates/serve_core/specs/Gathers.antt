@@ -1,14 +1,14 @@
 -- What is gathered of what sessions left, and what is noted.
 use Rattle.std.specs.Prelude.{◌≡◌, ◌⊎◌, ℕ, zero, suc, List, [], ◌∷◌, ◌++◌, map, Bool, true, cond, Option, Some, None}
-use Rattle.text_core.specs.declared.machine.LinesFault.{LinesFault}
-use Rattle.text_core.specs.declared.machine.LinesFault.TheVariants.{Memory}
+use Rattle.value_core.specs.declared.machine.LinesFault.{LinesFault}
+use Rattle.value_core.specs.declared.machine.LinesFault.TheVariants.{Memory}
 use Rattle.session_core.specs.declared.fault.SessionFault.{SessionFault}
 use Rattle.session_core.specs.declared.fault.SessionFault.TheVariants as session
 use Rattle.office_core.specs.Slips.{Told}
-use Rattle.keep_core.specs.declared.trouble.Trouble.{Trouble}
-use Rattle.keep_core.specs.Troubles.{first_of}
-use Rattle.serve_core.specs.declared.listen.Came.{Came}
-use Rattle.serve_core.specs.declared.listen.Came.TheVariants.{Session, Fault}
+use Rattle.serve_core.specs.declared.trouble.Trouble.{Trouble}
+use Rattle.serve_core.specs.Troubles.{first_of}
+use Rattle.serve_core.specs.declared.listen.SessionResult.{SessionResult}
+use Rattle.serve_core.specs.declared.listen.SessionResult.TheVariants.{Session, Fault}
 use Rattle.serve_core.specs.declared.gather.Gathered.{Gathered}
 
 -- the fault that is noted where a session ended so: one of its client is none of the server
@@ -50,16 +50,16 @@ put_to None more all = all
 put_to (Some place) more all = put_in place more all
 
 -- what is noted of what one thread left
-abbrev pub noted_of : {H : Type 0} → Came H → Option LinesFault
+abbrev pub noted_of : {H : Type 0} → SessionResult H → Option LinesFault
 noted_of (Session left) = noted_by left.fault
 noted_of (Fault fault) = Some fault
 
-abbrev pub mixed_of : {H : Type 0} → Bool → Came H → Bool
+abbrev pub mixed_of : {H : Type 0} → Bool → SessionResult H → Bool
 mixed_of refused (Session left) = mixed_by refused left.fault
 mixed_of refused (Fault fault) = refused
 
 -- the receipts of each object, with those that it left
-abbrev pub with_those_of : {H : Type 0} → Came H → List (List Told) → List (List Told)
+abbrev pub with_those_of : {H : Type 0} → SessionResult H → List (List Told) → List (List Told)
 with_those_of (Session left) all = put_to left.object left.backed all
 with_those_of (Fault fault) all = all
 
@@ -69,14 +69,14 @@ want_of wanted = cond wanted (Some Memory) None
 
 -- What one thread left was gathered: its fault is noted, and its receipts are put to its object, or memory for them was
 -- refused, and that is noted.
-pub record Gathers {H : Type 0} (came : Came H) (before after : Trouble) (were are : List (List Told)) : Type 0 where
+pub record Gathers {H : Type 0} (came : SessionResult H) (before after : Trouble) (were are : List (List Told)) : Type 0 where
   pub wanted : Bool
   pub fault : after.fault ≡ first_of before.fault (first_of (noted_of came) (want_of wanted))
   pub refused : after.refused ≡ mixed_of before.refused came
   pub put : are ≡ cond wanted were (with_those_of came were)
 
 -- so was what each of these left, one after the other
-abbrev pub GathersAll : {H : Type 0} → List (Came H) → Trouble → Trouble → List (List Told) → List (List Told) → Type 0
+abbrev pub GathersAll : {H : Type 0} → List (SessionResult H) → Trouble → Trouble → List (List Told) → List (List Told) → Type 0
 GathersAll [] before after were are = (after ≡ before) × (are ≡ were)
 GathersAll (came ∷ more) before after were are =
     (mid : Trouble) × (between : List (List Told)) × Gathers came before mid were between
@@ -85,5 +85,5 @@ GathersAll (came ∷ more) before after were are =
 -- What threads left was gathered, or memory was refused before any began.
 abbrev pub IsGathered : (H : Type 0) → List (List Told) → Trouble → Trouble → List (List Told) → Type 0
 IsGathered H were before after are =
-    ((came : List (Came H)) × GathersAll came before after were are)
+    ((came : List (SessionResult H)) × GathersAll came before after were are)
     ⊎ ((after.fault ≡ first_of before.fault (Some Memory)) × (after.refused ≡ before.refused) × (are ≡ were))

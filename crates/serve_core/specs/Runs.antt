@@ -3,9 +3,9 @@ use Rattle.std.specs.Prelude.{◌≡◌, ◌⊎◌, ℕ, Bool, List, [], ◌∷�
 use Rattle.std.specs.Prelude.{length}
 use Rattle.std.specs.List.{concat}
 use Rattle.std.specs.Io.KnownBytes.{Appends, Keeps}
-use Rattle.text_core.specs.declared.machine.LinesFault.{LinesFault}
-use Rattle.text_core.specs.declared.machine.LinesFault.TheVariants.{Memory}
-use Rattle.text_core.specs.Reply.{reply}
+use Rattle.value_core.specs.declared.machine.LinesFault.{LinesFault}
+use Rattle.value_core.specs.declared.machine.LinesFault.TheVariants.{Memory}
+use Rattle.value_core.specs.Reply.{reply}
 use Rattle.device_core.specs.Device.{Assignment}
 use Rattle.device_core.specs.Papers.{Papers}
 use Rattle.decl_core.specs.declared.object.Object.{Object}
@@ -15,18 +15,18 @@ use Rattle.board_core.specs.Lists.{Every, Among}
 use Rattle.office_core.specs.Slips.{Told}
 use Rattle.session_core.specs.declared.order.Named.{Named}
 use Rattle.check_core.specs.Judging.{IsServed, IsUnserved}
-use Rattle.keep_core.specs.declared.open.NotOpened.{NotOpened}
-use Rattle.keep_core.specs.declared.open.NotOpened.TheVariants.{Damaged, Fault}
-use Rattle.keep_core.specs.declared.opening.ObjectOpening.{ObjectOpening}
-use Rattle.keep_core.specs.declared.trouble.Trouble.{Trouble}
-use Rattle.keep_core.specs.Troubles.{first_of}
-use Rattle.keep_core.specs.Lines.{AreSaid, damaged_line}
-use Rattle.keep_core.specs.Ends.{Ended, IsAtEnd}
+use Rattle.serve_core.specs.declared.opened.NotOpened.{NotOpened}
+use Rattle.serve_core.specs.declared.opened.NotOpened.TheVariants.{Damaged, Fault}
+use Rattle.serve_core.specs.declared.opening.ObjectOpening.{ObjectOpening}
+use Rattle.serve_core.specs.declared.trouble.Trouble.{Trouble}
+use Rattle.serve_core.specs.Troubles.{first_of}
+use Rattle.serve_core.specs.Lines.{AreSaid, damaged_line}
+use Rattle.serve_core.specs.ObjectEnds.{Ended, IsAtEnd}
 use Rattle.serve_core.specs.declared.serve.ServeEnd.{ServeEnd}
 use Rattle.serve_core.specs.declared.serve.ServeEnd.TheVariants.{Whole, Refused, Unopened}
 use Rattle.serve_core.specs.Ends.{IsEndOf}
 use Rattle.serve_core.specs.Gathers.{none_of, IsGathered}
-use Rattle.keep_core.specs.Moments.{Moment, with_trouble}
+use Rattle.serve_core.specs.Moments.{Moment, with_trouble}
 use Rattle.serve_core.specs.Opened.{AreLoadedAll, ArePinnedAll}
 use Rattle.serve_core.specs.Closes.{names_of, openings_of, slips_of, lines_all, entries_all, refused_all, IsWhole}
 use Rattle.serve_core.specs.Closes.{AreStoredAll, AreTracedAll, IsFromOpening, IsLegalBy, Closes}

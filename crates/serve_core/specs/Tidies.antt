@@ -1,7 +1,7 @@
 -- What a server does to the value files of its folder.
 use Rattle.std.specs.Prelude.{◌≡◌, ◌⊎◌, ℕ, List, [], ◌∷◌, Bool, IsTrue, Option, Result, Err}
-use Rattle.text_core.specs.declared.machine.LinesFault.{LinesFault}
-use Rattle.text_core.specs.declared.machine.LinesFault.TheVariants.{Memory}
+use Rattle.value_core.specs.declared.machine.LinesFault.{LinesFault}
+use Rattle.value_core.specs.declared.machine.LinesFault.TheVariants.{Memory}
 use Rattle.page_core.specs.Deeds.{Deed, RemovesAll, MovesLeft}
 use Rattle.page_core.specs.Numbers.{AreBetween}
 use Rattle.serve_core.specs.declared.serve.ServeEnd.{ServeEnd}

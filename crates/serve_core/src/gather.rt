@@ -2,20 +2,20 @@
 
 ghost use Rattle.std.specs.Prelude.{◌≡◌, ◌++◌, [], ◌≤◌, All, OnOk, OnErr, IfOk};
 ghost use Rattle.std.specs.Vec.{vec_capacity};
-ghost use Rattle.keep_core.specs.Troubles.{first_of};
+ghost use Rattle.serve_core.specs.Troubles.{first_of};
 ghost use Rattle.serve_core.specs.Gathers.{noted_by, mixed_by, slips_in, put_in, none_of, Gathers, GathersAll};
 
 use crate::backed::{AllBacked, Backed};
-use crate::listen::{Came, Left};
+use crate::listen::{SessionLeavings, SessionResult};
+use crate::trouble::Trouble;
 use device_core::hand::Hand;
-use keep_core::trouble::Trouble;
 use office_core::seat::Seat;
 use session_core::fault::SessionFault;
 use session_core::order::Named;
 use std::alloc::{AllocError, Global};
 use std::io::Write;
-use text_core::reply::push_reply;
-use text_core::{LinesFault, write_whole};
+use value_core::reply::push_reply;
+use value_core::{LinesFault, write_whole};
 
 // The most bytes of a line: a name and words.
 const LINE_BYTES: usize = 128;
@@ -132,15 +132,15 @@ impl<H: Hand + Drop> Gathering<H> {
     // Puts what a session left to its object. What went wrong in it, and was not for its client, is noted and told.
     fn gather_left<E: Write>(
         &mut self,
-        left: Left<H>,
+        left: SessionLeavings<H>,
         offices: &[Named],
         error: &mut E,
         trouble: &mut Trouble,
     )
-        ensures { Gathers (Came.Session left) trouble.old trouble.new (slips_in self.old.all.items)
+        ensures { Gathers (SessionResult.Session left) trouble.old trouble.new (slips_in self.old.all.items)
             (slips_in self.new.all.items) }
     {
-        let Left {
+        let SessionLeavings {
             object,
             seat,
             backed,
@@ -157,7 +157,7 @@ impl<H: Hand + Drop> Gathering<H> {
     // Gathers what one thread left.
     fn gather_one<E: Write>(
         &mut self,
-        came: Came<H>,
+        came: SessionResult<H>,
         offices: &[Named],
         error: &mut E,
         trouble: &mut Trouble,
@@ -165,8 +165,8 @@ impl<H: Hand + Drop> Gathering<H> {
         ensures { Gathers came trouble.old trouble.new (slips_in self.old.all.items) (slips_in self.new.all.items) }
     {
         match came {
-            Came::Fault(fault) => trouble.note(fault),
-            Came::Session(left) => self.gather_left(left, offices, error, trouble),
+            SessionResult::Fault(fault) => trouble.note(fault),
+            SessionResult::Session(left) => self.gather_left(left, offices, error, trouble),
         }
     }
 
@@ -176,7 +176,7 @@ impl<H: Hand + Drop> Gathering<H> {
     /// is handed.
     pub fn gather<E: Write>(
         &mut self,
-        all: Vec<Came<H>>,
+        all: Vec<SessionResult<H>>,
         offices: &[Named],
         error: &mut E,
         trouble: &mut Trouble,

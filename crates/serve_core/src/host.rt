@@ -2,29 +2,29 @@
 
 ghost use Rattle.std.specs.Prelude.{◌≡◌, ◌<◌, ◌∷◌, ℕ, List, [], Some, length};
 ghost use Rattle.std.specs.Vec.Iter.{into_iter_len, into_iter_steps};
-ghost use Rattle.keep_core.specs.Troubles.{fault_in};
-ghost use Rattle.keep_core.specs.Lines.{AreSaid};
+ghost use Rattle.serve_core.specs.Troubles.{fault_in};
+ghost use Rattle.serve_core.specs.Lines.{AreSaid};
 ghost use Rattle.serve_core.specs.Backed.{AreBacked};
 ghost use Rattle.serve_core.specs.Gathers.{slips_in, none_of, IsGathered};
 ghost use Rattle.serve_core.specs.Ends.{IsEndOf};
 ghost use Rattle.serve_core.specs.Closes.{Closes};
-ghost use Rattle.keep_core.specs.Moments.{moment_of};
+ghost use Rattle.serve_core.specs.Moments.{moment_of};
 ghost use Rattle.serve_core.specs.Runs.{named_in, listening_line, GathersAndCloses, IsRunIn};
 ghost use Rattle.serve_core.specs.Runs.{AreNotServed, IsLineOf};
 
+use crate::close::{Closing, ClosingObject};
 use crate::gate::Gate;
 use crate::gather::{Gathered, Gathering};
-use crate::listen::{Came, serve_all};
+use crate::listen::{SessionResult, serve_all};
 use crate::open::ServedObjects;
+use crate::opened::NotOpened;
+use crate::opening::ObjectOpening;
 use crate::serve::{ServeEnd, tell_refused};
+use crate::trouble::Trouble;
 use decl_core::analyse::Accepted;
 use device_core::ahead::Ends;
 use device_core::hand::Hand;
 use device_core::shelf::Shelf;
-use keep_core::close::{Closing, ClosingObject};
-use keep_core::open::NotOpened;
-use keep_core::opening::ObjectOpening;
-use keep_core::trouble::Trouble;
 use session_core::order::Named;
 use std::alloc::{AllocError, Global};
 use std::io::Write;
@@ -33,8 +33,8 @@ use std::sync::Wait;
 use std::thread::Threads;
 use std::time::Clock;
 use std::vec::IntoIter;
-use text_core::reply::push_reply;
-use text_core::{LinesFault, write_whole};
+use value_core::reply::push_reply;
+use value_core::{LinesFault, write_whole};
 
 /// What serves objects: what opens and closes them, and a hand for each session that comes.
 #[derive(Drop)]
@@ -137,7 +137,7 @@ fn close_all<S: Shelf + Drop, T: Shelf + Drop, K: Hand + Drop, H: Hand + Drop, W
 // Gathers what came of the sessions of objects. Where memory was refused before any came, that is noted.
 fn gather_came<H: Hand + Drop, E: Write>(
     room: Gathering<H>,
-    came: Result<Vec<Came<H>>, AllocError>,
+    came: Result<Vec<SessionResult<H>>, AllocError>,
     offices: &[Named],
     error: &mut E,
     trouble: &mut Trouble,
@@ -177,7 +177,7 @@ impl<S: Shelf + Drop, T: Shelf + Drop, K: Hand + Drop, H: Ends + Send> Host<S, T
         rt: &R,
         gate: &Gate,
         offices: &Vec<Named>,
-    ) -> Result<Vec<Came<H>>, AllocError>
+    ) -> Result<Vec<SessionResult<H>>, AllocError>
         ensures { self.new.closing ≡ self.old.closing }
     {
         let hands = mem::replace(&mut self.hands, Vec::new(self.alloc));
@@ -190,7 +190,7 @@ impl<S: Shelf + Drop, T: Shelf + Drop, K: Hand + Drop, H: Ends + Send> Host<S, T
         &mut self,
         served: ServedObjects,
         room: Gathering<H>,
-        came: Result<Vec<Came<H>>, AllocError>,
+        came: Result<Vec<SessionResult<H>>, AllocError>,
         writer: &mut W,
         error: &mut E,
     )

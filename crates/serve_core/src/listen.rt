@@ -5,10 +5,10 @@ ghost use Rattle.session_core.specs.Truth.{AreTrue};
 
 use crate::backed::Backed;
 use crate::gate::Door;
+use crate::trouble::fault_of;
 use crossbeam_channel::Receiver;
 use device_core::ahead::Ends;
 use device_core::hand::Hand;
-use keep_core::trouble::fault_of;
 use office_core::seat::Seat;
 use session_core::end::SessionEnd;
 use session_core::fault::SessionFault;
@@ -22,14 +22,14 @@ use std::sync::{Mutex, Wait};
 use std::thread;
 use std::thread::Threads;
 use std::time::{Clock, Duration};
-use text_core::LinesFault;
+use value_core::LinesFault;
 
 // How long a read waits where nothing comes, and a write where nothing is taken, in milliseconds.
 const PAUSE: u64 = 250;
 
 /// What a session leaves to its object.
 #[derive(Drop)]
-pub struct Left<H: Hand + Drop> {
+pub struct SessionLeavings<H: Hand + Drop> {
     /// The object that it opened, by its place.
     pub object: Option<usize>,
     /// Its seat there, but that of a client that has a name.
@@ -42,30 +42,30 @@ pub struct Left<H: Hand + Drop> {
 
 /// What a thread that was to serve a connection leaves.
 #[derive(Drop)]
-pub enum Came<H: Hand + Drop> {
+pub enum SessionResult<H: Hand + Drop> {
     /// A session.
-    Session(Left<H>),
+    Session(SessionLeavings<H>),
     /// No connection could be taken, or not be served.
     Fault(LinesFault),
 }
 
 /// Where threads put what they leave.
-pub trait Basket<C> {
+pub trait TakesResults<C> {
     /// Adds what one thread leaves.
     fn put<R: Wait>(&self, rt: &R, came: C);
 }
 
 /// What threads leave, in room that is taken before they begin.
 #[derive(Drop)]
-pub struct Leavings<C: Drop> {
+pub struct Results<C: Drop> {
     all: Mutex<Vec<C>>,
 }
 
-impl<C: Drop> Leavings<C> {
+impl<C: Drop> Results<C> {
     // Room for so many, none of which is there yet.
-    fn with_room(alloc: Global, count: usize) -> Result<Leavings<C>, AllocError> {
+    fn with_room(alloc: Global, count: usize) -> Result<Results<C>, AllocError> {
         let room = Vec::with_capacity(alloc, count)?;
-        Ok(Leavings {
+        Ok(Results {
             all: Mutex::new(room),
         })
     }
@@ -76,7 +76,7 @@ impl<C: Drop> Leavings<C> {
     }
 }
 
-impl<C: Drop> Basket<C> for Leavings<C> {
+impl<C: Drop> TakesResults<C> for Results<C> {
     fn put<R: Wait>(&self, rt: &R, came: C) {
         let _put = self.all.lock(rt).push(came);
     }
@@ -91,7 +91,7 @@ fn prepare(stream: &TcpStream) {
 }
 
 // What a session leaves to its object, once its hand has ended: all that it hands back but the writer.
-fn left_of<W: Drop, H: Ends>(end: SessionEnd<W, H>) -> Left<H>
+fn left_of<W: Drop, H: Ends>(end: SessionEnd<W, H>) -> SessionLeavings<H>
     requires { AreTrue H.agrees end.hand end.receipts.items }
     ensures object { result.object ≡ end.object }
     ensures seat { result.seat ≡ end.seat }
@@ -108,7 +108,7 @@ fn left_of<W: Drop, H: Ends>(end: SessionEnd<W, H>) -> Left<H>
     } = end;
     drop(writer);
     hand.end();
-    Left {
+    SessionLeavings {
         object,
         seat,
         backed: Backed::new(receipts, hand),
@@ -116,82 +116,91 @@ fn left_of<W: Drop, H: Ends>(end: SessionEnd<W, H>) -> Left<H>
     }
 }
 
-// Serves a session over a connection, and has the hand end.
-fn serve_stream<R: Threads + Wait + Clock + Sync, H: Ends + Send, O: Offices + Sync>(
-    rt: &R,
+// What serves connections: where they come from, the hands that are free, and the objects.
+#[derive(Drop)]
+struct Sessions<'a, R, H: Hand + Drop, O, D> {
+    rt: &'a R,
     alloc: Global,
-    stream: TcpStream,
-    bell: &Bell,
-    hand: H,
-    offices: &O,
-) -> Came<H> {
-    prepare(&stream);
-    let writer = match stream.try_clone() {
-        Ok(writer) => writer,
-        Err(error) => return Came::Fault(fault_of(error)),
-    };
-    let connection = Connection {
-        reader: stream,
-        writer: Patient::new(writer, bell),
-    };
-    let end = serve_session(rt, alloc, connection, bell, offices, hand);
-    Came::Session(left_of(end))
+    door: &'a D,
+    free: &'a Receiver<H>,
+    offices: &'a O,
 }
 
-// Takes a connection and serves it with the next hand. `None`: no more are taken.
-fn serve_next<R: Threads + Wait + Clock + Sync, H: Ends + Send, O: Offices + Sync, D: Door>(
-    rt: &R,
-    alloc: Global,
-    door: &D,
-    hands: &Receiver<H>,
-    offices: &O,
-) -> Option<Came<H>> {
-    let Ok(hand) = hands.recv(rt) else {
-        return None;
-    };
-    match door.accept() {
-        Ok(Some(stream)) => Some(serve_stream(rt, alloc, stream, door.bell(), hand, offices)),
-        Ok(None) => None,
-        Err(error) => Some(Came::Fault(fault_of(error))),
+impl<R: Threads + Wait + Clock + Sync, H: Ends + Send, O: Offices + Sync, D: Door> Sessions<
+    '_,
+    R,
+    H,
+    O,
+    D,
+> {
+    // Serves a connection with this hand, and has the hand end.
+    fn serve(&self, stream: TcpStream, hand: H) -> SessionResult<H> {
+        prepare(&stream);
+        let writer = match stream.try_clone() {
+            Ok(writer) => writer,
+            Err(error) => return SessionResult::Fault(fault_of(error)),
+        };
+        let bell = self.door.bell();
+        let connection = Connection {
+            reader: stream,
+            writer: Patient::new(writer, bell),
+        };
+        let end = serve_session(self.rt, self.alloc, connection, bell, self.offices, hand);
+        SessionResult::Session(left_of(end))
+    }
+
+    // Takes a connection and serves it with the next hand. `None`: no more are taken.
+    fn next(&self) -> Option<SessionResult<H>> {
+        let Ok(hand) = self.free.recv(self.rt) else {
+            return None;
+        };
+        match self.door.accept() {
+            Ok(Some(stream)) => Some(self.serve(stream, hand)),
+            Ok(None) => None,
+            Err(error) => Some(SessionResult::Fault(fault_of(error))),
+        }
+    }
+
+    // Takes a connection, serves it with the next hand, and puts what came of it to the others. Where no more are taken,
+    // it does nothing.
+    fn put_next<B: TakesResults<SessionResult<H>>>(&self, results: &B) {
+        if let Some(came) = self.next() {
+            results.put(self.rt, came);
+        }
     }
 }
 
-// Takes a connection, serves it with the next hand, and puts what came of it to the others. Where no more are taken, it
-// does nothing.
-fn serve_into<
-    R: Threads + Wait + Clock + Sync,
-    H: Ends + Send,
-    O: Offices + Sync,
-    D: Door,
-    B: Basket<Came<H>>,
->(rt: &R, alloc: Global, door: &D, hands: &Receiver<H>, offices: &O, basket: &B) {
-    if let Some(came) = serve_next(rt, alloc, door, hands, offices) {
-        basket.put(rt, came);
-    }
-}
-
-// So many hands that are free, each of which a session takes.
-struct Free<'a, H: Hand + Drop> {
-    count: usize,
-    hands: &'a Receiver<H>,
-}
-
-// Takes and serves a connection for each hand, each in a thread of its own where these can be made, and else one after
-// another, and returns when all have ended.
-fn serve_each<
+// Takes and serves so many connections, each in a thread of its own where these can be made, and else one after another,
+// and returns when all have ended.
+fn put_each<
     R: Threads + Wait + Clock + Sync,
     H: Ends + Send,
     O: Offices + Sync,
     D: Door + Sync,
-    B: Basket<Came<H>> + Sync,
->(rt: &R, alloc: Global, door: &D, free: Free<'_, H>, offices: &O, basket: &B) {
-    let Free { count, hands } = free;
+    B: TakesResults<SessionResult<H>> + Sync,
+>(sessions: &Sessions<'_, R, H, O, D>, count: usize, results: &B) {
+    let Sessions {
+        rt,
+        alloc,
+        door,
+        free,
+        offices,
+    } = *sessions;
     // A refusal of memory comes only once all have ended, and takes nothing from what they left.
     let _ended = thread::map_indices(
         rt,
         alloc,
         count,
-        &|_part| serve_into(rt, alloc, door, hands, offices, basket),
+        &|_part| {
+            let session = Sessions {
+                rt,
+                alloc,
+                door,
+                free,
+                offices,
+            };
+            session.put_next(results)
+        },
     );
 }
 
@@ -204,19 +213,28 @@ pub fn serve_all<
     H: Ends + Send,
     O: Offices + Sync,
     D: Door + Sync,
->(rt: &R, alloc: Global, door: &D, hands: Vec<H>, offices: &O) -> Result<Vec<Came<H>>, AllocError> {
-    let sessions = hands.len();
-    let leavings = Leavings::with_room(alloc, sessions)?;
+>(
+    rt: &R,
+    alloc: Global,
+    door: &D,
+    hands: Vec<H>,
+    offices: &O,
+) -> Result<Vec<SessionResult<H>>, AllocError> {
+    let count = hands.len();
+    let results = Results::with_room(alloc, count)?;
     let (to, free) = crossbeam_channel::unbounded(alloc)?;
     for hand in hands {
         if to.send(rt, hand).is_err() {
             return Err(AllocError);
         }
     }
-    let free = Free {
-        count: sessions,
-        hands: &free,
+    let sessions = Sessions {
+        rt,
+        alloc,
+        door,
+        free: &free,
+        offices,
     };
-    serve_each(rt, alloc, door, free, offices, &leavings);
-    Ok(leavings.into_all())
+    put_each(&sessions, count, &results);
+    Ok(results.into_all())
 }

@@ -6,10 +6,11 @@ ghost use Rattle.std.specs.Arc.{arc_value};
 ghost use Rattle.page_core.specs.Numbers.{AreBetween};
 ghost use Rattle.page_core.specs.Deeds.{RemovesAll};
 ghost use Rattle.serve_core.specs.Handled.{IsHandled};
-ghost use Rattle.keep_core.specs.Moments.{moment_of};
+ghost use Rattle.serve_core.specs.Moments.{moment_of};
 ghost use Rattle.serve_core.specs.Runs.{IsRunOf, IsRunIn, IsRefusedBy, IsRun, IsEndBehind};
 ghost use Rattle.serve_core.specs.Tidies.{TidiesValues};
 
+use crate::close::Closing;
 use crate::gate::Gate;
 use crate::host::Host;
 use check_core::judge::{JudgedSource, judge};
@@ -20,7 +21,6 @@ use device_core::dir_shelf::{DirShelf, ShelfKind};
 use device_core::hand::Hand;
 use device_core::numbers::Numbers;
 use device_core::shelf::Shelf;
-use keep_core::close::Closing;
 use page_core::clear::{move_left, remove_between};
 use page_core::found::FoundFiles;
 use page_core::values::{DirValues, Values};
@@ -31,7 +31,7 @@ use std::rt::Files;
 use std::sync::{Arc, Wait};
 use std::thread::Threads;
 use std::time::Clock;
-use text_core::{LinesFault, write_whole};
+use value_core::{LinesFault, write_whole};
 
 /// Where a server keeps its files, and the hands of its sessions: it takes a connection for each.
 #[derive(Drop)]
@@ -91,90 +91,84 @@ struct ValueFiles<V: Values + Drop> {
     numbers: Arc<Numbers>,
 }
 
-// Moves the value files aside that an earlier run left, serves objects that are accepted, and removes the value files of
-// this run where nothing hangs on them any more.
-fn serve_over<
-    R: Threads + Wait + Clock + Sync,
-    S: Shelf + Drop,
-    T: Shelf + Drop,
-    K: Hand + Drop,
-    V: Values + Drop,
-    H: Ends + Send,
-    W: Write,
-    E: Write,
->(
-    rt: &R,
-    ready: Vec<Accepted>,
-    host: &mut Host<S, T, K, H>,
-    files: &mut ValueFiles<V>,
-    gate: &Gate,
-    writer: &mut W,
-    error: &mut E,
-) -> Result<ServeEnd, LinesFault>
-    ensures run { IsRunIn H.agrees (moment_of S.holds T.holds K.agrees host.old.closing (W.contents writer.old))
-        (moment_of S.holds T.holds K.agrees host.new.closing (W.contents writer.new)) host.old.hands.items
-        host.new.hands.items ready.items result }
-    // Those that were found are moved, and of this run's own none is removed where an object was not saved and traced.
-    ensures files { TidiesValues V.does files.old.values files.old.found.numbers (arc_value files.old.numbers)
-        host.new.closing.keeps_all result files.new.values }
-{
-    match move_left(&mut files.values, host.alloc, files.found.numbers(), error) {
-        Ok(_) => {}
-        Err(_) => return Err(LinesFault::Memory),
-    }
-    let ended = host.run(rt, ready, gate, writer, error);
-    if host.closing.keeps_all {
-        remove_own(&mut files.values, host.alloc, &files.numbers, ended)
-    } else {
-        ended
+impl<S: Shelf + Drop, T: Shelf + Drop, K: Hand + Drop, H: Ends + Send> Host<S, T, K, H> {
+    // Moves the value files aside that an earlier run left, serves objects that are accepted, and removes the value
+    // files of this run where nothing hangs on them any more.
+    fn run_in<R: Threads + Wait + Clock + Sync, V: Values + Drop, W: Write, E: Write>(
+        &mut self,
+        rt: &R,
+        ready: Vec<Accepted>,
+        files: &mut ValueFiles<V>,
+        gate: &Gate,
+        writer: &mut W,
+        error: &mut E,
+    ) -> Result<ServeEnd, LinesFault>
+        ensures run { IsRunIn H.agrees (moment_of S.holds T.holds K.agrees self.old.closing (W.contents writer.old))
+            (moment_of S.holds T.holds K.agrees self.new.closing (W.contents writer.new)) self.old.hands.items
+            self.new.hands.items ready.items result }
+        // Those that were found are moved, and of this run's own none is removed where an object was not saved and traced.
+        ensures files { TidiesValues V.does files.old.values files.old.found.numbers (arc_value files.old.numbers)
+            self.new.closing.keeps_all result files.new.values }
+    {
+        match move_left(&mut files.values, self.alloc, files.found.numbers(), error) {
+            Ok(_) => {}
+            Err(_) => return Err(LinesFault::Memory),
+        }
+        let ended = self.run(rt, ready, gate, writer, error);
+        if self.closing.keeps_all {
+            remove_own(&mut files.values, self.alloc, &files.numbers, ended)
+        } else {
+            ended
+        }
     }
 }
 
-// Serves objects that are accepted, over a folder.
-fn serve_ready<
-    R: Files + AllocGlobal + Threads + Wait + Clock + Clone + Drop + Sync,
-    H: Ends + Send,
-    W: Write,
-    E: Write,
->(
-    rt: &R,
-    ready: Vec<Accepted>,
-    place: ServerFolder<H>,
-    gate: &Gate,
-    writer: &mut W,
-    error: &mut E,
-) -> Result<ServeEnd, LinesFault>
-where
-    R::File: FileExt,
-    ensures { IsRunOf H.agrees ready.items result (W.contents writer.old) (W.contents writer.new) }
-{
-    let alloc = rt.alloc();
-    let ServerFolder {
-        folder,
-        found,
-        numbers,
-        hands,
-    } = place;
-    let folder = folder.as_str();
-    let closing = match closing_in(rt, alloc, folder, &numbers) {
-        Ok(closing) => closing,
-        Err(_) => return Err(LinesFault::Memory),
-    };
-    let values = match values_in(rt, folder) {
-        Ok(values) => values,
-        Err(_) => return Err(LinesFault::Memory),
-    };
-    let mut files = ValueFiles {
-        values,
-        found,
-        numbers,
-    };
-    let mut host = Host {
-        alloc,
-        closing,
-        hands,
-    };
-    serve_over(rt, ready, &mut host, &mut files, gate, writer, error)
+impl<H: Ends + Send> ServerFolder<H> {
+    // Serves objects that are accepted, over this folder.
+    fn serve<
+        R: Files + AllocGlobal + Threads + Wait + Clock + Clone + Drop + Sync,
+        W: Write,
+        E: Write,
+    >(
+        self,
+        rt: &R,
+        ready: Vec<Accepted>,
+        gate: &Gate,
+        writer: &mut W,
+        error: &mut E,
+    ) -> Result<ServeEnd, LinesFault>
+    where
+        R::File: FileExt,
+        ensures { IsRunOf H.agrees ready.items result (W.contents writer.old) (W.contents writer.new) }
+    {
+        let alloc = rt.alloc();
+        let ServerFolder {
+            folder,
+            found,
+            numbers,
+            hands,
+        } = self;
+        let folder = folder.as_str();
+        let closing = match closing_in(rt, alloc, folder, &numbers) {
+            Ok(closing) => closing,
+            Err(_) => return Err(LinesFault::Memory),
+        };
+        let values = match values_in(rt, folder) {
+            Ok(values) => values,
+            Err(_) => return Err(LinesFault::Memory),
+        };
+        let mut files = ValueFiles {
+            values,
+            found,
+            numbers,
+        };
+        let mut host = Host {
+            alloc,
+            closing,
+            hands,
+        };
+        host.run_in(rt, ready, &mut files, gate, writer, error)
+    }
 }
 
 /// Writes why nothing is served.
@@ -252,7 +246,7 @@ where
 {
     match judge(rt.alloc(), source) {
         Ok(JudgedSource::Told(text)) => tell_refused(&text, writer),
-        Ok(JudgedSource::Ready(ready)) => serve_ready(rt, ready, place, gate, writer, error),
+        Ok(JudgedSource::Ready(ready)) => place.serve(rt, ready, gate, writer, error),
         Err(_) => Err(LinesFault::Memory),
     }
 }

@@ -2,11 +2,11 @@
 use Rattle.std.proofs.Common.{◌≡◌, ◌∙◌, refl, ap, sym, subst, inl, inr, ℕ, List, [], ◌∷◌, ◌++◌, Option, Some, None}
 use Rattle.std.specs.Prelude.{Ok}
 use Rattle.value_core.specs.declared.datum.Datum.{Datum}
-use Rattle.call_core.specs.declared.ticket.Ticket.{Ticket as Admitted}
-use Rattle.call_core.specs.Tickets.{ticket_call}
-use Rattle.call_core.specs.Calls.{Call}
-use Rattle.call_core.specs.declared.outcome.Outcome.{Outcome}
-use Rattle.call_core.specs.Outcomes.{outcome_call, TellsSame}
+use Rattle.page_core.specs.declared.ticket.Ticket.{Ticket as Admitted}
+use Rattle.page_core.specs.Tickets.{ticket_call}
+use Rattle.page_core.specs.CallPins.{Call}
+use Rattle.page_core.specs.declared.outcome.Outcome.{Outcome}
+use Rattle.page_core.specs.Outcomes.{outcome_call, TellsSame}
 use Rattle.board_core.specs.Board.{Board}
 use Rattle.board_core.specs.Sound.{IsSound}
 use Rattle.board_core.specs.Answers.{Asked, HasName}

@@ -3,11 +3,11 @@ use Rattle.std.proofs.Common.{◌≡◌, ◌∙◌, ap, sym, subst, List}
 use Rattle.std.specs.Prelude.{Result, Ok, Err}
 use Rattle.device_core.specs.Device.{Assignment}
 use Rattle.apply_core.specs.declared.reply.Reply.{Reply}
-use Rattle.call_core.specs.Calls.{Call}
-use Rattle.call_core.specs.Truths.{IsTrueOf}
+use Rattle.page_core.specs.CallPins.{Call}
+use Rattle.page_core.specs.Truths.{IsTrueOf}
 use Rattle.page_core.specs.PartPins.{PartPin}
-use Rattle.call_core.specs.declared.outcome.Outcome.{Outcome}
-use Rattle.call_core.specs.Outcomes.{outcome_call, outcome_reply, outcome_news, if_done, TellsSame}
+use Rattle.page_core.specs.declared.outcome.Outcome.{Outcome}
+use Rattle.page_core.specs.Outcomes.{outcome_call, outcome_reply, outcome_news, if_done, TellsSame}
 use Rattle.board_core.specs.declared.answer.Finished.{Finished}
 use Rattle.office_core.specs.declared.client_seat.Seat.{Seat}
 use Rattle.office_core.specs.declared.seat.NotTaken.{NotTaken}

@@ -5,11 +5,11 @@ use Rattle.device_core.specs.declared.hand.Stamp.{Stamp}
 use Rattle.device_core.specs.Made.{Made}
 use Rattle.device_core.specs.Retired.{Left, RetiresAll, files_left}
 use Rattle.page_core.specs.Calls.{AreMade}
-use Rattle.call_core.specs.declared.ticket.Ticket.{Ticket as Admitted}
-use Rattle.call_core.specs.Tickets.{ticket_call}
-use Rattle.call_core.specs.Calls.{Call}
-use Rattle.call_core.specs.declared.outcome.Outcome.{Outcome}
-use Rattle.call_core.specs.Outcomes.{outcome_call, outcome_reply, outcome_sealed}
+use Rattle.page_core.specs.declared.ticket.Ticket.{Ticket as Admitted}
+use Rattle.page_core.specs.Tickets.{ticket_call}
+use Rattle.page_core.specs.CallPins.{Call}
+use Rattle.page_core.specs.declared.outcome.Outcome.{Outcome}
+use Rattle.page_core.specs.Outcomes.{outcome_call, outcome_reply, outcome_sealed}
 use Rattle.run_core.specs.AtOnce.{RunsAtOnce}
 use Rattle.board_core.specs.declared.answer.Finished.{Finished}
 use Rattle.office_core.specs.declared.client_seat.Seat.{Seat}

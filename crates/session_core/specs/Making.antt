@@ -1,7 +1,7 @@
 -- The calls that a session makes.
 use Rattle.std.specs.Prelude.{⊤, ◌≡◌, ◌⊎◌, ℕ, List, [], ◌∷◌, ◌++◌, Option, Some, None, Ok}
 use Rattle.value_core.specs.declared.datum.Datum.{Datum}
-use Rattle.call_core.specs.Calls.{Call}
+use Rattle.page_core.specs.CallPins.{Call}
 use Rattle.board_core.specs.Board.{Board}
 use Rattle.board_core.specs.Sound.{IsSound}
 use Rattle.board_core.specs.Answers.{Asked, HasName}

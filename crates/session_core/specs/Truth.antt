@@ -1,9 +1,9 @@
 -- The truth of receipts, by a device.
 use Rattle.std.specs.Prelude.{List}
 use Rattle.device_core.specs.Device.{Assignment}
-use Rattle.call_core.specs.declared.outcome.Outcome.{Outcome}
-use Rattle.call_core.specs.Outcomes.{outcome_call, outcome_reply, outcome_pins}
-use Rattle.call_core.specs.Truths.{IsTrueOf}
+use Rattle.page_core.specs.declared.outcome.Outcome.{Outcome}
+use Rattle.page_core.specs.Outcomes.{outcome_call, outcome_reply, outcome_pins}
+use Rattle.page_core.specs.Truths.{IsTrueOf}
 use Rattle.board_core.specs.Lists.{Every}
 use Rattle.office_core.specs.Slips.{Told, IsTrueTold}
 

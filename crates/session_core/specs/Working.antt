@@ -5,8 +5,8 @@ use Rattle.device_core.specs.Device.{Assignment}
 use Rattle.device_core.specs.Made.{Made}
 use Rattle.device_core.specs.Retired.{Left, RetiresAll}
 use Rattle.page_core.specs.Calls.{AreMade}
-use Rattle.call_core.specs.declared.outcome.Outcome.{Outcome}
-use Rattle.call_core.specs.Outcomes.{outcome_call, outcome_reply, outcome_sealed}
+use Rattle.page_core.specs.declared.outcome.Outcome.{Outcome}
+use Rattle.page_core.specs.Outcomes.{outcome_call, outcome_reply, outcome_sealed}
 use Rattle.run_core.specs.AtOnce.{RunsAtOnce}
 use Rattle.board_core.specs.declared.answer.Finished.{Finished}
 use Rattle.office_core.specs.declared.client_seat.Seat.{Seat}

@@ -14,7 +14,7 @@ use session_text::line::{AnyLine, push_line};
 use std::alloc::{AllocError, Global};
 use std::marker::Model;
 use std::mem;
-use text_core::limits::MOST_TEXT_BYTES;
+use value_core::limits::MOST_TEXT_BYTES;
 
 /// Room for the longest line that is written of a call, in bytes, twice over.
 const LINE_ROOM: usize = 4096;

@@ -6,7 +6,7 @@ ghost use Rattle.session_core.specs.Notes.{note_at};
 use apply_core::reply::Reply;
 use apply_core::short::Short;
 use std::alloc::{AllocError, Global};
-use text_core::limits::MOST_TEXT_BYTES;
+use value_core::limits::MOST_TEXT_BYTES;
 
 /// The number and the reply of a last line.
 #[derive(Drop)]

@@ -13,7 +13,7 @@ use crate::stage::{SessionStage, is_same, is_shut};
 use std::alloc::Global;
 use std::io::Write;
 use std::marker::{Brand, Model, PhantomData};
-use text_core::write_whole;
+use value_core::write_whole;
 
 /// What a writer held when its session began. Each session picks it.
 pub trait Start {

@@ -63,7 +63,7 @@ fn ended<R: Wait, W: Drop, H: Drop, O: Offices>(
         receipts,
         room: _,
         free: _,
-        late: _,
+        deadline: _,
         fault: met,
     } = worked;
     let fault = conclude(&receipts, notes, health, met);

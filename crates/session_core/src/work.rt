@@ -4,8 +4,8 @@ ghost use Rattle.std.specs.Prelude.{◌≡◌, ◌<◌, ◌++◌, ◌∷◌, [],
 ghost use Rattle.std.specs.Vec.{vec_len, vec_capacity};
 ghost use Rattle.board_core.specs.Board.{Board};
 ghost use Rattle.board_core.specs.Sound.{IsSound};
-ghost use Rattle.call_core.specs.Tickets.{ticket_call};
-ghost use Rattle.call_core.specs.Outcomes.{outcome_call, TellsSame};
+ghost use Rattle.page_core.specs.Tickets.{ticket_call};
+ghost use Rattle.page_core.specs.Outcomes.{outcome_call, TellsSame};
 ghost use Rattle.office_core.specs.Rooms.{IsMade};
 ghost use Rattle.board_core.specs.Answers.{HasName};
 ghost use Rattle.board_core.specs.Keyed.{IsStateOf};
@@ -26,16 +26,16 @@ use crate::order::Offices;
 use crate::output::Start;
 use crate::room::make_room_in;
 use board_core::answer::{CallState, EarlierCall, Finished};
-use call_core::outcome::Outcome;
-use call_core::ticket::Ticket;
 use device_core::hand::{Hand, Stamp};
 use device_core::retire::retire_all;
 use guest_core::answer::SubmitFault;
-use office_core::late::Late;
+use office_core::deadline::Deadline;
 use office_core::office::Office;
 use office_core::room::SlipRoom;
 use office_core::seat::{Seat, Started, Submitted, Tried};
 use office_core::slip::Slip;
+use page_core::outcome::Outcome;
+use page_core::ticket::Ticket;
 use path_tree::name::Name;
 use run_core::at_once::run_at_once;
 use session_text::ear::Heard;
@@ -76,7 +76,7 @@ pub(crate) struct Worked<H: Drop> {
     // files that nobody reads any more, not yet retired
     pub(crate) free: Vec<Stamp>,
     // how long lines are held back while calls wait
-    pub(crate) late: Late,
+    pub(crate) deadline: Deadline,
     // what ended the hearing, where it was a fault
     pub(crate) fault: Option<HearFault>,
 }
@@ -156,7 +156,7 @@ fn ask<R: Wait, I: Read + Drop, W: Write + Drop, J: Start>(
 // waited for that does not start soon, the lines that are held back are sent, by the third thread.
 fn started<R: Wait + Clock, I: Read + Drop, W: Write + Drop, J: Start>(
     service: Service<'_, R, Office, W, J>,
-    late: &mut Late,
+    deadline: &mut Deadline,
     seat: &Seat,
     reading: &mut ReadingSide<'_, I>,
     tried: Tried,
@@ -169,13 +169,13 @@ fn started<R: Wait + Clock, I: Read + Drop, W: Write + Drop, J: Start>(
         Tried::Stranger(back) => return awaited(service.rt, service.by, back),
         Tried::Waiting(back) => back,
     };
-    let most = late.left(service.rt);
+    let most = deadline.left(service.rt);
     match service.by.try_start_within(service.rt, waiting, most) {
         Tried::Ticket(ticket) => Some(ticket),
         Tried::Cancelled => None,
         Tried::Waiting(back) => {
             ask(service, reading);
-            late.reset();
+            deadline.reset();
             awaited_beside(service.rt, service.by, seat, reading, back)
         }
         Tried::Stranger(back) => awaited(service.rt, service.by, back),
@@ -186,18 +186,21 @@ fn started<R: Wait + Clock, I: Read + Drop, W: Write + Drop, J: Start>(
 // lines that stand ready are sent after a while, before it is submitted.
 fn submitted<R: Wait + Clock, W: Write + Drop, J: Start>(
     service: Service<'_, R, Office, W, J>,
-    late: &mut Late,
+    deadline: &mut Deadline,
     seat: &mut Seat,
     op: &str,
     args: &[Datum],
 ) -> Result<(u32, Tried), SubmitFault>
     ensures { IfOk result (λ r. (s : Ask) × Asks op.now args.now s × (r.0 ≡ s.number) × Tells s r.1) }
 {
-    if let Some(answer) = service.by.submit_in_turn(service.rt, seat, op, args, late) {
+    if let Some(answer) = service
+        .by
+        .submit_in_turn(service.rt, seat, op, args, deadline)
+    {
         return answer;
     }
     flush(service, seat);
-    late.reset();
+    deadline.reset();
     service.by.submit_and_try(service.rt, seat, op, args)
 }
 
@@ -247,7 +250,7 @@ fn say<R: Wait, P, W: Write + Drop, J: Start>(service: Service<'_, R, P, W, J>, 
 // call does not start.
 fn begun<R: Wait + Clock, I: Read + Drop, W: Write + Drop, J: Start>(
     service: Service<'_, R, Office, W, J>,
-    late: &mut Late,
+    deadline: &mut Deadline,
     reading: &mut ReadingSide<'_, I>,
     seat: &mut Seat,
     op: &str,
@@ -256,7 +259,7 @@ fn begun<R: Wait + Clock, I: Read + Drop, W: Write + Drop, J: Start>(
     ensures arguments { IfSome result (λ t. (ticket_call t).arguments ≡ args.now) }
     ensures named { IfSome result (λ t. HasName op.now (ticket_call t).operation) }
 {
-    let (number, tried) = match submitted(service, late, seat, op, args) {
+    let (number, tried) = match submitted(service, deadline, seat, op, args) {
         Ok(answer) => answer,
         Err(fault) => {
             say(service, ReplyLine::Unsubmitted(fault));
@@ -268,7 +271,7 @@ fn begun<R: Wait + Clock, I: Read + Drop, W: Write + Drop, J: Start>(
         Tried::Ticket(ticket) => return Some(ticket),
         other => other,
     };
-    let ticket = started(service, late, seat, reading, tried);
+    let ticket = started(service, deadline, seat, reading, tried);
     if ticket.is_none() {
         say(service, ReplyLine::Withdrawn(u64::from(number)));
     }
@@ -322,7 +325,7 @@ fn serve_at<R: Wait + Clock, I: Read + Drop, W: Write + Drop, H: Hand + Drop, J:
         say(service, ReplyLine::Unsubmitted(SubmitFault::Memory));
         return;
     }
-    let begun = begun(service, &mut worked.late, reading, seat, op, args);
+    let begun = begun(service, &mut worked.deadline, reading, seat, op, args);
     let Some(ticket) = begun else {
         return;
     };
@@ -581,7 +584,7 @@ fn rest<R: Wait, W: Write + Drop, H: Hand + Drop, J: Start, O: Offices>(
     ensures works { WorksOn H.makes worked.old.hand worked.old.free.items worked.new.hand worked.new.free.items }
 {
     let sent = service.mouth.flush(service.rt);
-    worked.late.reset();
+    worked.deadline.reset();
     retire_left(service.alloc, &mut worked.hand, &mut worked.free);
     sent
 }
@@ -714,7 +717,7 @@ pub(crate) fn work<
         receipts: Vec::new(alloc),
         room: SlipRoom::new(alloc),
         free: Vec::new(alloc),
-        late: Late::new(Duration::from_millis(BRIEF)),
+        deadline: Deadline::new(Duration::from_millis(BRIEF)),
         fault: None,
     };
     let mut reading = reading;

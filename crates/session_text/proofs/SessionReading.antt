@@ -1,7 +1,7 @@
 -- What a line asks for is what its words ask for.
 use Rattle.std.proofs.Common.{◌≡◌, ℕ, List, [], ◌∷◌, refl, sym, ap, ◌∙◌}
 use Rattle.std.specs.Prelude.{Option, Some, None, Result, Ok, Err, IfOk}
-use Rattle.text_core.specs.Words.{drop_spaces}
+use Rattle.value_core.specs.Spaces.{drop_spaces}
 use Rattle.word_core.specs.Words.{Word, AreWords}
 use Rattle.word_core.specs.Data.{at_end}
 use Rattle.word_core.specs.Reads.{Reads}

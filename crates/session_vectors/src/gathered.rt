@@ -2,19 +2,19 @@
 
 use crate::make::{CELL, ZERO, offices};
 use device_core::memory::MemHand;
-use keep_core::trouble::Trouble;
 use serve_core::backed::Backed;
 use serve_core::gather::Gathering;
-use serve_core::listen::{Came, Left};
+use serve_core::listen::{SessionLeavings, SessionResult};
+use serve_core::trouble::Trouble;
 use session_core::fault::SessionFault;
 use std::alloc::Global;
 use std::process::Abort;
 
 // A session of the object that ended so.
-fn ended(alloc: Global, hand: MemHand, fault: SessionFault) -> Came<MemHand> {
+fn ended(alloc: Global, hand: MemHand, fault: SessionFault) -> SessionResult<MemHand> {
     let receipts = Vec::new(alloc);
     let backed = Backed::new(receipts, hand);
-    Came::Session(Left {
+    SessionResult::Session(SessionLeavings {
         object: Some(0),
         seat: None,
         backed,

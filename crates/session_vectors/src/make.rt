@@ -1,7 +1,6 @@
 //! Offices of small objects, and sessions on them.
 
 use crate::streams::Told;
-use call_core::ticket::Ticket;
 use decl_core::analyse::{Accepted, analyse};
 use decl_core::object::Object;
 use decl_read::read::read_objects;
@@ -13,6 +12,7 @@ use office_core::office::Office;
 use office_core::seat::{Seat, Tried};
 use page_core::page_list::PageList;
 use page_core::pins::Pins;
+use page_core::ticket::Ticket;
 use path_tree::name::Name;
 use run_core::at_once::run_at_once;
 use session_core::end::SessionEnd;

@@ -7,3 +7,9 @@ pub mod Bridging
 pub mod Checking
 pub mod Counting
 pub mod Covering
+pub mod Allowing
+pub mod Beginning
+pub mod Lacking
+pub mod Ordering
+pub mod Refusing
+pub mod Telling

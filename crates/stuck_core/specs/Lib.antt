@@ -8,3 +8,12 @@ pub mod Waits
 pub mod Running
 pub mod Cover
 pub mod Tables
+pub mod List
+pub mod Who
+pub mod Why
+pub mod Begins
+pub mod ReasonViews
+pub mod Lacks
+pub mod ReasonLaws
+pub mod Reasons
+pub mod Tells

@@ -3,7 +3,7 @@ use Rattle.std.proofs.Common.{◌≡◌, ◌≢◌, ◌⊎◌, inl, inr, eqb, �
 use Rattle.std.specs.Prelude.{Bool, true, false, Option, Some, None, Result, IfSome, IfNone, IfOk, option_map, slice_get, if◌then◌else◌}
 use Rattle.std.specs.declared.alloc.AllocError.{AllocError}
 use Rattle.std.proofs.lemmas.Bool.Decides.{eqb_tells}
-use Rattle.text_core.specs.Runs.{NoLineFeed}
+use Rattle.value_core.specs.Runs.{NoLineFeed}
 use Rattle.std.proofs.lemmas.Option.{same_Some, slice_get-map}
 use Rattle.hosted_core.specs.Scene.{Scene}
 use Rattle.client_core.specs.declared.ask.Ask.{Ask}

@@ -2,7 +2,7 @@
 use Rattle.std.proofs.Common.{◌≡◌, ap, sym, subst, refl, arith, ℕ, zero, suc, ◌+◌, inl, inr, List, [], ◌∷◌, ◌++◌, append_assoc, append-nil, true≢false, not}
 use Rattle.std.specs.Prelude.{Bool, true, false, Option, Some, None, Result, Ok, Err, IfOk}
 use Rattle.std.specs.declared.alloc.AllocError.{AllocError}
-use Rattle.text_core.specs.Runs.{NoLineFeed}
+use Rattle.value_core.specs.Runs.{NoLineFeed}
 use Rattle.word_core.specs.Reads.{Reads}
 use Rattle.post_core.specs.Posts.{Tells, Does}
 use Rattle.post_core.specs.declared.post.Post.{Post}

@@ -1,7 +1,7 @@
 //! The connections of a table, as a contract sees them: each call says what becomes of the places.
 
 ghost use Rattle.std.specs.Prelude.{◌≡◌, ◌%◌, [], ℕ, true, false, List, Some, None, IfSome, IfNone, OnOk, OnErr, length, slice_get};
-ghost use Rattle.text_core.specs.Runs.{NoLineFeed};
+ghost use Rattle.value_core.specs.Runs.{NoLineFeed};
 ghost use Rattle.hosted_core.specs.Scene.{Scene};
 ghost use Rattle.client_core.specs.Held.{waits_of};
 ghost use Rattle.client_core.specs.Asked.{IsFor, Waits};

@@ -7,7 +7,7 @@ use Rattle.std.specs.FinMap as map
 use Rattle.std.proofs.lemmas.List.{take_more, flat_map_more}
 use Rattle.std.proofs.lemmas.Option.{slice_get_within, get_or_from_slice_get}
 use Rattle.value_core.specs.declared.datum.Datum.{Datum}
-use Rattle.text_core.specs.TextOrder.{text_cmp}
+use Rattle.value_core.specs.TextOrder.{text_cmp}
 use Rattle.value_core.specs.Rows.{as_data}
 use Rattle.value_bytes.specs.Spelling.{spelled_row}
 use Rattle.value_core.proofs.Tables.{in_order}

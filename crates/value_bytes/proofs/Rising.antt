@@ -13,7 +13,7 @@ use Rattle.std.proofs.lemmas.List.Elements.{All-cons, All-nil}
 use Rattle.value_core.specs.declared.format.Format.{Format}
 use Rattle.value_core.specs.declared.datum.Datum.{Datum}
 use Rattle.value_core.specs.declared.kind.Elem.{Elem}
-use Rattle.text_core.specs.TextOrder.{text_cmp}
+use Rattle.value_core.specs.TextOrder.{text_cmp}
 use Rattle.value_core.specs.Contents.{IsRowIn}
 use Rattle.value_bytes.specs.Spelling.{spelled_row_in, SpellRows, IsAfter}
 use Rattle.value_bytes.proofs.Apart.{row_apart, same_elements, next_element}

@@ -19,7 +19,7 @@ use Rattle.value_core.specs.Kinds.{sort_of}
 use Rattle.value_core.specs.Datum.{IsElementIn}
 use Rattle.value_core.specs.Contents.{Contents, array, queue, table, IsContentsIn, IsRowIn, AreElementsIn}
 use Rattle.value_bytes.specs.Spelling.{spelled_datum_in, spelled_row_in, code_of, header_in, spelling_in, SpellsIn, Spells, SpellRows}
-use Rattle.text_core.specs.TextOrder.{text_cmp}
+use Rattle.value_core.specs.TextOrder.{text_cmp}
 use Rattle.value_bytes.specs.Laws.{SpellingUnique, IntegersStandInPlace}
 use Rattle.std.proofs.Math.Seq.{drop-append-add}
 use Rattle.value_core.proofs.TableRows.{head, tail}

@@ -7,7 +7,7 @@ use Rattle.value_core.specs.declared.datum.Datum.TheVariants as datum
 use Rattle.value_core.specs.declared.kind.Elem.{Elem}
 use Rattle.value_core.specs.declared.format.Format.{Format}
 use Rattle.value_core.specs.declared.format.Format.TheVariants.{First, Second}
-use Rattle.text_core.specs.Plain.{IsText}
+use Rattle.value_core.specs.Plain.{IsText}
 use Rattle.value_core.specs.Format.{most_text, IsTextIn}
 use Rattle.value_core.specs.Datum.{IsDatumIn, IsDatum, IsElementIn, IsElement}
 use Rattle.value_core.specs.Contents.{Contents, array, queue, table, IsRowIn, IsRow, IsContentsIn, IsContents}

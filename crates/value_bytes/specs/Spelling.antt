@@ -16,7 +16,7 @@ use Rattle.value_core.specs.Limits.{most_elements}
 use Rattle.value_bytes.specs.Format.{number_of, spelled_length}
 use Rattle.value_core.specs.Contents.{Contents, array, queue, table, kind_of, IsContentsIn, IsRowIn}
 use Rattle.value_core.specs.Datum.{IsElementIn}
-use Rattle.text_core.specs.TextOrder.{text_cmp}
+use Rattle.value_core.specs.TextOrder.{text_cmp}
 
 -- a text is its length, and its bytes
 abbrev pub spelled_text_in : Format → List ℕ → List ℕ

@@ -12,7 +12,7 @@ ghost use Rattle.value_core.specs.Contents.{Contents, IsContentsIn};
 ghost use Rattle.value_bytes.specs.Spelling.{SpellsIn, Spells, SpellsInSome, SpellElements, SpellRows, IsAfter};
 ghost use Rattle.value_bytes.specs.Spelling.{header_in, IsCountOf, BeginsAsIn, BeginsAs};
 ghost use Rattle.value_core.specs.Rows.{rows_sort, rows_map};
-ghost use Rattle.text_core.specs.TextOrder.{text_cmp};
+ghost use Rattle.value_core.specs.TextOrder.{text_cmp};
 ghost use Rattle.std.specs.FinMap.{FinMap};
 ghost use Rattle.value_core.specs.Cells.{cells_sort, cells_data};
 ghost use Rattle.value_core.specs.Queue.{queue_sort, queue_data};
@@ -21,7 +21,6 @@ use crate::header::{format_byte, kind_byte};
 use crate::reader::{read_datum, read_header, read_integer, read_row, read_text};
 use std::alloc::{AllocError, Global};
 use std::cmp::Ordering;
-use text_core::text::Text;
 use thiserror::Error;
 use value_core::cells::Cells;
 use value_core::format::Format;
@@ -29,6 +28,7 @@ use value_core::kind::{Elem, Kind};
 use value_core::limits::MOST_ELEMENTS;
 use value_core::queue::Queue;
 use value_core::rows::Rows;
+use value_core::text::Text;
 use value_core::value::{Body, Value};
 
 /// Why bytes gave no value.

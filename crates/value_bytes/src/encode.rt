@@ -13,12 +13,12 @@ use crate::queue::put_queue;
 use crate::room::spelled_len;
 use crate::rows::put_rows;
 use std::alloc::{AllocError, Global};
-use text_core::limits::TextLength;
-use text_core::row::Row;
-use text_core::text::Text;
 use value_core::cells::Cells;
 use value_core::format::Format;
 use value_core::kind::Kind;
+use value_core::limits::TextLength;
+use value_core::row::Row;
+use value_core::text::Text;
 use value_core::value::{Body, Value};
 
 /// The bytes that spell the value, in the second format.

@@ -9,8 +9,8 @@ ghost use Rattle.value_bytes.specs.Spelling.{spelled_datum};
 use crate::encode::{put_integer, put_row};
 use std::alloc::AllocError;
 use std::collections::VecDeque;
-use text_core::row::Row;
 use value_core::queue::Queue;
+use value_core::row::Row;
 
 /// Adds the bytes of the elements, the oldest first.
 pub fn put_queue(queue: &Queue, out: &mut Vec<u8>) -> Result<(), AllocError>

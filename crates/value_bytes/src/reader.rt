@@ -11,11 +11,11 @@ ghost use Rattle.value_core.specs.Contents.{IsRowIn};
 ghost use Rattle.value_bytes.specs.Spelling.{spelled_text_in, spelled_datum_in, spelled_row_in};
 
 use crate::header::format_byte;
-use text_core::limits::TextLength;
-use text_core::text::Text;
 use value_core::datum::Datum;
 use value_core::format::Format;
 use value_core::kind::Elem;
+use value_core::limits::TextLength;
+use value_core::text::Text;
 
 /// The byte of the kind, and the number of elements.
 pub fn read_header(format: Format, bytes: &[u8]) -> Option<(u8, u16, &[u8])>

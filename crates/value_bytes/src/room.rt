@@ -2,12 +2,12 @@
 
 use crate::header::HEADER_BYTES;
 use std::mem::size_of;
-use text_core::limits::TextLength;
-use text_core::row::Row;
-use text_core::text::Text;
 use value_core::cells::Cells;
+use value_core::limits::TextLength;
 use value_core::queue::Queue;
+use value_core::row::Row;
 use value_core::rows::Rows;
+use value_core::text::Text;
 use value_core::value::{Body, Value};
 
 /// How many bytes spell the value.

@@ -9,7 +9,7 @@ ghost use Rattle.value_bytes.specs.Spelling.{spelled_row};
 
 use crate::encode::{put_integer, put_row};
 use std::alloc::AllocError;
-use text_core::row::Row;
+use value_core::row::Row;
 use value_core::rows::Rows;
 
 /// Adds the bytes of the rows, keys rising.

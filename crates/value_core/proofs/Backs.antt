@@ -9,7 +9,7 @@ use Rattle.std.specs.Cmp.Lexicographic.{nat_list_cmp_total}
 use Rattle.std.specs.FinMap as map
 use Rattle.std.specs.FinMap.{get-insert, get-remove, len-insert, put, same_map}
 use Rattle.value_core.specs.declared.datum.Datum.{Datum}
-use Rattle.text_core.specs.TextOrder.{text_cmp}
+use Rattle.value_core.specs.TextOrder.{text_cmp}
 use Rattle.value_core.specs.declared.datum.Datum.TheVariants as datum
 use Rattle.value_core.specs.declared.kind.Elem.{Elem}
 use Rattle.value_core.specs.declared.kind.Elem.TheVariants as elem

@@ -6,3 +6,9 @@ pub mod Listing
 pub mod Outcomes
 pub mod Backs
 pub mod Undone
+pub mod Padding
+pub mod Cutting
+pub mod Reading
+pub mod Known
+pub mod Whole
+pub mod Spaces

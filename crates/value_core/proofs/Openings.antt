@@ -8,9 +8,9 @@ use Rattle.value_core.specs.Limits.{most_elements}
 use Rattle.value_core.specs.declared.datum.Datum.{Datum}
 use Rattle.value_core.specs.declared.kind.Elem.{Elem}
 use Rattle.value_core.specs.declared.kind.Elem.TheVariants as elem
-use Rattle.text_core.specs.Plain.{IsText}
+use Rattle.value_core.specs.Plain.{IsText}
 use Rattle.value_core.specs.Datum.{zero_of, IsElement}
-use Rattle.text_core.specs.TextOrder.{text_cmp}
+use Rattle.value_core.specs.TextOrder.{text_cmp}
 use Rattle.value_core.specs.Contents.{AreElements, AreRows, IsRow}
 use Rattle.value_core.proofs.Tables.{none_of}
 

@@ -18,7 +18,7 @@ use Rattle.std.proofs.lemmas.List.Elements.{All-cons}
 use Rattle.value_core.specs.Limits.{most_elements}
 use Rattle.value_core.specs.declared.datum.Datum.{Datum}
 use Rattle.value_core.specs.declared.kind.Elem.{Elem}
-use Rattle.text_core.specs.TextOrder.{text_cmp}
+use Rattle.value_core.specs.TextOrder.{text_cmp}
 use Rattle.value_core.specs.Rows.{as_data}
 use Rattle.value_core.specs.Contents.{IsRow, AreRows}
 use Rattle.value_core.proofs.Tables.{in_order}

@@ -10,7 +10,7 @@ use Rattle.value_core.specs.declared.format.Format.{Format}
 use Rattle.value_core.specs.declared.format.Format.TheVariants.{Second}
 use Rattle.value_core.specs.Format.{IsTextIn}
 use Rattle.value_core.specs.Datum.{IsElementIn}
-use Rattle.text_core.specs.TextOrder.{text_cmp}
+use Rattle.value_core.specs.TextOrder.{text_cmp}
 
 -- an array and a queue (its oldest first) are lists, a table is a finite map from texts
 pub data Contents : Type 0 where

@@ -1,7 +1,7 @@
 -- The room that the layouts of the bytes of a value have.
 use Rattle.std.specs.Prelude.{ℕ, List}
-use Rattle.text_core.specs.Limits.{most_text_bytes}
-use Rattle.text_core.specs.Plain.{IsTextUpTo}
+use Rattle.value_core.specs.Limits.{most_text_bytes}
+use Rattle.value_core.specs.Plain.{IsTextUpTo}
 use Rattle.value_core.specs.declared.format.Format.{Format}
 use Rattle.value_core.specs.declared.format.Format.TheVariants.{First, Second}
 

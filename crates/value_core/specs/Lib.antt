@@ -12,3 +12,11 @@ pub mod Body
 pub mod Code
 pub mod Kinds
 pub mod Undo
+pub mod Plain
+pub mod Text
+pub mod TextOrder
+pub mod Runs
+pub mod Ends
+pub mod Reply
+pub mod Sent
+pub mod Spaces

@@ -7,7 +7,7 @@ use Rattle.value_core.specs.declared.kind.Elem.{Elem}
 use Rattle.value_core.specs.declared.kind.Elem.TheVariants as elem
 use Rattle.value_core.specs.declared.rows.Rows.{Rows}
 use Rattle.value_core.specs.declared.rows.Rows.TheVariants.{Integers, Texts}
-use Rattle.text_core.specs.TextOrder.{text_cmp}
+use Rattle.value_core.specs.TextOrder.{text_cmp}
 
 -- which sort its elements are
 abbrev pub rows_sort : Rows → Elem

@@ -3,8 +3,8 @@ use Rattle.std.specs.Prelude.{◌≡◌, ⊤, ◌-◌, ◌&&◌, nat_lt, Bool, t
 use Rattle.std.specs.Prelude.{take, slice_set, vec_capacity, Result, Ok, Err, IsOk}
 use Rattle.std.specs.VecDeque.{deque_capacity}
 use Rattle.std.specs.FinMap as map
-use Rattle.text_core.specs.Plain.{IsText}
-use Rattle.text_core.specs.TextOrder.{text_cmp}
+use Rattle.value_core.specs.Plain.{IsText}
+use Rattle.value_core.specs.TextOrder.{text_cmp}
 use Rattle.value_core.specs.declared.datum.Datum.{Datum}
 use Rattle.value_core.specs.declared.datum.Datum.TheVariants as datum
 use Rattle.value_core.specs.declared.kind.Elem.{Elem}

@@ -8,10 +8,10 @@ ghost use Rattle.value_core.specs.Cells.{cells_sort, cells_data};
 
 use crate::datum::Datum;
 use crate::kind::Elem;
+use crate::row::Row;
+use crate::text::Text;
 use crate::undo::{Kept, Undo};
 use std::alloc::{AllocError, Global};
-use text_core::row::Row;
-use text_core::text::Text;
 
 /// The elements of an array.
 #[derive(Drop)]

@@ -4,7 +4,7 @@ ghost use Rattle.std.specs.Prelude.{◌≡◌, ◌↔◌, IsTrue};
 ghost use Rattle.value_core.specs.Datum.{elem_of, IsDatum};
 
 use crate::kind::Elem;
-use text_core::text::Text;
+use crate::text::Text;
 
 /// An integer or a text. It is copied without memory.
 #[derive(Clone, Copy, Debug, PartialEq, Eq)]

@@ -11,10 +11,10 @@ ghost use Rattle.std.specs.VecDeque.{deque_capacity};
 use crate::datum::Datum;
 use crate::kind::Elem;
 use crate::limits::MOST_ELEMENTS;
+use crate::row::Row;
 use crate::undo::Undo;
 use std::alloc::{AllocError, Global};
 use std::collections::VecDeque;
-use text_core::row::Row;
 
 /// The elements of a queue. Each text has memory of its own length.
 #[derive(Drop)]

@@ -14,11 +14,11 @@ ghost use Rattle.value_core.specs.Rows.{as_data, rows_sort, rows_map};
 
 use crate::datum::Datum;
 use crate::kind::Elem;
+use crate::row::Row;
 use crate::sorted::Sorted;
+use crate::text::Text;
 use crate::undo::{Kept, Undo};
 use std::alloc::{AllocError, Global};
-use text_core::row::Row;
-use text_core::text::Text;
 
 /// The elements of a table. Each key and each text has memory of its own length.
 #[derive(Drop)]

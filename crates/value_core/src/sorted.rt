@@ -8,14 +8,14 @@ ghost use Rattle.value_core.specs.Limits.{most_elements};
 ghost use Rattle.std.specs.List.{AllZip, insert};
 ghost use Rattle.std.specs.List.Sorted.{IsStrictlySortedBy};
 ghost use Rattle.std.specs.Map.{lookup, remove_entry};
-ghost use Rattle.text_core.specs.TextOrder.{text_cmp};
+ghost use Rattle.value_core.specs.TextOrder.{text_cmp};
 ghost use Rattle.value_core.specs.Sorted.{Rise, StandsAt, IsGapFor};
 
 use crate::limits::MOST_ELEMENTS;
+use crate::row::Row;
+use crate::text::Text;
 use std::alloc::{AllocError, Global};
 use std::marker::Model;
-use text_core::row::Row;
-use text_core::text::Text;
 
 /// Keys that rise, and what stands under each. A contract sees them as a list of pairs.
 #[derive(Drop)]

@@ -5,9 +5,9 @@ ghost use Rattle.value_core.specs.Datum.{IsDatum};
 ghost use Rattle.value_core.specs.Undo.{kept_datum, KeepsData};
 
 use crate::datum::Datum;
+use crate::row::Row;
 use std::alloc::{AllocError, Global};
 use std::collections::VecDeque;
-use text_core::row::Row;
 
 /// An element, in memory of its own length.
 #[derive(Drop)]

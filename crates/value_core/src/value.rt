@@ -16,10 +16,10 @@ use crate::limits::MOST_ELEMENTS;
 use crate::queue::Queue;
 use crate::refusal::{GrowFault, Refusal};
 use crate::rows::Rows;
+use crate::text::Text;
 use crate::undo::Undo;
 use std::alloc::{AllocError, Global};
 use std::marker::Model;
-use text_core::text::Text;
 
 /// An array, a queue or a table, of at most 1,024 integers or texts.
 #[derive(Drop)]

@@ -6,7 +6,7 @@ use Rattle.std.proofs.lemmas.List.Elements.{All-append, All-cons, All-nil, All-h
 use Rattle.std.proofs.lemmas.Fmt.{digits_decimal}
 use Rattle.value_core.specs.declared.datum.Datum.{Datum}
 use Rattle.value_core.specs.declared.datum.Datum.TheVariants.{Integer, Text}
-use Rattle.text_core.specs.Plain.{IsPlain, IsText}
+use Rattle.value_core.specs.Plain.{IsPlain, IsText}
 use Rattle.value_core.specs.Datum.{IsDatum}
 use Rattle.word_core.specs.Words.{Word, bare, quoted, doubled, word_text, IsWord, EachWord, EachClear, behind_word}
 use Rattle.word_core.specs.Data.{datum_word}

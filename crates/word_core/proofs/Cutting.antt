@@ -2,7 +2,7 @@
 use Rattle.std.proofs.Common.{◌≡◌, ◌≢◌, ℕ, List, [], ◌∷◌, ◌++◌, refl, sym, ap, ◌∙◌, subst, append_assoc}
 use Rattle.std.proofs.lemmas.List.Elements.{All-head, All-tail}
 use Rattle.std.proofs.lemmas.List.{append-nil}
-use Rattle.text_core.specs.Words.{NoSpace, EndsWord}
+use Rattle.value_core.specs.Spaces.{NoSpace, EndsWord}
 use Rattle.word_core.specs.Words.{Word, bare, quoted, doubled, word_text, IsWord, IsFirst, AreWords}
 use Rattle.std.specs.Prelude.{Option, Some}
 use Rattle.word_core.specs.Laws.{SaidOnce}

@@ -4,7 +4,7 @@ use Rattle.std.specs.Prelude.{codes}
 use Rattle.std.specs.Str.{bytes_eq}
 use Rattle.std.proofs.lemmas.Slice.Eq.{bytes_eq-Decides}
 use Rattle.path_tree.specs.Identifier.{IsIdentifier}
-use Rattle.text_core.specs.Words.{drop_spaces}
+use Rattle.value_core.specs.Spaces.{drop_spaces}
 use Rattle.word_core.specs.Words.{Word, bare, quoted, IsFirst, AreWords}
 use Rattle.word_core.proofs.Cutting.{first_once}
 use Rattle.word_core.specs.First.{IsObjectLine}

@@ -10,7 +10,7 @@ use Rattle.std.proofs.lemmas.Bool.Decides.{nat_tests}
 use Rattle.std.proofs.lemmas.Str.Parse.{IsNumeralModel, numerals_by_value, tells_all_ascii_digits, digits_value-take-le, not_in_digits, digit_at}
 use Rattle.std.proofs.lemmas.Fmt.{digits_decimal, digits_value-decimal, decimal_nonempty}
 use Rattle.std.proofs.lemmas.List.Elements.{All-from_get_or}
-use Rattle.text_core.specs.Words.{NoSpace}
+use Rattle.value_core.specs.Spaces.{NoSpace}
 use Rattle.word_core.specs.Words.{IsWord, bare}
 use Rattle.word_core.specs.Data.{integer_of}
 

@@ -5,9 +5,9 @@ use Rattle.std.specs.Str.Lines.{lines, strip_carriage_return}
 use Rattle.std.proofs.lemmas.Bool.{cases_eq}
 use Rattle.std.proofs.lemmas.Bool.Decides.{nat_tests}
 use Rattle.std.proofs.lemmas.List.Elements.{All-append, All-cons, All-nil, All-head, All-tail}
-use Rattle.text_core.specs.Plain.{IsPlain, IsText}
-use Rattle.text_core.specs.Runs.{NoLineFeed}
-use Rattle.text_core.proofs.Cutting.{lines-at}
+use Rattle.value_core.specs.Plain.{IsPlain, IsText}
+use Rattle.value_core.specs.Runs.{NoLineFeed}
+use Rattle.value_core.proofs.Cutting.{lines-at}
 use Rattle.word_core.specs.Words.{Word, bare, quoted, doubled, word_text, IsWord, EachWord, behind_word, words_text, line_of}
 use Rattle.word_core.proofs.Quoting.{twice, once}
 

@@ -4,7 +4,7 @@ use Rattle.std.specs.Prelude.{Option, Some, None, option_map, Result, Ok, Err, I
 use Rattle.std.specs.Borrow.{Bor}
 use Rattle.std.proofs.lemmas.List.{append-nil}
 use Rattle.value_core.specs.declared.datum.Datum.{Datum}
-use Rattle.text_core.specs.Words.{drop_spaces}
+use Rattle.value_core.specs.Spaces.{drop_spaces}
 use Rattle.word_core.specs.Words.{Word, bare, IsFirst, AreWords}
 use Rattle.word_core.specs.Data.{datum_of, data_of, at_end, only_bare}
 use Rattle.word_core.proofs.Cutting.{first_once}

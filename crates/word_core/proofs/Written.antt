@@ -10,7 +10,7 @@ use Rattle.value_core.specs.declared.datum.Datum.TheVariants.{Integer, Text}
 use Rattle.value_core.specs.Datum.{IsDatum}
 use Rattle.word_core.specs.Laws.{WrittenInteger, WrittenSession, WrittenEnding, WrittenFinish}
 use Rattle.word_core.specs.Ending.{Ending, done, refused, failed, IsEnding, finish_words}
-use Rattle.text_core.specs.Words.{EndsWord}
+use Rattle.value_core.specs.Spaces.{EndsWord}
 use Rattle.word_core.specs.Words.{Word, bare, IsWord, AreWords, EachWord, behind_word, words_text}
 use Rattle.word_core.specs.Data.{datum_of, datum_word}
 use Rattle.word_core.proofs.Spaces.{drop_spaces-word}

@@ -2,7 +2,7 @@
 use Rattle.std.specs.Prelude.{◌≡◌, ◌==◌, ℕ, Bool, true, false, List, [], ◌∷◌, Option, Some, None, codes, if◌then◌else◌}
 use Rattle.std.specs.Str.{bytes_eq}
 use Rattle.value_core.specs.declared.datum.Datum.{Datum}
-use Rattle.text_core.specs.Words.{drop_spaces}
+use Rattle.value_core.specs.Spaces.{drop_spaces}
 use Rattle.word_core.specs.Words.{Word}
 use Rattle.word_core.specs.Data.{◌>>=◌, integer_of, session_of, data_of, bare_of, only_bare, only_integer, at_end}
 use Rattle.word_core.specs.Identifier.{identifier_of}

@@ -10,7 +10,7 @@ use Rattle.word_core.specs.declared.word.Written.{Written}
 use Rattle.word_core.specs.declared.word.Written.TheVariants as written
 use Rattle.word_core.specs.declared.ending.Ending as declared
 use Rattle.word_core.specs.declared.ending.Ending.TheVariants as endings
-use Rattle.text_core.specs.Words.{drop_spaces}
+use Rattle.value_core.specs.Spaces.{drop_spaces}
 use Rattle.word_core.specs.Words as words
 use Rattle.word_core.specs.Data.{datum_word, session_word}
 use Rattle.word_core.specs.Ending as ending

@@ -1,7 +1,7 @@
 -- The words of a line.
 use Rattle.std.specs.Prelude.{◌≡◌, ◌≢◌, ℕ, ◌==◌, List, [], ◌∷◌, ◌++◌, All, if◌then◌else◌}
-use Rattle.text_core.specs.Words.{drop_spaces, NoSpace, EndsWord}
-use Rattle.text_core.specs.Plain.{IsText}
+use Rattle.value_core.specs.Spaces.{drop_spaces, NoSpace, EndsWord}
+use Rattle.value_core.specs.Plain.{IsText}
 
 -- a word is bytes as they stand, or a text
 pub data Word : Type 0 where

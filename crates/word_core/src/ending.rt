@@ -11,8 +11,8 @@ use crate::number::datum_of;
 use crate::word::{Word, Written};
 use crate::words::{bare_of, only_bare};
 use std::alloc::AllocError;
-use text_core::words::is_same_word;
 use value_core::datum::Datum;
+use value_core::words::is_same_word;
 
 /// How a call ended.
 #[derive(Clone, Copy)]

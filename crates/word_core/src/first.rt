@@ -7,8 +7,8 @@ ghost use Rattle.word_core.specs.First.{IsObjectLine, IsFirstObject};
 use crate::next::{Next, next_word};
 use crate::word::Word;
 use path_tree::name::is_identifier;
-use text_core::next_line;
-use text_core::words::{is_same_word, skip_spaces};
+use value_core::next_line;
+use value_core::words::{is_same_word, skip_spaces};
 
 // The first word of a line, where it stands bare, and what stands behind it.
 fn first_bare(line: &[u8]) -> Option<(&[u8], &[u8])>

@@ -1,11 +1,11 @@
 //! What stands at the front of a line, read where it lies.
 
 ghost use Rattle.std.specs.Prelude.{◌≡◌, ◌↔◌, [], IsTrue};
-ghost use Rattle.text_core.specs.Words.{drop_spaces};
+ghost use Rattle.value_core.specs.Spaces.{drop_spaces};
 ghost use Rattle.word_core.specs.Data.{only_bare as only_bare_in};
 ghost use Rattle.word_core.specs.Reads.{IsFront, Reads};
 
-use text_core::words::{skip_spaces, split_at_space};
+use value_core::words::{skip_spaces, split_at_space};
 
 /// The first word of a line, where it stands bare, and what stands behind it.
 pub fn next_bare(line: &[u8]) -> Option<(&[u8], &[u8])>

@@ -7,9 +7,9 @@ ghost use Rattle.word_core.specs.View.{written_word};
 
 use crate::word::Written;
 use std::alloc::AllocError;
-use text_core::reply::push_number;
-use text_core::text::Text;
 use value_core::datum::Datum;
+use value_core::reply::push_number;
+use value_core::text::Text;
 
 // Adds a byte, an apostrophe twice.
 fn push_byte(out: &mut Vec<u8>, byte: u8) -> Result<(), AllocError>

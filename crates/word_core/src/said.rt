@@ -16,8 +16,8 @@ use crate::operation::identifier_of;
 use crate::word::Word;
 use crate::words::{bare_of, data_of, only_bare, only_integer, words_of};
 use std::alloc::{AllocError, Global};
-use text_core::words::{is_same_word, skip_spaces};
 use value_core::datum::Datum;
+use value_core::words::{is_same_word, skip_spaces};
 
 /// What a line of a script says.
 #[derive(Drop)]

@@ -7,9 +7,9 @@ ghost use Rattle.word_core.specs.Show.{data_text, row_text, behind_row, rows_tex
 use crate::line::push_data;
 use crate::print::{push_datum, push_text};
 use std::alloc::{AllocError, Global};
-use text_core::text::Text;
 use value_core::datum::Datum;
 use value_core::kind::Kind;
+use value_core::text::Text;
 use value_core::value::Value;
 
 /// Adds a value: an array as `[1 2]`, a queue as `<1 2>`, its oldest element first, a table as `{'a': 1, 'b': 2}`, keys

@@ -1,7 +1,7 @@
 //! Words.
 
-use text_core::text::Text;
 use value_core::datum::Datum;
+use value_core::text::Text;
 
 /// A word of a line, as it is read.
 #[derive(Clone, Copy)]

@@ -6,7 +6,7 @@ use Rattle.device_core.specs.declared.file.File.{File}
 use Rattle.device_core.specs.declared.hand.Stamp.{Stamp}
 use Rattle.device_core.specs.Device.{Assignment}
 use Rattle.device_core.specs.Files.{IsOpen, Serves}
-use Rattle.call_core.specs.Calls.{Call, call_of}
+use Rattle.page_core.specs.CallPins.{Call, call_of}
 use Rattle.run_core.specs.Runs.{run_call, run_pen, run_sealed, run_place, SoFar, AreApart, no_pen}
 use Rattle.run_core.specs.Steps.{Place, AreServed, PinsServed, Starts, with_part, with_none}
 use Rattle.page_core.specs.Pages.{ArePinsServed}
@@ -15,8 +15,8 @@ use Rattle.board_core.specs.Calls.{RunningCall, WaitingCall}
 use Rattle.board_core.specs.Board.{Board, taken_at}
 use Rattle.board_core.specs.Sound.{IsSound, IsPinned}
 use Rattle.board_core.proofs.Lists.{Every-at, Every-snoc, EachPair-snoc, Every-all}
-use Rattle.call_core.specs.declared.ticket.Ticket.{Ticket}
-use Rattle.call_core.specs.Tickets.{ticket_call}
+use Rattle.page_core.specs.declared.ticket.Ticket.{Ticket}
+use Rattle.page_core.specs.Tickets.{ticket_call}
 use Rattle.board_core.specs.declared.answer.Collected.{Collected}
 use Rattle.board_core.specs.declared.answer.Collected.TheVariants as collects
 use Rattle.board_core.specs.Answers.{IsLeft, NoneIsLeft, Collects}

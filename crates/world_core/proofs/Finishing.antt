@@ -16,15 +16,15 @@ use Rattle.page_core.specs.PartPins.{PartPin, pin_at}
 use Rattle.page_core.specs.Renewed.{IsIn}
 use Rattle.page_core.specs.Pages.{ArePinsServed}
 use Rattle.run_core.proofs.Origins.{new_pins_are_old_or_sealed}
-use Rattle.call_core.specs.declared.outcome.Outcome.{Outcome}
+use Rattle.page_core.specs.declared.outcome.Outcome.{Outcome}
 use Rattle.apply_core.specs.declared.reply.Reply.{Reply}
 use Rattle.apply_core.specs.declared.reply.Reply.TheVariants.{Done, Refused, Failed}
-use Rattle.call_core.specs.Calls.{Call}
+use Rattle.page_core.specs.CallPins.{Call}
 use Rattle.run_core.specs.Runs.{run_call, run_place, run_sealed, SoFar, AreApart, sealed_by_place}
 use Rattle.run_core.specs.Phases.{IsRenewedBy}
 use Rattle.run_core.specs.Steps.{sealed_at, AreServed as AreAllServed}
-use Rattle.call_core.specs.Outcomes.{outcome_call, outcome_reply, outcome_sealed, outcome_news, outcome_gone, outcome_pins, if_done, IsFresh}
-use Rattle.call_core.specs.Truths.{IsTrueOf, PinsAreWhole}
+use Rattle.page_core.specs.Outcomes.{outcome_call, outcome_reply, outcome_sealed, outcome_news, outcome_gone, outcome_pins, if_done, IsFresh}
+use Rattle.page_core.specs.Truths.{IsTrueOf, PinsAreWhole}
 use Rattle.board_core.specs.declared.event.TraceEvent.{TraceEvent}
 use Rattle.board_core.specs.declared.event.TraceEvent.TheVariants.{End}
 use Rattle.board_core.specs.declared.receipt.Receipt.{Receipt}

@@ -6,10 +6,10 @@ use Rattle.std.specs.Str.Lines.{lines}
 use Rattle.std.proofs.lemmas.List.{append-nil}
 use Rattle.value_core.specs.Meaning.{opening_of}
 use Rattle.decl_core.specs.declared.object.Object.{Object}
-use Rattle.text_core.specs.Runs.{Runs, Stops}
-use Rattle.text_core.specs.Ends.{Ends, Begins, Answered, AllAnswered}
-use Rattle.text_core.specs.declared.machine.LinesEnd.{LinesEnd}
-use Rattle.text_core.specs.declared.machine.LinesEnd.TheVariants as ends
+use Rattle.value_core.specs.Runs.{Runs, Stops}
+use Rattle.value_core.specs.Ends.{Ends, Begins, Answered, AllAnswered}
+use Rattle.value_core.specs.declared.machine.LinesEnd.{LinesEnd}
+use Rattle.value_core.specs.declared.machine.LinesEnd.TheVariants as ends
 use Rattle.board_core.specs.Board.{opened}
 use Rattle.board_core.specs.Sound.{kinds_of}
 use Rattle.world_core.specs.Scene.{Scene, IsNew}

@@ -10,11 +10,11 @@ use Rattle.value_core.specs.Meaning.{opening_of}
 use Rattle.decl_core.specs.Bodies.{body_of}
 use Rattle.decl_core.specs.declared.object.Object.{Object}
 use Rattle.decl_core.specs.ObjectMap.{object_of}
-use Rattle.text_core.specs.Runs.{Runs}
+use Rattle.value_core.specs.Runs.{Runs}
 use Rattle.apply_core.specs.declared.reply.Failure.TheVariants as failures
 use Rattle.apply_core.specs.declared.reply.Reply.{Reply}
 use Rattle.apply_core.specs.declared.reply.Reply.TheVariants as replies
-use Rattle.call_core.specs.Calls.{Call}
+use Rattle.page_core.specs.CallPins.{Call}
 use Rattle.apply_core.specs.History.{IsLegal, IsReplyOn, left_by, leads_to}
 use Rattle.apply_core.specs.HistoryLaws.{LegalByOne, LeadsByOne}
 use Rattle.board_core.specs.declared.event.TraceEvent.{TraceEvent}

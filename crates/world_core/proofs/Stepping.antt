@@ -22,14 +22,14 @@ use Rattle.apply_core.specs.declared.reply.Failure.TheVariants as failures
 use Rattle.apply_core.specs.declared.reply.Reply.{Reply}
 use Rattle.apply_core.specs.declared.reply.Reply.TheVariants.{Done, Refused, Failed}
 use Rattle.run_core.specs.declared.run.Run.{Run}
-use Rattle.call_core.specs.Calls.{Call}
+use Rattle.page_core.specs.CallPins.{Call}
 use Rattle.run_core.specs.Phases.{ending_of, step_answer, FoundBy}
 use Rattle.world_core.specs.RunLaws.{PensStay, PensAreOpen}
 use Rattle.run_core.specs.Runs.{run_call, run_ending, run_pen, run_place, run_sealed, PenHolds, SoFar, AreApart, ending_by_place}
 use Rattle.apply_core.specs.declared.need.Need.TheVariants as needs
 use Rattle.run_core.specs.Steps.{Place, at_read, at_page, at_create, at_append, at_seal, at_end, need_at, ending_at, Follows, FailsWith, AreServed, IsReadAt, PinsServed, IsJudged, changed, not_changed, wants, reads_on, reads_next, reads_last, misses, pages_on, creates, appends, seals_on, seals_last, fails, stays}
-use Rattle.call_core.specs.Given.{IsDamaged}
-use Rattle.call_core.specs.Truths.{PinHolds, PinsAreWhole}
+use Rattle.page_core.specs.Given.{IsDamaged}
+use Rattle.page_core.specs.Truths.{PinHolds, PinsAreWhole}
 use Rattle.board_core.specs.Lists.{Every, EachPair}
 use Rattle.board_core.specs.Calls.{RunningCall}
 use Rattle.board_core.specs.Board.{Board}

@@ -6,12 +6,12 @@ use Rattle.path_count.specs.State.{State}
 use Rattle.path_count.specs.Stands.{StandsFor}
 use Rattle.decl_core.specs.declared.object.Object.{Object}
 use Rattle.decl_core.specs.ObjectMap.{object_of}
-use Rattle.inside_text.specs.declared.reason.Reason.{Reason}
-use Rattle.inside_text.specs.Found.{whys_of}
-use Rattle.inside_text.specs.Tells.{Tells}
+use Rattle.stuck_core.specs.declared.reason.Reason.{Reason}
+use Rattle.stuck_core.specs.ReasonViews.{whys_of}
+use Rattle.stuck_core.specs.Tells.{Tells}
 use Rattle.board_core.specs.Board.{Board, paths_of, past_of}
-use Rattle.inside_text.specs.declared.why.RunningRow.{RunningRow}
-use Rattle.inside_text.specs.Why.{why_text}
+use Rattle.stuck_core.specs.declared.why.RunningRow.{RunningRow}
+use Rattle.stuck_core.specs.Why.{why_text}
 use Rattle.world_core.specs.Counted.{HasCounted}
 use Rattle.world_core.specs.Told.{running_there}
 

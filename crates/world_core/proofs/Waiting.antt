@@ -8,14 +8,14 @@ use Rattle.std.proofs.lemmas.Grind.{flat_map-append}
 use Rattle.decl_core.specs.ObjectMap.{object_of}
 use Rattle.decl_core.specs.ObjectForm.{ObjectForm}
 use Rattle.word_core.specs.Words.{Word, line_of, words_text}
-use Rattle.inside_text.specs.Lacks.{Why}
-use Rattle.inside_text.specs.Tells.{Tells}
+use Rattle.stuck_core.specs.Lacks.{Why}
+use Rattle.stuck_core.specs.Tells.{Tells}
 use Rattle.board_core.specs.Calls.{AcceptedCall}
 use Rattle.board_core.specs.Board.{Board, call_at, paths_of, past_of}
 use Rattle.board_core.specs.Answers.{waits_in}
-use Rattle.inside_text.specs.declared.who.WaitingRow.{WaitingRow}
-use Rattle.inside_text.specs.Who.{Refused, call_words, waits_line, who_line}
-use Rattle.inside_text.specs.Why.{node_words}
+use Rattle.stuck_core.specs.declared.who.WaitingRow.{WaitingRow}
+use Rattle.stuck_core.specs.Who.{Refused, call_words, waits_line, who_line}
+use Rattle.stuck_core.specs.Why.{node_words}
 use Rattle.world_core.specs.Asked.{who}
 use Rattle.world_core.specs.Told.{Numbered, numbered, waiting_among, AreRefused, IsTold, HasTold, AreWaitLines, all_that_wait}
 use Rattle.world_core.proofs.Numbers.{next_call, none_next, past_all}

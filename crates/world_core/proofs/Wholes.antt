@@ -5,7 +5,7 @@ use Rattle.device_core.specs.declared.file.File.{File}
 use Rattle.device_core.specs.Device.{Assignment}
 use Rattle.device_core.specs.Files.{HasFiles}
 use Rattle.apply_core.specs.History.{leads_to}
-use Rattle.call_core.specs.Truths.{PinsAreWhole}
+use Rattle.page_core.specs.Truths.{PinsAreWhole}
 use Rattle.board_core.specs.Lists.{Every, Among}
 use Rattle.board_core.specs.Calls.{AcceptedCall, RunningCall}
 use Rattle.board_core.specs.Board.{Board, call_at}

@@ -22,10 +22,10 @@ use Rattle.run_core.specs.declared.phase.Phase.TheVariants.{Reading, Paging, Cre
 use Rattle.run_core.specs.declared.phase.Plan.{Plan}
 use Rattle.run_core.specs.declared.run.Run.{Run}
 use Rattle.apply_core.specs.declared.need.Need.TheVariants as needs
-use Rattle.call_core.specs.Calls.{Call}
+use Rattle.page_core.specs.CallPins.{Call}
 use Rattle.run_core.specs.CallPlanned.{AreRenewals, AreShort, renewed}
 use Rattle.run_core.specs.CallPlanned.{no_part as no_change, same as not_renewed}
-use Rattle.call_core.specs.Truths.{PinsAreWhole}
+use Rattle.page_core.specs.Truths.{PinsAreWhole}
 use Rattle.known_core.specs.Masks.{unread}
 use Rattle.run_core.specs.Phases.{FoundBy, IsWrittenSoFar}
 use Rattle.run_core.specs.Runs.{run_call, run_place, SoFar}

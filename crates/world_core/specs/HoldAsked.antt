@@ -4,7 +4,7 @@ use Rattle.std.specs.List.{flat_map}
 use Rattle.decl_core.specs.ObjectForm.{ObjectForm}
 use Rattle.decl_core.specs.ObjectMap.{object_of}
 use Rattle.board_core.specs.Board.{Board}
-use Rattle.inside_text.specs.Who.{Refused, who_line, waits_line}
+use Rattle.stuck_core.specs.Who.{Refused, who_line, waits_line}
 use Rattle.world_core.specs.Asked.{Asked, who}
 use Rattle.world_core.specs.Told.{IsTold, AreRefused, waiting_among, numbered}
 use Rattle.decl_core.specs.HoldForm.{HoldForm}

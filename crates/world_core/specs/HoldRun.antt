@@ -3,8 +3,8 @@ use Rattle.std.specs.Prelude.{◌≡◌, ℕ, ◌+◌, Bool, List, ◌∷◌, �
 use Rattle.std.specs.Str.Lines.{lines}
 use Rattle.decl_core.specs.declared.object.Object.{Object}
 use Rattle.decl_core.specs.HoldForm.{HoldForm}
-use Rattle.text_core.specs.Runs.{Runs, Stops, Cuts, NoLineFeed}
-use Rattle.text_core.specs.Ends.{Answered}
+use Rattle.value_core.specs.Runs.{Runs, Stops, Cuts, NoLineFeed}
+use Rattle.value_core.specs.Ends.{Answered}
 use Rattle.world_core.specs.declared.script.ScriptEnd.{ScriptEnd}
 use Rattle.world_core.specs.declared.script.ScriptEnd.TheVariants.{Whole, BadLine}
 use Rattle.world_core.specs.HoldWrites.{HeldTold, IsHeldBegun, HeldWrites}

@@ -2,7 +2,7 @@
 use Rattle.std.specs.Prelude.{◌≡◌, ℕ, List, ◌++◌, take}
 use Rattle.std.specs.Str.Lines.{lines}
 use Rattle.decl_core.specs.declared.object.Object.{Object}
-use Rattle.text_core.specs.Runs.{Runs, Cuts, NoLineFeed}
+use Rattle.value_core.specs.Runs.{Runs, Cuts, NoLineFeed}
 use Rattle.world_core.specs.Scene.{Scene, IsNew}
 use Rattle.world_core.specs.Tries.{Texts, Tries}
 

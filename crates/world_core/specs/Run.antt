@@ -2,10 +2,10 @@
 use Rattle.std.specs.Prelude.{◌≡◌, ℕ, ◌+◌, Bool, List, ◌∷◌, ◌++◌, length, take}
 use Rattle.std.specs.Str.Lines.{lines}
 use Rattle.decl_core.specs.declared.object.Object.{Object}
-use Rattle.text_core.specs.Runs.{Runs, Stops, Cuts, NoLineFeed}
-use Rattle.text_core.specs.Ends.{Answered}
-use Rattle.text_core.specs.declared.machine.LinesEnd.{LinesEnd}
-use Rattle.text_core.specs.declared.machine.LinesEnd.TheVariants as ends
+use Rattle.value_core.specs.Runs.{Runs, Stops, Cuts, NoLineFeed}
+use Rattle.value_core.specs.Ends.{Answered}
+use Rattle.value_core.specs.declared.machine.LinesEnd.{LinesEnd}
+use Rattle.value_core.specs.declared.machine.LinesEnd.TheVariants as ends
 use Rattle.world_core.specs.declared.script.ScriptEnd.{ScriptEnd}
 use Rattle.world_core.specs.declared.script.ScriptEnd.TheVariants.{Whole, BadLine}
 use Rattle.world_core.specs.Writes.{Told, IsBegun, Writes}

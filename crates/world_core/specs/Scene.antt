@@ -7,7 +7,7 @@ use Rattle.device_core.specs.declared.hand.Stamp.{Stamp}
 use Rattle.device_core.specs.declared.file.File.{File}
 use Rattle.device_core.specs.Device.{Assignment}
 use Rattle.device_core.specs.Files.{HasFiles}
-use Rattle.call_core.specs.Calls.{Call, call_of}
+use Rattle.page_core.specs.CallPins.{Call, call_of}
 use Rattle.run_core.specs.Steps.{Place, Starts}
 use Rattle.board_core.specs.Calls.{RunningCall}
 use Rattle.board_core.specs.Board.{Board, opened}

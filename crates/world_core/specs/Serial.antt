@@ -8,7 +8,7 @@ use Rattle.value_core.specs.Meaning.{opening_of}
 use Rattle.decl_core.specs.Bodies.{body_of}
 use Rattle.decl_core.specs.declared.object.Object.{Object}
 use Rattle.decl_core.specs.ObjectMap.{object_of}
-use Rattle.text_core.specs.Runs.{Runs, Stops}
+use Rattle.value_core.specs.Runs.{Runs, Stops}
 use Rattle.word_core.specs.Says.{Says}
 use Rattle.apply_core.specs.declared.reply.Failure.TheVariants as failures
 use Rattle.apply_core.specs.declared.reply.Reply.{Reply}

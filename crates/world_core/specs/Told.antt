@@ -4,16 +4,16 @@ use Rattle.std.specs.Prelude.{Option, Some, None, drop, length, sum, map}
 use Rattle.std.specs.List.{flat_map, list_any}
 use Rattle.decl_core.specs.ObjectMap.{object_of}
 use Rattle.stuck_core.specs.Waits.{is_among}
-use Rattle.inside_text.specs.Lacks.{Why}
-use Rattle.inside_text.specs.Tells.{Tells}
+use Rattle.stuck_core.specs.Lacks.{Why}
+use Rattle.stuck_core.specs.Tells.{Tells}
 use Rattle.board_core.specs.Calls.{AcceptedCall}
 use Rattle.board_core.specs.Board.{Board, call_at, paths_of, past_of}
 use Rattle.board_core.specs.Answers.{waits_in, runs_in}
-use Rattle.inside_text.specs.declared.why.CallStatus.TheVariants.{Running as IsRunning, Ended, Unknown}
-use Rattle.inside_text.specs.declared.why.RunningRow.{RunningRow}
-use Rattle.inside_text.specs.Why.{state_line, why_text}
-use Rattle.inside_text.specs.Who.{Refused, waits_line, who_text}
-use Rattle.inside_text.specs.List.{list_text}
+use Rattle.stuck_core.specs.declared.why.CallStatus.TheVariants.{Running as IsRunning, Ended, Unknown}
+use Rattle.stuck_core.specs.declared.why.RunningRow.{RunningRow}
+use Rattle.stuck_core.specs.Why.{state_line, why_text}
+use Rattle.stuck_core.specs.Who.{Refused, waits_line, who_text}
+use Rattle.stuck_core.specs.List.{list_text}
 use Rattle.world_core.specs.Asked.{Asked, why, who, list}
 
 -- a call with its number

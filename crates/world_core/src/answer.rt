@@ -3,11 +3,11 @@
 ghost use Rattle.std.specs.Prelude.{◌≡◌, ◌++◌, ◌+◌, ◌<◌, ℕ, List, IfOk, OnOk};
 ghost use Rattle.decl_core.specs.ObjectMap.{object_of};
 ghost use Rattle.stuck_core.specs.Waits.{is_among as among};
-ghost use Rattle.inside_text.specs.Found.{whys_of};
-ghost use Rattle.inside_text.specs.Lacks.{Why};
-ghost use Rattle.inside_text.specs.Tells.{Tells};
+ghost use Rattle.stuck_core.specs.ReasonViews.{whys_of};
+ghost use Rattle.stuck_core.specs.Lacks.{Why};
+ghost use Rattle.stuck_core.specs.Tells.{Tells};
 ghost use Rattle.board_core.specs.Board.{call_at, paths_of, past_of};
-ghost use Rattle.inside_text.specs.Why.{why_text};
+ghost use Rattle.stuck_core.specs.Why.{why_text};
 ghost use Rattle.world_core.specs.Asked.{view_of, why as why_asked, who as who_asked};
 ghost use Rattle.world_core.specs.Counted.{HasCounted};
 ghost use Rattle.world_core.specs.Told.{is_needed as needed, if_there_runs, running_there, IsTold, HasTold};
@@ -16,14 +16,14 @@ ghost use Rattle.world_core.specs.Told.{AreWaitLines};
 use crate::question::Question;
 use crate::replay::counters_of;
 use desk_core::desk::Desk;
-use inside_text::find::reasons_by;
-use inside_text::list::push_only;
-use inside_text::reason::Reason;
-use inside_text::who::{WaitingRow, push_waits, push_who};
-use inside_text::why::{CallStatus, RunningRow, push_state, push_why};
 use path_count::counters::Counters;
 use path_tree::node::OpId;
 use std::alloc::{AllocError, Global};
+use stuck_core::find::reasons_by;
+use stuck_core::list::push_only;
+use stuck_core::reason::Reason;
+use stuck_core::who::{WaitingRow, push_waits, push_who};
+use stuck_core::why::{CallStatus, RunningRow, push_state, push_why};
 
 // No desk has more calls.
 const MOST_CALLS: u32 = 65_536;

@@ -15,8 +15,8 @@ use decl_core::hold::Hold;
 use decl_core::object::Object;
 use desk_core::desk::Desk;
 use guest_core::held::{HeldCall, Holds};
-use inside_text::who::push_who;
 use std::alloc::{AllocError, Global};
+use stuck_core::who::push_who;
 
 // Adds a line for each of these.
 fn push_all_held(

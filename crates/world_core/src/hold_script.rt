@@ -2,7 +2,7 @@
 
 ghost use Rattle.std.specs.Prelude.{◌≡◌, ◌++◌, [], List, ℕ, IfOk, IfSome, OnErr, IsErrOf, unwrap_or};
 ghost use Rattle.std.specs.Io.KnownBytes.{Appends, Consumes};
-ghost use Rattle.text_core.specs.declared.machine.LinesFault.TheVariants.{ReadFault};
+ghost use Rattle.value_core.specs.declared.machine.LinesFault.TheVariants.{ReadFault};
 ghost use Rattle.decl_core.specs.HoldMap.{holds_of};
 ghost use Rattle.world_core.specs.Run.{end_of as end_in};
 ghost use Rattle.world_core.specs.HoldRun.{IsHeldScript, IsHeldFront, IsHeldScriptSoFar};
@@ -13,7 +13,7 @@ use decl_core::analyse::Accepted;
 use decl_core::hold::Hold;
 use std::alloc::Global;
 use std::io::{Read, Write};
-use text_core::{LinesEnd, LinesFault, run_lines};
+use value_core::{LinesEnd, LinesFault, run_lines};
 
 // How a script ended whose lines ended so.
 fn end_of(end: LinesEnd) -> ScriptEnd

@@ -14,7 +14,7 @@ use decl_core::analyse::Accepted;
 use decl_core::hold::Hold;
 use guest_core::held::Holds;
 use std::alloc::{AllocError, Global};
-use text_core::Machine;
+use value_core::Machine;
 use word_core::answers::push_bad_line;
 use word_core::said::{is_skipped, read_line};
 

@@ -4,7 +4,7 @@ mod machine;
 
 ghost use Rattle.std.specs.Prelude.{◌≡◌, ◌++◌, [], List, ℕ, IfOk, IfSome, OnErr, IsErrOf, unwrap_or};
 ghost use Rattle.std.specs.Io.KnownBytes.{Appends, Consumes};
-ghost use Rattle.text_core.specs.declared.machine.LinesFault.TheVariants.{ReadFault};
+ghost use Rattle.value_core.specs.declared.machine.LinesFault.TheVariants.{ReadFault};
 ghost use Rattle.world_core.specs.Tries.{texts_in};
 ghost use Rattle.world_core.specs.PromptRun.{IsTried, IsTriedFront, IsTriedSoFar};
 
@@ -12,8 +12,8 @@ use decl_core::analyse::Accepted;
 use machine::Prompt;
 use std::alloc::Global;
 use std::io::{Read, Write};
-pub use text_core::LinesFault as PromptFault;
-use text_core::run_lines;
+pub use value_core::LinesFault as PromptFault;
+use value_core::run_lines;
 
 /// What the lines `help` and `list` are answered, with the ends of their lines.
 #[derive(Clone, Copy)]

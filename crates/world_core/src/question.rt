@@ -5,7 +5,7 @@ ghost use Rattle.word_core.specs.View.{words_of as words_in};
 ghost use Rattle.world_core.specs.Asked.{IsAskedBy, asked_of, asked_by, view_of};
 
 use std::alloc::{AllocError, Global};
-use text_core::words::is_same_word;
+use value_core::words::is_same_word;
 use word_core::word::Word;
 use word_core::words::{bare_of, only_integer, words_of};
 

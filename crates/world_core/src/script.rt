@@ -6,15 +6,15 @@ mod steps;
 
 ghost use Rattle.std.specs.Prelude.{◌≡◌, ◌++◌, [], List, ℕ, IfOk, IfSome, OnErr, IsErrOf, unwrap_or};
 ghost use Rattle.std.specs.Io.KnownBytes.{Appends, Consumes};
-ghost use Rattle.text_core.specs.declared.machine.LinesFault.TheVariants.{ReadFault};
+ghost use Rattle.value_core.specs.declared.machine.LinesFault.TheVariants.{ReadFault};
 ghost use Rattle.world_core.specs.Run.{IsScript, IsFront, IsScriptSoFar, end_of as end_in};
 
 use decl_core::analyse::Accepted;
 use machine::Script;
 use std::alloc::Global;
 use std::io::{Read, Write};
-pub use text_core::LinesFault as ScriptFault;
-use text_core::{LinesEnd, run_lines};
+pub use value_core::LinesFault as ScriptFault;
+use value_core::{LinesEnd, run_lines};
 
 /// How a script ended.
 #[derive(Clone, Copy, Debug, PartialEq, Eq)]

@@ -9,7 +9,7 @@ ghost use Rattle.path_count.specs.Calls.{StartAnswer, FinishAnswer};
 use crate::counters::Counters;
 use path_tree::node::OpId;
 use std::alloc::AllocError;
-use text_core::reply::push_reply;
+use value_core::reply::push_reply;
 
 /// Starts an operation of this name, if it may start, and tells.
 pub fn start_operation(

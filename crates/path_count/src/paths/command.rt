@@ -7,7 +7,7 @@ ghost use Rattle.path_count.specs.Command.{asked_of_command};
 ghost use Rattle.path_count.specs.Words.{words};
 
 use crate::paths::words::next_word;
-use text_core::words::{is_same_word, skip_spaces};
+use value_core::words::{is_same_word, skip_spaces};
 
 /// What a line asks for.
 #[derive(Clone, Copy)]

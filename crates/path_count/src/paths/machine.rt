@@ -13,8 +13,8 @@ use path_tree::node::OpId;
 use path_tree::print::print_path;
 use path_tree::tree::PathTree;
 use std::alloc::{AllocError, Global};
-use text_core::Machine;
-use text_core::reply::{push_count, push_reply};
+use value_core::Machine;
+use value_core::reply::{push_count, push_reply};
 
 /// The most paths of a run.
 pub const MOST_PATHS: usize = 16;

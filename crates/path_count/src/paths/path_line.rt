@@ -16,7 +16,7 @@ use path_tree::read::parse_path;
 use path_tree::token::{Symbol, Token, TokenKind};
 use path_tree::tree::PathTree;
 use std::alloc::{AllocError, Global};
-use text_core::reply::{push_fault, push_number};
+use value_core::reply::{push_fault, push_number};
 
 /// Why a line is no path.
 #[derive(Clone, Copy)]

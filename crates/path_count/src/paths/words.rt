@@ -3,7 +3,7 @@
 ghost use Rattle.std.specs.Prelude.{◌≡◌, ◌∷◌, [], MatchOption};
 ghost use Rattle.path_count.specs.Words.{words};
 
-use text_core::words::{skip_spaces, split_at_space};
+use value_core::words::{skip_spaces, split_at_space};
 
 /// The first word of a line, and what stands behind it.
 pub fn next_word(line: &[u8]) -> Option<(&[u8], &[u8])>

@@ -10,7 +10,7 @@ use crate::script::answer::answer_said;
 use crate::world::World;
 use decl_core::analyse::Accepted;
 use std::alloc::{AllocError, Global};
-use text_core::Machine;
+use value_core::Machine;
 use word_core::answers::push_bad_line;
 use word_core::said::{is_skipped, read_line};
 

@@ -1,5 +1,5 @@
 use Rattle.std.specs.Prelude.{codes, decimal}
-use Rattle.text_core.specs.Reply.{reply}
+use Rattle.value_core.specs.Reply.{reply}
 use Rattle.answer_core.specs.AuditRun.{line_number}
 use Rattle.answer_core.proofs.Audits.{joined}
 use Rattle.answer_core.proofs.audit.push_breach.Goals as goal

@@ -1,5 +1,5 @@
 use Rattle.std.proofs.Common.{◌≡◌, length}
-use Rattle.text_core.specs.TextOrder.{text_cmp}
+use Rattle.value_core.specs.TextOrder.{text_cmp}
 use Rattle.apply_core.proofs.Integers.{AreBytes}
 use Rattle.apply_core.proofs.order.order.Given as goal
 

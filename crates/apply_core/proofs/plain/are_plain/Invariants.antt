@@ -1,5 +1,5 @@
 use Rattle.std.proofs.Common.{◌↔◌, All, length}
-use Rattle.text_core.specs.Plain.{IsPlain}
+use Rattle.value_core.specs.Plain.{IsPlain}
 use Rattle.apply_core.proofs.plain.are_plain.Given as goal
 
 abbrev pub invariant-eights : goal.invariant-eights

@@ -1,5 +1,5 @@
 use Rattle.std.proofs.Common.{take}
-use Rattle.call_core.specs.Outcomes.{outcome_call}
+use Rattle.page_core.specs.Outcomes.{outcome_call}
 use Rattle.board_core.specs.Lists.{Every}
 use Rattle.board_core.specs.Outcomes.{IsOf}
 use Rattle.board_core.proofs.find.place_of_call.Given as goal

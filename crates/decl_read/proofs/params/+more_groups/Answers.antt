@@ -5,7 +5,7 @@ use Rattle.path_tree.specs.Lexeme.{lexemes}
 use Rattle.decl_read.specs.Declarations.{begins}
 use Rattle.decl_read.specs.DeclarationReading.{next_group_in}
 use Rattle.decl_read.specs.Views.{params_read}
-use Rattle.body_read.specs.Scopes.{names_of}
+use Rattle.decl_read.specs.Scopes.{names_of}
 use Rattle.decl_core.specs.ObjectMap.{params_of}
 use Rattle.decl_read.proofs.Steps.{series_ends, series_over, item_fails, item_read}
 use Rattle.decl_read.proofs.params.+more_groups.Goals as goal

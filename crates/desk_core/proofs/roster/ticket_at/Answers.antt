@@ -2,9 +2,9 @@ use Rattle.std.proofs.Common.{◌≡◌, ◌∙◌, ℕ, true, false, List, Opti
 use Rattle.std.specs.Prelude.{slice_get, slice_set, IfSome, IfNone}
 use Rattle.std.proofs.lemmas.Option.{slice_get-get_or}
 use Rattle.page_core.proofs.ListBytes.{some_same}
-use Rattle.call_core.specs.declared.ticket.Ticket.{Ticket}
-use Rattle.call_core.specs.Calls.{call_of}
-use Rattle.call_core.specs.Tickets.{ticket_call}
+use Rattle.page_core.specs.declared.ticket.Ticket.{Ticket}
+use Rattle.page_core.specs.CallPins.{call_of}
+use Rattle.page_core.specs.Tickets.{ticket_call}
 use Rattle.board_core.specs.Calls.{RunningCall}
 use Rattle.desk_core.proofs.roster.ticket_at.Goals as goal
 

@@ -1,5 +1,5 @@
 use Rattle.std.proofs.Common.{sym, ◌∙◌, subst}
-use Rattle.text_core.specs.Runs.{NoLineFeed}
+use Rattle.value_core.specs.Runs.{NoLineFeed}
 use Rattle.front_read.proofs.Texts.{one_cut, no_cut}
 use Rattle.front_read.proofs.text.first_line.Goals as goal
 

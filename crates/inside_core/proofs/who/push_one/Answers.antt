@@ -1,5 +1,5 @@
 use Rattle.std.specs.Prelude.{option_map}
-use Rattle.inside_text.specs.Who.{Sitting}
+use Rattle.stuck_core.specs.Who.{Sitting}
 use Rattle.inside_core.specs.Adds.{crowd_of}
 use Rattle.inside_core.proofs.Adding.{one_seat}
 use Rattle.inside_core.proofs.who.push_one.Goals as goal

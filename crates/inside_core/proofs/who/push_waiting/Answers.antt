@@ -1,5 +1,5 @@
-use Rattle.inside_text.specs.Found.{whys_of}
-use Rattle.inside_text.specs.Who.{Refused}
+use Rattle.stuck_core.specs.ReasonViews.{whys_of}
+use Rattle.stuck_core.specs.Who.{Refused}
 use Rattle.inside_core.specs.Adds.{crowd_of}
 use Rattle.inside_core.proofs.Adding.{one_wait}
 use Rattle.inside_core.proofs.who.push_waiting.Goals as goal

@@ -4,7 +4,7 @@ use Rattle.decl_core.specs.ObjectForm.{ObjectForm}
 use Rattle.decl_core.specs.ObjectMap.{object_of}
 use Rattle.decl_core.specs.HoldForm.{HoldForm}
 use Rattle.decl_core.specs.HoldMap.{holds_of}
-use Rattle.inside_text.specs.Who.{who_line}
+use Rattle.stuck_core.specs.Who.{who_line}
 use Rattle.client_core.specs.ToldInside.{Crowd, last_told, waiting_in, held_in}
 use Rattle.inside_core.specs.Adds.{crowd_of, AddsSeats, AddsWaits, AddsHeld}
 use Rattle.inside_core.proofs.Adding.{who_is}

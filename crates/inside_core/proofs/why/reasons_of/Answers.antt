@@ -1,7 +1,7 @@
 use Rattle.std.proofs.Common.{◌∙◌, ap}
 use Rattle.decl_core.specs.declared.object.Object.{Object}
 use Rattle.live_core.specs.Hall.{Hall}
-use Rattle.inside_text.specs.Found.{whys_of}
+use Rattle.stuck_core.specs.ReasonViews.{whys_of}
 use Rattle.inside_core.proofs.Whys.{are_whys}
 use Rattle.inside_core.proofs.why.reasons_of.Goals as goal
 

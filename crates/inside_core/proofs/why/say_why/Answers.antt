@@ -1,8 +1,8 @@
 use Rattle.std.proofs.Common.{◌∙◌, ap, subst, List, [], ◌++◌}
 use Rattle.decl_core.specs.ObjectMap.{object_of}
-use Rattle.inside_text.specs.declared.reason.Reason.{Reason}
-use Rattle.inside_text.specs.Found.{whys_of}
-use Rattle.inside_text.specs.Why.{why_text}
+use Rattle.stuck_core.specs.declared.reason.Reason.{Reason}
+use Rattle.stuck_core.specs.ReasonViews.{whys_of}
+use Rattle.stuck_core.specs.Why.{why_text}
 use Rattle.client_core.specs.ToldInside.{AreWhys}
 use Rattle.inside_core.proofs.why.say_why.Goals as goal
 

@@ -1,5 +1,5 @@
 use Rattle.std.proofs.Common.{ℕ, List, [], Err, ap}
-use Rattle.text_core.specs.declared.machine.LinesFault.TheVariants.{ReadFault}
+use Rattle.value_core.specs.declared.machine.LinesFault.TheVariants.{ReadFault}
 use Rattle.std.specs.Io.KnownBytes.{Appends}
 use Rattle.path_count.specs.Run.{IsRun, IsFront}
 use Rattle.path_count.proofs.WholeRuns.{told_ends, told_begins, told_so_far, one_error, IfSome-known, IfSome-any, on_err, Appends-none, no_front}

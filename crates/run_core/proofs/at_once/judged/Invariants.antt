@@ -6,7 +6,7 @@ use Rattle.known_core.specs.Masks.{unread}
 use Rattle.run_core.specs.Verdicts.{HasReads}
 use Rattle.run_core.specs.Seen.{IsSeen}
 use Rattle.run_core.specs.Tasks.{task_call}
-use Rattle.call_core.specs.Truths.{PinsAreWhole}
+use Rattle.page_core.specs.Truths.{PinsAreWhole}
 use Rattle.run_core.proofs.MadeAtOnce.{ReadsSoFar}
 use Rattle.run_core.proofs.at_once.judged.Given as goal
 

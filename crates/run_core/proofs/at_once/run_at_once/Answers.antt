@@ -1,11 +1,11 @@
 use Rattle.std.proofs.Common.{[], Err, ap, subst, arith, sym}
-use Rattle.call_core.specs.Calls.{Call}
+use Rattle.page_core.specs.CallPins.{Call}
 use Rattle.run_core.specs.Tasks.{task_call}
-use Rattle.call_core.specs.Truths.{PinsAreWhole}
+use Rattle.page_core.specs.Truths.{PinsAreWhole}
 use Rattle.run_core.proofs.Telling.{told_of, renewed_of}
 use Rattle.run_core.proofs.WritingAll.{failure_is_true}
 use Rattle.apply_core.specs.declared.reply.Failure.TheVariants as failures
-use Rattle.call_core.specs.Tickets.{ticket_call}
+use Rattle.page_core.specs.Tickets.{ticket_call}
 use Rattle.run_core.proofs.MadeAtOnce.{at_first_alone, at_first_and_on, pins_still, failure_in_reply}
 use Rattle.run_core.proofs.Serving.{no_files}
 use Rattle.run_core.specs.Steps.{PinsServed}

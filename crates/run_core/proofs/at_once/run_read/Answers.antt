@@ -3,15 +3,15 @@ use Rattle.std.proofs.lemmas.List.{nil_from_length}
 use Rattle.std.specs.Arc.{arc_value}
 use Rattle.decl_core.specs.Bodies.{body_of}
 use Rattle.run_core.specs.declared.judge.Change.{Change}
-use Rattle.call_core.specs.Given.{IsDone}
+use Rattle.page_core.specs.Given.{IsDone}
 use Rattle.run_core.specs.Written.{WritesInOrder, parts_changed}
 use Rattle.run_core.specs.declared.judge.Verdict.{Verdict}
 use Rattle.run_core.specs.declared.judge.Verdict.TheVariants.{Done, Refused, Damaged}
 use Rattle.run_core.specs.Judged.{OnlyWrites}
 use Rattle.run_core.specs.Wholes.{AreChangesOf}
-use Rattle.call_core.specs.Calls.{Call}
+use Rattle.page_core.specs.CallPins.{Call}
 use Rattle.run_core.specs.Tasks.{task_call}
-use Rattle.call_core.specs.Truths.{PinHolds, PinsAreWhole}
+use Rattle.page_core.specs.Truths.{PinHolds, PinsAreWhole}
 use Rattle.run_core.specs.Seen.{JudgedBy}
 use Rattle.run_core.proofs.Telling.{told_of, renewed_of}
 use Rattle.run_core.proofs.WritingAll.{no_plan, none_changed}

@@ -4,7 +4,7 @@ use Rattle.page_core.specs.declared.plan.PageWrite.{PageWrite}
 use Rattle.page_core.specs.PartPins.{pins_by, count_pages}
 use Rattle.page_core.specs.Renewed.{AreSealed, ArePlaces, with_sealed}
 use Rattle.page_core.proofs.PartRows.{count_by}
-use Rattle.call_core.specs.Calls.{AreSized}
+use Rattle.page_core.specs.CallPins.{AreSized}
 use Rattle.run_core.proofs.Sizes.{sized_by}
 use Rattle.run_core.proofs.WritingAll.{all_places, sealed_long}
 use Rattle.run_core.proofs.MadeAtOnce.{each_served, none_served}

@@ -2,11 +2,11 @@ use Rattle.std.proofs.Common.{List, [], refl, sym, subst, ◌∙◌}
 use Rattle.std.specs.Arc.{arc_value}
 use Rattle.decl_core.specs.Bodies.{body_of}
 use Rattle.run_core.specs.declared.judge.Change.{Change}
-use Rattle.call_core.specs.Given.{IsDone}
+use Rattle.page_core.specs.Given.{IsDone}
 use Rattle.run_core.specs.Written.{WritesInOrder, parts_changed}
 use Rattle.run_core.specs.Wholes.{AreChangesOf}
 use Rattle.run_core.specs.Tasks.{task_call}
-use Rattle.call_core.specs.Truths.{PinHolds}
+use Rattle.page_core.specs.Truths.{PinHolds}
 use Rattle.run_core.specs.Steps.{wants}
 use Rattle.run_core.proofs.Inside.{none_has}
 use Rattle.run_core.proofs.Stepping.{ended_there, ended_reads, paging_reads}

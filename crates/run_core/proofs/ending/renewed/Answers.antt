@@ -1,7 +1,7 @@
 use Rattle.std.proofs.Common.{ap, sym, subst, arith}
 use Rattle.page_core.specs.PartPins.{count_pages}
 use Rattle.page_core.proofs.PartRows.{count_by}
-use Rattle.call_core.specs.Calls.{AreSized}
+use Rattle.page_core.specs.CallPins.{AreSized}
 use Rattle.run_core.proofs.Sizes.{sized_by}
 use Rattle.run_core.proofs.ending.renewed.Goals as goal
 

@@ -8,7 +8,7 @@ use Rattle.run_core.specs.Runs.{run_call, run_ending, run_place, run_sealed, Pen
 use Rattle.decl_core.specs.Bodies.{body_of}
 use Rattle.decl_core.specs.Touched.{Reads}
 use Rattle.page_core.specs.PartPins.{pin_at}
-use Rattle.call_core.specs.Calls.{Call}
+use Rattle.page_core.specs.CallPins.{Call}
 use Rattle.run_core.proofs.Leading.{ends, one_more}
 use Rattle.run_core.proofs.perform.perform.Goals as goal
 

@@ -18,11 +18,11 @@ returns-in-Ok-Told-clause-handled g c =
 
 pub returns-in-Ok-Ready-clause-run : goal.returns-in-Ok-Ready-clause-run
 returns-in-Ok-Ready-clause-run g c =
-    inr (inr (c.in-Ok-Ready.ready.items, subst (IsJudgedSource c.args.source.now) c.in-Ok-Ready.field-0-is c.in-Ok-Ready.ensures, c.serve_ready.ensures))
+    inr (inr (c.in-Ok-Ready.ready.items, subst (IsJudgedSource c.args.source.now) c.in-Ok-Ready.field-0-is c.in-Ok-Ready.ensures, c.serve.ensures))
 
 pub returns-in-Ok-Ready-clause-handled : goal.returns-in-Ok-Ready-clause-handled
 returns-in-Ok-Ready-clause-handled g c =
-    any_ok c.serve_ready.result (λ end. inr (objects_of c.in-Ok-Ready.ready.items, subst (IsJudgedSource c.args.source.now) c.in-Ok-Ready.field-0-is c.in-Ok-Ready.ensures))
+    any_ok c.serve.result (λ end. inr (objects_of c.in-Ok-Ready.ready.items, subst (IsJudgedSource c.args.source.now) c.in-Ok-Ready.field-0-is c.in-Ok-Ready.ensures))
 
 pub returns-in-Err-clause-run : goal.returns-in-Err-clause-run
 returns-in-Err-clause-run g c = inr (inl (refl, keeps_same (g.W.Write.contents c.args.writer.now)))

@@ -4,7 +4,7 @@ use Rattle.std.specs.FinMap as map
 use Rattle.std.proofs.lemmas.List.Elements.{All-nil}
 use Rattle.value_core.specs.declared.datum.Datum.{Datum}
 use Rattle.value_core.specs.Contents.{IsRowIn}
-use Rattle.text_core.specs.TextOrder.{text_cmp}
+use Rattle.value_core.specs.TextOrder.{text_cmp}
 use Rattle.value_bytes.specs.Spelling.{spelled_row_in, IsAfter}
 use Rattle.value_core.specs.Rows.{rows_map}
 use Rattle.value_core.proofs.Tables.{none_of}

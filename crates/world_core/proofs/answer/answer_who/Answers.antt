@@ -1,5 +1,5 @@
 use Rattle.std.proofs.Common.{◌∙◌, ◌++◌, ap, append_assoc}
-use Rattle.inside_text.specs.Who.{who_line}
+use Rattle.stuck_core.specs.Who.{who_line}
 use Rattle.world_core.proofs.Waiting.{who_told}
 use Rattle.world_core.proofs.answer.answer_who.Goals as goal
 

@@ -1,9 +1,9 @@
 use Rattle.std.proofs.Common.{sym, subst}
 use Rattle.decl_core.specs.ObjectMap.{object_of}
-use Rattle.inside_text.specs.Tells.{Tells}
+use Rattle.stuck_core.specs.Tells.{Tells}
 use Rattle.board_core.specs.Board.{paths_of, past_of}
-use Rattle.inside_text.specs.declared.why.CallStatus.TheVariants.{Running, Ended, Unknown}
-use Rattle.inside_text.specs.Why.{state_line, why_text}
+use Rattle.stuck_core.specs.declared.why.CallStatus.TheVariants.{Running, Ended, Unknown}
+use Rattle.stuck_core.specs.Why.{state_line, why_text}
 use Rattle.world_core.specs.Told.{running_there, unknown, waits, runs, ended}
 use Rattle.world_core.proofs.answer.answer_why.Goals as goal
 

@@ -1,7 +1,7 @@
 use Rattle.std.proofs.Common.{◌≡◌, ◌∙◌, ◌++◌, [], ◌∷◌, Some, ap, sym, subst}
 use Rattle.decl_core.specs.declared.object.Object.{Object}
 use Rattle.decl_core.specs.ObjectMap.{object_of}
-use Rattle.inside_text.specs.List.{list_text}
+use Rattle.stuck_core.specs.List.{list_text}
 use Rattle.world_core.specs.Asked.{view_of}
 use Rattle.world_core.specs.Told.{IsTold, operations}
 use Rattle.world_core.proofs.answer.push_answer.Goals as goal

@@ -3,10 +3,10 @@ use Rattle.std.specs.List.{flat_map}
 use Rattle.std.proofs.lemmas.List.{length-map}
 use Rattle.decl_core.specs.declared.object.Object.{Object}
 use Rattle.decl_core.specs.ObjectMap.{object_of}
-use Rattle.inside_text.specs.declared.reason.Reason.{Reason}
-use Rattle.inside_text.specs.Found.{why_of, whys_of}
-use Rattle.inside_text.specs.declared.who.WaitingRow.{WaitingRow}
-use Rattle.inside_text.specs.Who.{waits_line}
+use Rattle.stuck_core.specs.declared.reason.Reason.{Reason}
+use Rattle.stuck_core.specs.ReasonViews.{why_of, whys_of}
+use Rattle.stuck_core.specs.declared.who.WaitingRow.{WaitingRow}
+use Rattle.stuck_core.specs.Who.{waits_line}
 use Rattle.world_core.proofs.Telling.{told_by}
 use Rattle.world_core.proofs.Waiting.{no_call, not_waiting, one_waits}
 use Rattle.world_core.proofs.answer.push_call.Goals as goal

@@ -1,5 +1,5 @@
 use Rattle.std.proofs.Common.{◌≡◌, ◌∙◌, refl}
-use Rattle.inside_text.specs.Found.{whys_of}
+use Rattle.stuck_core.specs.ReasonViews.{whys_of}
 use Rattle.world_core.proofs.Telling.{told_by, why_made}
 use Rattle.world_core.proofs.answer.push_refused.Goals as goal
 

@@ -1,5 +1,5 @@
 use Rattle.std.proofs.Common.{◌≡◌, ◌∙◌, ◌++◌, ℕ, true, false, [], ◌∷◌, ap, ap₂, sym}
-use Rattle.inside_text.specs.Found.{whys_of}
+use Rattle.stuck_core.specs.ReasonViews.{whys_of}
 use Rattle.board_core.specs.Answers.{runs_in}
 use Rattle.board_core.specs.Board.{call_at}
 use Rattle.world_core.specs.Told.{is_needed}

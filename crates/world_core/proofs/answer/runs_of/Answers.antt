@@ -1,5 +1,5 @@
 use Rattle.std.proofs.Common.{◌≤◌, ◌∙◌, length, arith}
-use Rattle.inside_text.specs.Found.{whys_of}
+use Rattle.stuck_core.specs.ReasonViews.{whys_of}
 use Rattle.world_core.proofs.Running.{one_more, all_run}
 use Rattle.world_core.proofs.answer.runs_of.Goals as goal
 

@@ -1,5 +1,5 @@
 use Rattle.std.proofs.Common.{◌≡◌, ◌++◌}
-use Rattle.inside_text.specs.Found.{whys_of}
+use Rattle.stuck_core.specs.ReasonViews.{whys_of}
 use Rattle.world_core.specs.Told.{running_there}
 use Rattle.world_core.proofs.Running.{running_from}
 use Rattle.world_core.proofs.answer.runs_of.Given as goal

@@ -1,8 +1,8 @@
 use Rattle.std.proofs.Common.{◌≡◌, ℕ, List, [], ◌++◌, Err, sym, ap, subst}
 use Rattle.std.specs.Prelude.{unwrap_or, Result}
 use Rattle.std.specs.Io.KnownBytes.{Appends}
-use Rattle.text_core.specs.declared.machine.LinesFault.{LinesFault}
-use Rattle.text_core.specs.declared.machine.LinesFault.TheVariants.{ReadFault}
+use Rattle.value_core.specs.declared.machine.LinesFault.{LinesFault}
+use Rattle.value_core.specs.declared.machine.LinesFault.TheVariants.{ReadFault}
 use Rattle.path_count.proofs.WholeRuns.{IfSome-known, IfSome-any, on_err, Appends-none}
 use Rattle.world_core.specs.declared.script.ScriptEnd.{ScriptEnd}
 use Rattle.decl_core.specs.HoldMap.{holds_of}

@@ -1,8 +1,8 @@
 use Rattle.std.proofs.Common.{◌≡◌, ℕ, List, [], Err, ap}
 use Rattle.std.specs.Prelude.{Result}
 use Rattle.std.specs.Io.KnownBytes.{Appends}
-use Rattle.text_core.specs.declared.machine.LinesFault.{LinesFault}
-use Rattle.text_core.specs.declared.machine.LinesFault.TheVariants.{ReadFault}
+use Rattle.value_core.specs.declared.machine.LinesFault.{LinesFault}
+use Rattle.value_core.specs.declared.machine.LinesFault.TheVariants.{ReadFault}
 use Rattle.path_count.proofs.WholeRuns.{IfSome-known, IfSome-any, on_err, Appends-none}
 use Rattle.world_core.specs.Tries.{texts_in}
 use Rattle.world_core.specs.PromptRun.{IsTried, IsTriedFront}

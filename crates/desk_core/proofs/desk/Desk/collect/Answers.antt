@@ -1,5 +1,5 @@
 use Rattle.std.proofs.Common.{◌∙◌, refl, sym, ap, subst}
-use Rattle.call_core.specs.Calls.{call_of}
+use Rattle.page_core.specs.CallPins.{call_of}
 use Rattle.board_core.specs.Board.{Board, call_at, taken_at}
 use Rattle.board_core.specs.Answers.{waits_in, runs_in, ended_in, IsLeft, NoneIsLeft}
 use Rattle.board_core.proofs.Admission.{taken_rests, taken_history}

@@ -6,10 +6,10 @@ use Rattle.decl_core.specs.Bodies.{body_of}
 use Rattle.decl_core.specs.Touched.{Writes}
 use Rattle.page_core.specs.PartPins.{PartPin, pin_at}
 use Rattle.apply_core.specs.declared.reply.Reply.{Reply}
-use Rattle.call_core.specs.Calls.{Call}
-use Rattle.call_core.specs.Calls.{AreSized}
-use Rattle.call_core.specs.declared.outcome.Outcome.{Outcome}
-use Rattle.call_core.specs.Outcomes.{outcome_call, outcome_reply, outcome_news, outcome_pins, if_done}
+use Rattle.page_core.specs.CallPins.{Call}
+use Rattle.page_core.specs.CallPins.{AreSized}
+use Rattle.page_core.specs.declared.outcome.Outcome.{Outcome}
+use Rattle.page_core.specs.Outcomes.{outcome_call, outcome_reply, outcome_news, outcome_pins, if_done}
 use Rattle.board_core.specs.Lists.{Among}
 use Rattle.board_core.specs.Calls.{RunningCall, Noted}
 use Rattle.board_core.specs.Started.{Settles}

@@ -7,7 +7,7 @@ use Rattle.path_tree.specs.Trace.{starts, ends}
 use Rattle.path_count.specs.Stands.{StandsFor}
 use Rattle.path_count.proofs.Running.{call_counts}
 use Rattle.page_core.proofs.ListBytes.{some_same}
-use Rattle.call_core.specs.Outcomes.{if_done}
+use Rattle.page_core.specs.Outcomes.{if_done}
 use Rattle.board_core.specs.declared.event.TraceEvent.TheVariants.{End}
 use Rattle.board_core.specs.Lists.{Among, Every}
 use Rattle.board_core.specs.Calls.{RunningCall, Noted}

@@ -1,6 +1,6 @@
 use Rattle.std.proofs.Common.{◌≡◌, ◌∙◌, ◌⊎◌, ap, subst, Some}
 use Rattle.std.specs.Prelude.{IfSome, IfNone, slice_get}
-use Rattle.call_core.specs.Outcomes.{outcome_call, IsFresh}
+use Rattle.page_core.specs.Outcomes.{outcome_call, IsFresh}
 use Rattle.board_core.specs.Lists.{Every}
 use Rattle.board_core.specs.Calls.{RunningCall}
 use Rattle.board_core.specs.Board.{Board}

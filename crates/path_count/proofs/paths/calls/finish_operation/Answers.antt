@@ -1,5 +1,5 @@
 use Rattle.std.proofs.Common.{codes, sym, subst}
-use Rattle.text_core.specs.Reply.{reply}
+use Rattle.value_core.specs.Reply.{reply}
 use Rattle.path_count.specs.Stands.{StandsFor}
 use Rattle.path_count.specs.Calls.{not_running}
 use Rattle.path_count.proofs.Calling.{told_finished, clash, not_below}

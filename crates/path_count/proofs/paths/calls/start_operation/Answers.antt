@@ -1,5 +1,5 @@
 use Rattle.std.proofs.Common.{◌≢◌, ◌<◌, [], codes, sym, subst, arith}
-use Rattle.text_core.specs.Reply.{reply}
+use Rattle.value_core.specs.Reply.{reply}
 use Rattle.path_count.specs.Stands.{StandsFor, started_calls}
 use Rattle.path_count.specs.Calls.{spent, blocked}
 use Rattle.path_count.proofs.Calling.{told_started, clash}

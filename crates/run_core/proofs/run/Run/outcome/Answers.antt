@@ -4,14 +4,14 @@ use Rattle.std.specs.Arc.{arc_value}
 use Rattle.decl_core.specs.Bodies.{body_of}
 use Rattle.decl_core.specs.Touched.{Writes}
 use Rattle.page_core.specs.PartPins.{PartPin, pin_at}
-use Rattle.call_core.specs.Calls.{Call}
-use Rattle.call_core.specs.Truths.{PinsAreWhole}
+use Rattle.page_core.specs.CallPins.{Call}
+use Rattle.page_core.specs.Truths.{PinsAreWhole}
 use Rattle.run_core.specs.Tasks.{task_call}
 use Rattle.run_core.specs.declared.phase.Phase.TheVariants.{Ended}
-use Rattle.call_core.specs.Outcomes.{outcome_call, outcome_reply, outcome_news}
+use Rattle.page_core.specs.Outcomes.{outcome_call, outcome_reply, outcome_news}
 use Rattle.run_core.specs.Phases.{news_in, HasItsReads, FoundBy}
 use Rattle.run_core.specs.Steps.{ReadsItsPart, place_in}
-use Rattle.call_core.proofs.Inside.{surely_written, done_has}
+use Rattle.page_core.proofs.Inside.{surely_written, done_has}
 use Rattle.run_core.proofs.Telling.{told_of, renewed_of}
 use Rattle.run_core.proofs.run.Run.outcome.Goals as goal
 

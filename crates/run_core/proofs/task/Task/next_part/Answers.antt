@@ -1,4 +1,4 @@
-use Rattle.call_core.proofs.Touching.{read}
+use Rattle.page_core.proofs.Touching.{read}
 use Rattle.run_core.proofs.task.Task.next_part.Goals as goal
 
 pub returns-in-Some-clause-next : goal.returns-in-Some-clause-next

@@ -1,7 +1,7 @@
 use Rattle.std.proofs.Common.{◌∙◌, ap, sym, subst, refl, length, arith}
 use Rattle.serve_core.specs.Runs.{named_in, IsNotOpenedOf}
 use Rattle.serve_core.proofs.Steps.{step_some, step_none}
-use Rattle.serve_core.proofs.Opening.{opened_none, opened_more, opened_all, loaded_all, pinned_all, opened_not}
+use Rattle.serve_core.proofs.Openings.{opened_none, opened_more, opened_all, loaded_all, pinned_all, opened_not}
 use Rattle.serve_core.proofs.host.Host.open.Goals as goal
 
 pub loop-accepted-init : goal.loop-accepted-init

@@ -1,7 +1,7 @@
 use Rattle.std.proofs.Common.{◌≡◌, length}
 use Rattle.std.specs.Vec.Iter.{into_iter_items, into_iter_len}
 use Rattle.serve_core.specs.Runs.{named_in}
-use Rattle.serve_core.proofs.Opening.{OpenedSoFar}
+use Rattle.serve_core.proofs.Openings.{OpenedSoFar}
 use Rattle.serve_core.proofs.host.Host.open.Given as goal
 
 abbrev pub invariant-loop-accepted : goal.invariant-loop-accepted

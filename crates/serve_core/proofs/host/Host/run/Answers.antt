@@ -1,6 +1,6 @@
 use Rattle.std.proofs.Common.{subst, inr}
 use Rattle.device_core.specs.Papers.{Papers}
-use Rattle.text_core.specs.declared.machine.LinesFault.TheVariants.{Memory}
+use Rattle.value_core.specs.declared.machine.LinesFault.TheVariants.{Memory}
 use Rattle.serve_core.proofs.Running.{run_served, run_failed, run_none, not_opened, still_pinned, still_parts, still_traces}
 use Rattle.serve_core.proofs.host.Host.run.Goals as goal
 

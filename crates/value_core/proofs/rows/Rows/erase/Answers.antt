@@ -2,7 +2,7 @@ use Rattle.std.proofs.Common.{◌≡◌, true, sym, ap, subst, ◌∙◌, ◌≤
 use Rattle.std.specs.Prelude.{option_map}
 use Rattle.std.specs.FinMap as map
 use Rattle.value_core.specs.declared.datum.Datum.TheVariants as datum
-use Rattle.text_core.specs.TextOrder.{text_cmp}
+use Rattle.value_core.specs.TextOrder.{text_cmp}
 use Rattle.value_core.specs.Limits.{most_elements}
 use Rattle.value_core.specs.Rows.{as_data, rows_map}
 use Rattle.value_core.proofs.Placing.{erased_row}

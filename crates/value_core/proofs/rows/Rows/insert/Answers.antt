@@ -1,7 +1,7 @@
 use Rattle.std.proofs.Common.{ap, ◌∙◌}
 use Rattle.std.specs.FinMap as map
 use Rattle.value_core.specs.declared.datum.Datum.TheVariants as datum
-use Rattle.text_core.specs.TextOrder.{text_cmp}
+use Rattle.value_core.specs.TextOrder.{text_cmp}
 use Rattle.value_core.specs.Rows.{as_data}
 use Rattle.value_core.proofs.Outcomes.{on_ok}
 use Rattle.value_core.proofs.Placing.{stored_row}

@@ -1,7 +1,7 @@
 use Rattle.std.proofs.Common.{◌≡◌, set, sym, ap, subst, ◌∙◌}
 use Rattle.std.specs.Prelude.{if◌then◌else◌, is_some}
 use Rattle.std.specs.FinMap.{put}
-use Rattle.text_core.specs.TextOrder.{text_cmp}
+use Rattle.value_core.specs.TextOrder.{text_cmp}
 use Rattle.value_core.specs.Sorted.{Rise, StandsAt}
 use Rattle.value_core.proofs.Placing.{put_over, rise_put, there, missing}
 use Rattle.value_core.proofs.sorted.Sorted.exchange.Goals as goal

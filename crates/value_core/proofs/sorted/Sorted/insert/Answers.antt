@@ -1,7 +1,7 @@
 use Rattle.std.proofs.Common.{◌≡◌, set, sym, ap, subst, ◌∙◌}
 use Rattle.std.specs.FinMap.{put}
 use Rattle.std.specs.List.{insert}
-use Rattle.text_core.specs.TextOrder.{text_cmp}
+use Rattle.value_core.specs.TextOrder.{text_cmp}
 use Rattle.value_core.specs.Sorted.{Rise, StandsAt, IsGapFor}
 use Rattle.value_core.proofs.Placing.{put_into, put_over, rise_put}
 use Rattle.value_core.proofs.sorted.Sorted.insert.Goals as goal

@@ -1,6 +1,6 @@
 use Rattle.std.proofs.Common.{rules}
 use Rattle.std.proofs.lemmas.Fn.{always_returns_same}
-use Rattle.text_core.specs.TextOrder.{text_cmp}
+use Rattle.value_core.specs.TextOrder.{text_cmp}
 use Rattle.value_core.proofs.Placing.{placed}
 use Rattle.value_core.proofs.sorted.Sorted.place.Goals as goal
 

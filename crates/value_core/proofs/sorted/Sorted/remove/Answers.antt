@@ -1,7 +1,7 @@
 use Rattle.std.proofs.Common.{sym, ap, subst, ◌∙◌}
 use Rattle.std.specs.BTreeMap.{is_at}
 use Rattle.std.specs.Map.{remove_entry}
-use Rattle.text_core.specs.TextOrder.{text_cmp}
+use Rattle.value_core.specs.TextOrder.{text_cmp}
 use Rattle.value_core.specs.Sorted.{Rise, StandsAt}
 use Rattle.value_core.proofs.Placing.{removed, not_removed, rise_removed}
 use Rattle.value_core.proofs.sorted.Sorted.remove.Goals as goal

@@ -1,7 +1,7 @@
 use Rattle.std.proofs.Common.{◌≡◌, get_or, Some, sym, ap, subst, ◌∙◌}
 use Rattle.std.specs.BTreeMap.{is_at}
 use Rattle.std.specs.Map.{remove_entry}
-use Rattle.text_core.specs.TextOrder.{text_cmp}
+use Rattle.value_core.specs.TextOrder.{text_cmp}
 use Rattle.value_core.specs.Sorted.{Rise, StandsAt}
 use Rattle.value_core.proofs.Placing.{removed, rise_removed, found, missing}
 use Rattle.value_core.proofs.Tables.{exact_texts}

@@ -1,10 +1,10 @@
 use Rattle.std.proofs.Common.{◌≡◌, ◌+◌, ◌∙◌, List, length, Some, refl, sym, ap, subst, arith, map}
 use Rattle.std.proofs.lemmas.Option.{get_or_from_slice_get}
-use Rattle.call_core.specs.declared.outcome.Outcome.{Outcome}
+use Rattle.page_core.specs.declared.outcome.Outcome.{Outcome}
 use Rattle.apply_core.specs.declared.reply.Reply.{Reply}
 use Rattle.run_core.specs.Runs.{run_ending, ending_by_place}
 use Rattle.device_core.specs.Files.{files_of}
-use Rattle.call_core.specs.Outcomes.{outcome_reply, outcome_news}
+use Rattle.page_core.specs.Outcomes.{outcome_reply, outcome_news}
 use Rattle.board_core.specs.Board.{Board, Rests, ended, entry_of}
 use Rattle.world_core.specs.declared.event.WorldAnswer.TheVariants.{Ended}
 use Rattle.world_core.specs.declared.slot.Slot.{Slot}

@@ -3,7 +3,7 @@ use Rattle.std.specs.Prelude.{decimal}
 use Rattle.std.proofs.lemmas.Bool.Decides.{nat_tests}
 use Rattle.path_count.specs.Asked.{operations}
 use Rattle.path_count.specs.Words.{words}
-use Rattle.text_core.specs.Reply.{reply}
+use Rattle.value_core.specs.Reply.{reply}
 use Rattle.path_count.proofs.Lines.{bad_told, some_told, none_told, named_told}
 use Rattle.path_count.proofs.paths.machine.Paths.name_operations.Goals as goal
 

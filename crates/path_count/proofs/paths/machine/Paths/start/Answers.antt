@@ -2,7 +2,7 @@ use Rattle.std.proofs.Common.{◌<◌, length, codes, refl, sym, subst}
 use Rattle.std.specs.Prelude.{decimal}
 use Rattle.path_count.specs.Asked.{start}
 use Rattle.path_count.specs.Named.{IsNamed, IsUnnamed}
-use Rattle.text_core.specs.Reply.{reply}
+use Rattle.value_core.specs.Reply.{reply}
 use Rattle.path_count.proofs.Lines.{bad_told, named_some, started_told}
 use Rattle.path_count.proofs.paths.machine.Paths.start.Goals as goal
 

@@ -2,7 +2,7 @@ use Rattle.std.proofs.Common.{◌++◌, [], inl, inr, codes, refl, arith}
 use Rattle.std.specs.Prelude.{decimal}
 use Rattle.std.proofs.lemmas.Bool.Decides.{nat_tests}
 use Rattle.std.proofs.lemmas.Grind.{common_steps}
-use Rattle.text_core.specs.Reply.{reply}
+use Rattle.value_core.specs.Reply.{reply}
 use Rattle.path_count.specs.ReadLine.{line_fault_text}
 use Rattle.path_count.proofs.Lines.{late_path, some_told, none_told, path_line_told, fault_told}
 use Rattle.path_count.proofs.paths.machine.Paths.take_path.Goals as goal

@@ -1,7 +1,7 @@
 use Rattle.std.proofs.Common.{codes, sym}
 use Rattle.std.specs.Prelude.{decimal}
 use Rattle.path_count.specs.Asked.{other}
-use Rattle.text_core.specs.Reply.{reply}
+use Rattle.value_core.specs.Reply.{reply}
 use Rattle.path_count.proofs.Lines.{bad_told}
 use Rattle.path_count.proofs.paths.machine.PathsMachine.answer.Goals as goal
 

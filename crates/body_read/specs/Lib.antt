@@ -1,9 +1,0 @@
-pub mod Reader
-pub mod Reading
-pub mod Grammar
-pub mod Series
-pub mod Statements
-pub mod StatementReading
-pub mod DeclaredTypes
-pub mod Scopes
-pub mod Starts

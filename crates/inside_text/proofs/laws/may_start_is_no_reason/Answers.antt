@@ -1,5 +1,0 @@
-use Rattle.inside_text.proofs.Allowing.{no_reason}
-use Rattle.inside_text.proofs.laws.may_start_is_no_reason.Goals as goal
-
-pub returns : goal.returns
-returns c = no_reason

@@ -1,5 +1,0 @@
-use Rattle.std.proofs.Common.{length}
-use Rattle.inside_text.proofs.list.+push_all.Given as goal
-
-abbrev pub decreases-push_all : goal.decreases-push_all
-decreases-push_all l = length l.operations.now

@@ -1,9 +1,0 @@
-pub mod List
-pub mod Who
-pub mod Why
-pub mod Begins
-pub mod Found
-pub mod Lacks
-pub mod Laws
-pub mod Reasons
-pub mod Tells

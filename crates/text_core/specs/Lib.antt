@@ -1,9 +1,0 @@
-pub mod Limits
-pub mod Plain
-pub mod Text
-pub mod TextOrder
-pub mod Runs
-pub mod Ends
-pub mod Reply
-pub mod Sent
-pub mod Words
