@@ -25,9 +25,10 @@ say("can values within name ahead");
 for await (const line of readline.createInterface({ input: process.stdin })) {
   const [word, ...words] = line.split(" ");
   if (left) {
-    ahead.push(call(it, line));
+    ahead.push(line);
     left -= 1;
-    if (!left) for (const answer of ahead.splice(0)) say(await answer);
+    // (all at once: a connection that breaks meanwhile has each of them)
+    if (!left) for (const answer of ahead.splice(0).map((text) => call(it, text))) say(await answer);
   } else if (word === "open") {
     await it?.close();
     it = undefined;
