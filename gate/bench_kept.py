@@ -16,7 +16,7 @@ from gate.tried import TOP, new_folder
 from tools import make_ready
 
 USES = (
-    "path_tree value_core decl_core decl_read path_count live_core guest_core post_core hosted_core recover_core "
+    "path_tree value_core decl_core decl_read path_count live_core guest_core keep_loop recover_core "
 )
 MAIN = r'''//! Times of a kept object.
 #![tactic(auto)]
@@ -25,9 +25,9 @@ use decl_core::object::Object;
 use decl_read::read::read_objects;
 use live_core::source::source_of;
 use guest_core::guests::Guests;
-use hosted_core::hosted::{HostedStart, Hosted};
-use post_core::folder::FolderFile;
-use post_core::journal::Journal;
+use live_core::hosted::{HostedStart, Hosted};
+use keep_loop::folder::FolderFile;
+use keep_loop::journal::Journal;
 use live_core::call::Limits;
 use live_core::lines::push_all;
 use live_core::live::Live;

@@ -27,7 +27,7 @@ use path_tree::node::OpId;
 use path_tree::path_fault::PathFault;
 use std::alloc::{AllocError, Global};
 use std::io::Write;
-use stuck_search::find::{MOST_STATES, find};
+use stuck_core::search::{MOST_STATES, find};
 use value_core::reply::push_number;
 use value_core::write_whole;
 

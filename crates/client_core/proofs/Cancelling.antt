@@ -4,9 +4,9 @@ use Rattle.std.specs.Prelude.{Some, slice_get}
 use Rattle.std.proofs.lemmas.Option.{same_Some}
 use Rattle.word_core.specs.Events.{Called}
 use Rattle.live_core.specs.Hall.{Told, Every, EachPair, IsHeld}
-use Rattle.hosted_core.specs.Calls.{Cancels}
-use Rattle.hosted_core.specs.Keys.{WaitsAs}
-use Rattle.hosted_core.specs.Scene.{Scene, told_of}
+use Rattle.live_core.specs.Calls.{Cancels}
+use Rattle.live_core.specs.Keys.{WaitsAs}
+use Rattle.live_core.specs.Scene.{Scene, told_of}
 use Rattle.client_core.specs.Laws.{CancelledIsAsked}
 
 every_at : (P : Called → Type 0) (xs : List Called) (k : ℕ) (c : Called) → Every P xs → slice_get xs k ≡ Some c → P c

@@ -10,9 +10,9 @@ use Rattle.client_core.specs.declared.ask.Sight.TheVariants as insides
 use Rattle.client_core.specs.declared.client.OpenObject.{OpenObject}
 use Rattle.decl_core.specs.ObjectMap.{object_of}
 use Rattle.live_core.specs.Lines.{all_lines}
-use Rattle.hosted_core.specs.Lines.{entered_lines}
-use Rattle.hosted_core.specs.Scene.{Scene}
-use Rattle.hosted_core.specs.Steps.{does, comes, gets_number, leaves, calls, cancels}
+use Rattle.live_core.specs.HostedLines.{entered_lines}
+use Rattle.live_core.specs.Scene.{Scene}
+use Rattle.live_core.specs.HostedSteps.{does, comes, gets_number, leaves, calls, cancels}
 use Rattle.client_core.specs.State.{State}
 use Rattle.client_core.specs.Deeds.{Texts, Deed, Nothing, OnlyTold, Then}
 use Rattle.client_core.specs.Asked.{IsRefused, OpensBare, OpensAs, Opens, Ends, AllEnd, Follows, Submits, GetsNumber, Sits, Calls, RepeatsUnder, IsTurnedAway, AnswersCall, LetsGo, AnswersCancel, AnswersInside, LeavesObject, Goes, Quits, Acts, Heeds}

@@ -4,9 +4,9 @@ use Rattle.std.specs.Prelude.{Bool, true, false, Some, slice_get, slice_set, ifâ
 use Rattle.std.proofs.lemmas.Bool.Decides.{eqb_tells}
 use Rattle.std.proofs.lemmas.List.{append-nil, length-set}
 use Rattle.std.proofs.lemmas.Option.{same_Some, slice_get_within}
-use Rattle.hosted_core.specs.Scene.{Scene}
-use Rattle.hosted_core.specs.Steps.{Steps, rests, goes_on}
-use Rattle.post_core.specs.Texts.{to}
+use Rattle.live_core.specs.Scene.{Scene}
+use Rattle.live_core.specs.HostedSteps.{Steps, rests, goes_on}
+use Rattle.keep_loop.specs.Texts.{to}
 use Rattle.client_core.specs.Moves.{Moves}
 
 -- what is for one in two lists

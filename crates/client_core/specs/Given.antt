@@ -1,7 +1,7 @@
 -- What a turn of a table gives.
 use Rattle.std.specs.Prelude.{◌≡◌, ℕ, true, false, []}
-use Rattle.post_core.specs.Turns.{Asked}
-use Rattle.post_core.specs.Turns.Asked.{Heard, Noted, Changes}
+use Rattle.keep_loop.specs.Turns.{Asked}
+use Rattle.keep_loop.specs.Turns.Asked.{Heard, Noted, Changes}
 use Rattle.client_core.specs.State.{State}
 use Rattle.client_core.specs.Deeds.{Texts, Nothing, Then}
 use Rattle.client_core.specs.Moves.{BeginsHeld}

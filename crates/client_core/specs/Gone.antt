@@ -10,10 +10,10 @@ use Rattle.guest_core.specs.Entering.{Leaves}
 use Rattle.guest_core.specs.declared.seats.SeatHolder.TheVariants.{Nameless}
 use Rattle.guest_core.specs.Guests.{Guests, SomebodyHas, with_seat}
 use Rattle.guest_core.specs.Seats.{IsLeastFree}
-use Rattle.hosted_core.specs.Calls.{Does}
-use Rattle.hosted_core.specs.Scene.{Scene, with_guests}
+use Rattle.live_core.specs.Calls.{Does}
+use Rattle.live_core.specs.Scene.{Scene, with_guests}
 use Rattle.client_core.specs.declared.client.OpenObject.{OpenObject}
-use Rattle.custody_core.specs.Custody.{Custody, IsOwed, HasNone}
+use Rattle.client_core.specs.Custody.{Custody, IsOwed, HasNone}
 use Rattle.client_core.specs.State.{State, opened_at, with_object}
 use Rattle.client_core.specs.Deeds.{Texts}
 use Rattle.client_core.specs.Asked.{AllEnd, Follows}

@@ -4,9 +4,9 @@ use Rattle.word_core.specs.Events.{Happened}
 use Rattle.decl_core.specs.HoldForm.{RulesForm}
 use Rattle.guest_core.specs.Held.{AreHeld}
 use Rattle.live_core.specs.Hall.{Told, IsHeld}
-use Rattle.post_core.specs.Turns.{Asked}
-use Rattle.post_core.specs.Turns.Asked.{Heard, Noted, Changes}
-use Rattle.custody_core.specs.Custody.{Custody}
+use Rattle.keep_loop.specs.Turns.{Asked}
+use Rattle.keep_loop.specs.Turns.Asked.{Heard, Noted, Changes}
+use Rattle.client_core.specs.Custody.{Custody}
 use Rattle.client_core.specs.State.{State}
 use Rattle.client_core.specs.Deeds.{Texts}
 use Rattle.client_core.specs.Asked.{IsCancelled}

@@ -13,3 +13,11 @@ pub mod Laws
 pub mod Moves
 pub mod State
 pub mod Turns
+pub mod Custody
+pub mod Views
+pub mod Due
+pub mod GoneClients
+pub mod Ticks
+pub mod Holding
+pub mod Start
+pub mod GoneViews

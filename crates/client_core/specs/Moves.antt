@@ -1,10 +1,10 @@
 -- What a turn adds to the journals of objects.
 use Rattle.std.specs.Prelude.{◌≡◌, ℕ, List, ◌++◌, length, slice_get, slice_set, Some}
-use Rattle.hosted_core.specs.Fronts.{IsNextFront}
-use Rattle.hosted_core.specs.Scene.{Scene}
-use Rattle.hosted_core.specs.Steps.{Steps, BeginsBy}
-use Rattle.post_core.specs.Texts.{to}
-use Rattle.custody_core.specs.Custody.{held_lines_in}
+use Rattle.live_core.specs.Fronts.{IsNextFront}
+use Rattle.live_core.specs.Scene.{Scene}
+use Rattle.live_core.specs.HostedSteps.{Steps, BeginsBy}
+use Rattle.keep_loop.specs.Texts.{to}
+use Rattle.client_core.specs.Custody.{held_lines_in}
 use Rattle.client_core.specs.State.{State}
 
 -- each object goes by such steps, and the lines that are added to its journal are those of them

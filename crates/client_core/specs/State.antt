@@ -4,8 +4,8 @@ use Rattle.client_core.specs.declared.client.ClientPlace.{ClientPlace}
 use Rattle.client_core.specs.declared.client.OpenObject.{OpenObject}
 use Rattle.client_core.specs.declared.clients.ClientPlaces.{ClientPlaces}
 use Rattle.client_core.specs.Held.{is_not, waits_of, with_waits}
-use Rattle.hosted_core.specs.Scene.{Scene}
-use Rattle.custody_core.specs.Custody.{Custodies}
+use Rattle.live_core.specs.Scene.{Scene}
+use Rattle.client_core.specs.Custody.{Custodies}
 
 -- A place of connections: which one is there, what it has opened, its lines that are held, each with its LF, and whether
 -- the LF of the last of them did not come.

@@ -6,7 +6,7 @@ use Rattle.decl_core.specs.ObjectMap.{object_of}
 use Rattle.decl_core.specs.ObjectForm.{ObjectForm}
 use Rattle.word_core.specs.Events.{Called}
 use Rattle.live_core.specs.Hall.{Every, Told, IsHeld, trace}
-use Rattle.hosted_core.specs.Scene.{Scene, is_given, told_of}
+use Rattle.live_core.specs.Scene.{Scene, is_given, told_of}
 use Rattle.client_core.specs.declared.ask.Sight.{Sight}
 use Rattle.client_core.specs.declared.ask.Sight.TheVariants as insides
 use Rattle.client_core.specs.declared.client.OpenObject.{OpenObject}
@@ -21,7 +21,7 @@ use Rattle.stuck_core.specs.List.{list_text}
 use Rattle.decl_core.specs.HoldForm.{HoldForm}
 use Rattle.guest_core.specs.Held.{HeldCall}
 use Rattle.check_core.specs.HeldTold.{holds_line}
-use Rattle.custody_core.specs.Custody.{holds_by, held_by}
+use Rattle.client_core.specs.Custody.{holds_by, held_by}
 use Rattle.client_core.specs.State.{Peer, State, opened_in, opened_at}
 use Rattle.client_core.specs.Deeds.{Texts, Deed, OnlyTold}
 

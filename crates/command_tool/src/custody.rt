@@ -2,13 +2,13 @@
 
 use crate::begin::{LIMITS, NAMES};
 use crate::lines::count_lines;
-use custody_core::all::AllHeld;
-use custody_core::holding::Holding;
+use client_core::all::AllHeld;
+use client_core::holding::Holding;
 use decl_core::hold::Rules;
 use decl_core::object::Object;
 use front_read::hold_lines::push_held;
 use guest_core::held::Holds;
-use hosted_core::hosted::Hosted;
+use live_core::hosted::Hosted;
 use recover_core::past::play_held;
 use recover_core::recover::{House, RecoverFault};
 use recover_core::text::{HeldFront, cut_held, read_held};

@@ -7,7 +7,7 @@ ghost use Rattle.serve_core.specs.Ending.{ObjectsAreSaved};
 use answer_core::failure::ToolFailure;
 use device_core::hand::HandFault;
 use device_core::shelf::Shelf;
-use hosted_core::hosted::Hosted;
+use live_core::hosted::Hosted;
 use serve_core::ending::save_objects;
 use std::alloc::Global;
 use std::io::Write;

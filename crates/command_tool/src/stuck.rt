@@ -9,7 +9,7 @@ use decl_core::analyse::Accepted;
 use decl_core::object::Object;
 use std::alloc::{AllocError, Global};
 use stuck_core::found::StuckVerdict;
-use stuck_search::find::find;
+use stuck_core::search::find;
 
 // So many states of each object are looked at before a server begins.
 const MOST_STATES: usize = 1_000;

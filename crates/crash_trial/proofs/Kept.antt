@@ -3,8 +3,8 @@ use Rattle.std.proofs.Common.{◌≡◌, ◌⊎◌, Vec, Option, None, Some, set
 use Rattle.std.proofs.Math.Seq.{take-length}
 use Rattle.std.proofs.lemmas.List.{take-append-le}
 use Rattle.std.specs.declared.alloc.Global.{Global}
-use Rattle.post_core.specs.Device.{IsTorn, Writes, with_bytes, Elapses}
-use Rattle.post_core.proofs.Lines.{torn_old, torn_new, length-with_bytes}
+use Rattle.keep_loop.specs.Device.{IsTorn, Writes, with_bytes, Elapses}
+use Rattle.keep_loop.proofs.Lines.{torn_old, torn_new, length-with_bytes}
 use Rattle.crash_trial.specs.declared.device.Happened.{Happened}
 use Rattle.crash_trial.specs.declared.device.Happened.TheVariants.{Wrote, Stored, Replaced, Refused}
 use Rattle.crash_trial.specs.Kept.{read_behind, Leaves, MayLeave, LeftSince}

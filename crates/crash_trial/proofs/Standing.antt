@@ -1,7 +1,7 @@
 -- One call behind the other.
 use Rattle.std.proofs.Common.{◌≡◌, ◌∙◌, ap, sym, subst, refl, ℕ, List, [], ◌∷◌, take, Result, Ok, Err, IfOk}
 use Rattle.std.specs.declared.alloc.AllocError.{AllocError}
-use Rattle.post_core.specs.Journal.{recovered}
+use Rattle.keep_loop.specs.Journal.{recovered}
 use Rattle.crash_trial.specs.declared.device.Happened.{Happened}
 use Rattle.crash_trial.specs.declared.device.Happened.TheVariants.{Wrote, Stored, Replaced, Refused}
 use Rattle.crash_trial.specs.declared.judge.Standing.{Standing}

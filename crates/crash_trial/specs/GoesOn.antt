@@ -3,10 +3,10 @@ use Rattle.std.specs.Prelude.{ℕ, List, []}
 use Rattle.decl_core.specs.declared.object.Object.{Object}
 use Rattle.live_core.specs.declared.call.Limits.{Limits}
 use Rattle.recover_core.specs.declared.recover.Recovered.{Recovered}
-use Rattle.hosted_core.specs.declared.start.EndedEpoch.{EndedEpoch}
-use Rattle.hosted_core.specs.Again.{BeginsAgain}
-use Rattle.hosted_core.specs.Scene.{Scene}
-use Rattle.hosted_core.specs.Fronts.{AddsFirst}
+use Rattle.live_core.specs.declared.start.EndedEpoch.{EndedEpoch}
+use Rattle.live_core.specs.Again.{BeginsAgain}
+use Rattle.live_core.specs.Scene.{Scene}
+use Rattle.live_core.specs.Fronts.{AddsFirst}
 
 -- the epoch that was recovered, as one that has ended
 abbrev pub ended_of : Recovered → EndedEpoch

@@ -2,7 +2,7 @@
 use Rattle.std.specs.Prelude.{◌≡◌, ◌⊎◌, ℕ, ◌+◌, ◌≤◌, List, [], ◌∷◌, length, take}
 use Rattle.std.proofs.Common.{refl, sym, ◌∙◌, ap, subst, arith}
 use Rattle.std.proofs.Math.Seq.{take-length}
-use Rattle.post_core.specs.Device.{IsTorn, with_bytes}
+use Rattle.keep_loop.specs.Device.{IsTorn, with_bytes}
 use Rattle.crash_trial.specs.declared.device.Happened.{Happened}
 use Rattle.crash_trial.specs.declared.device.Happened.TheVariants.{Wrote, Stored, Replaced, Refused}
 

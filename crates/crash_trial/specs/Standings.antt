@@ -1,7 +1,7 @@
 -- What stands in a journal behind calls.
 use Rattle.std.specs.Prelude.{◌≡◌, ◌≤◌, ℕ, ◌+◌, ◌-◌, ◌^◌, ◌==◌, min, IsTrue, List, [], ◌∷◌, ◌++◌, length}
 use Rattle.std.specs.List.{starts_with}
-use Rattle.post_core.specs.Journal.{recovered}
+use Rattle.keep_loop.specs.Journal.{recovered}
 use Rattle.crash_trial.specs.declared.device.Happened.{Happened}
 use Rattle.crash_trial.specs.declared.device.Happened.TheVariants.{Wrote, Stored, Replaced, Refused}
 use Rattle.crash_trial.specs.declared.judge.Standing.{Standing}

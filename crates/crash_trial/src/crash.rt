@@ -1,7 +1,7 @@
 //! What a crash leaves of a file, drawn.
 
 ghost use Rattle.std.specs.Prelude.{◌≡◌, ◌≢◌, ◌+◌, ◌≤◌, length, IfOk, IfSome};
-ghost use Rattle.post_core.specs.Device.{with_bytes, IsTorn};
+ghost use Rattle.keep_loop.specs.Device.{with_bytes, IsTorn};
 ghost use Rattle.crash_trial.specs.Kept.{Leaves};
 
 use crate::device::{Happened, with};

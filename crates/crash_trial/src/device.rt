@@ -2,10 +2,10 @@
 
 ghost use Rattle.std.specs.Prelude.{◌≡◌, ◌≤◌, ◌++◌, ◌∷◌, [], Some, length, IfOk, OnOk, OnErr};
 ghost use Rattle.crash_trial.specs.Kept.{read_behind, MayLeave, LeftSince, counts, only};
-ghost use Rattle.post_core.specs.Device.{with_bytes};
+ghost use Rattle.keep_loop.specs.Device.{with_bytes};
 
 use crate::crash::mixed;
-use post_core::device::{Device, DeviceError};
+use keep_loop::device::{Device, DeviceError};
 use std::alloc::{AllocError, Global};
 
 /// A call that changed something.

@@ -1,18 +1,18 @@
 //! Plays the lines of a scenario on a kept object over a journal.
 
-ghost use Rattle.post_core.specs.Journal.{AreLines};
-ghost use Rattle.post_core.specs.Order.{IsInOrder};
+ghost use Rattle.keep_loop.specs.Journal.{AreLines};
+ghost use Rattle.keep_loop.specs.Order.{IsInOrder};
 ghost use Rattle.std.specs.Prelude.{◌≡◌, ◌≢◌, ◌<◌, ◌+◌, ◌^◌, [], length, true, IfOk, IfSome, OnOk};
 
 use decl_core::object::Object;
 use guest_core::guests::Guests;
-use hosted_core::hosted::{Hosted, HostedStart};
+use keep_loop::device::Device;
+use keep_loop::journal::{Journal, recovered_are_lines, recovered_len};
 use live_core::call::Limits;
+use live_core::hosted::{Hosted, HostedStart};
 use live_core::live::Live;
 use live_core::source::source_of;
 use path_tree::name::Name;
-use post_core::device::Device;
-use post_core::journal::{Journal, recovered_are_lines, recovered_len};
 use std::alloc::{AllocError, AllocFailed, Global};
 use value_core::datum::Datum;
 use value_core::value::Value;

@@ -6,7 +6,7 @@ ghost use Rattle.crash_trial.specs.Standings.{Follows, StandsBehind, IsFrontOf, 
 use crate::crash::{SurvivingBytes, crash};
 use crate::device::Happened;
 use decl_core::object::Object;
-use post_core::journal::recovered_len;
+use keep_loop::journal::recovered_len;
 use recover_core::recover::{House, Recovered};
 use recover_core::text_recover::recover;
 use std::alloc::{AllocError, Global};

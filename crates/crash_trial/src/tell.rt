@@ -5,9 +5,9 @@ ghost use Rattle.crash_trial.specs.GoesOn.{IsFrontBehind};
 
 use audit_core::epoch_replay::ReplayedEpoch;
 use decl_core::object::Object;
-use hosted_core::start::{EndedEpoch, begin_again};
 use live_core::call::Limits;
 use live_core::source::source_of;
+use live_core::start::{EndedEpoch, begin_again};
 use recover_core::recover::Recovered;
 use std::alloc::{AllocError, Global};
 

@@ -8,17 +8,17 @@ ghost use Rattle.std.specs.Prelude.{◌≡◌, All, Some, slice_get};
 ghost use Rattle.value_core.specs.declared.datum.Datum.{Datum as ADatum};
 ghost use Rattle.value_core.specs.Datum.{IsDatum};
 ghost use Rattle.apply_core.specs.Fits.{ArgumentsFit};
-ghost use Rattle.board_core.specs.Lists.{Every};
-ghost use Rattle.board_core.specs.Calls.{AcceptedCall};
-ghost use Rattle.board_core.specs.Board.{call_at};
-ghost use Rattle.board_core.specs.Sound.{IsSound};
+ghost use Rattle.desk_core.specs.Lists.{Every};
+ghost use Rattle.desk_core.specs.Calls.{AcceptedCall};
+ghost use Rattle.desk_core.specs.Board.{call_at};
+ghost use Rattle.desk_core.specs.Sound.{IsSound};
 ghost use Rattle.desk_core.specs.Held.{TellsDatum, CanBeTold};
 
+use crate::call::Call;
 use crate::desk::Desk;
+use crate::entry::Entry;
 use apply_core::reply::Reply;
 use apply_core::slim::Slims;
-use board_core::call::Call;
-use board_core::entry::Entry;
 use word_core::names::object_has_names;
 
 // What was replied is a datum, where it is one that a function replied.

@@ -3,17 +3,17 @@
 ghost use Rattle.std.specs.Prelude.{◌≡◌, ◌++◌, OnOk, IfSome, IfNone, Some, None, map, length};
 ghost use Rattle.std.specs.Arc.{arc_value};
 ghost use Rattle.decl_core.specs.ObjectMap.{object_of};
-ghost use Rattle.board_core.specs.Lists.{Every};
-ghost use Rattle.board_core.specs.Board.{call_at};
+ghost use Rattle.desk_core.specs.Lists.{Every};
+ghost use Rattle.desk_core.specs.Board.{call_at};
 ghost use Rattle.word_core.specs.Words.{line_of};
 ghost use Rattle.word_core.specs.Text.{event_words, lines_of};
 ghost use Rattle.desk_core.specs.Kept.{IsMarkIn, events_of, event_of as event_told};
 ghost use Rattle.desk_core.specs.Told.{line_told};
 
+use crate::call::Call;
+use crate::entry::Entry;
+use crate::event::TraceEvent;
 use crate::marks::{Mark, event_of};
-use board_core::call::Call;
-use board_core::entry::Entry;
-use board_core::event::TraceEvent;
 use decl_core::object::Object;
 use std::alloc::{AllocError, Global};
 use std::sync::Arc;

@@ -3,11 +3,11 @@
 use crate::scratch::Deed::{self, Has, Lacks, MakeFolder, Remove, RemoveFolder, Write as Put};
 use crate::scratch::Scratch;
 use crate::shelf_calls::Bytes;
-use post_core::device::{Device, DeviceError};
-use post_core::folder::FolderFile;
-use post_core::journal::{Journal, recover};
-use post_core::memory::Memory;
-use post_core::uncalled::{JournalStep, RoundFault};
+use keep_loop::device::{Device, DeviceError};
+use keep_loop::folder::FolderFile;
+use keep_loop::journal::{Journal, recover};
+use keep_loop::memory::Memory;
+use keep_loop::uncalled::{JournalStep, RoundFault};
 use std::alloc::Global;
 use std::io::{self, ErrorKind, Write};
 use std::process;

@@ -1,5 +1,5 @@
 //! What every hand and every shelf does, what theirs are told of folders, and what journals and their files do, over the
-//! public calls of `device_core`, `device_core` and `post_core`. Above each test stands the edit of `wrong-by-test/`
+//! public calls of `device_core` and `keep_loop`. Above each test stands the edit of `wrong-by-test/`
 //! that it catches, or what no case can show.
 #![tactic(auto)]
 

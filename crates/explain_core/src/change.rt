@@ -11,7 +11,7 @@ use note_core::span::{Span, behind, front};
 use path_tree::node::OpId;
 use std::alloc::{AllocError, Global};
 use stuck_core::found::{Finding, Findings};
-use stuck_search::find::find;
+use stuck_core::search::find;
 
 // The most states of an object that is tried.
 const MOST_STATES: usize = 4_096;

@@ -10,7 +10,7 @@ use crate::ways::push_ways;
 use path_tree::node::OpId;
 use std::alloc::{AllocError, Global};
 use stuck_core::found::{Finding, Findings, StuckVerdict};
-use stuck_search::find::{MOST_STATES, find};
+use stuck_core::search::{MOST_STATES, find};
 
 /// Calls of an object, one after the other, and the operations that are lost after them.
 #[derive(Clone, Copy)]

@@ -15,12 +15,12 @@ use Rattle.session_text.specs.Lines.{bye_text, line_text, opened_text}
 use Rattle.guest_core.specs.declared.seats.SeatHolder.TheVariants.{Nameless}
 use Rattle.guest_core.specs.Guests.{with_seat}
 use Rattle.guest_core.specs.Keys.{asks as asks_for}
-use Rattle.hosted_core.specs.declared.hosted.KeyState.{KeyState}
-use Rattle.hosted_core.specs.declared.hosted.KeyState.TheVariants as keys
-use Rattle.hosted_core.specs.Keys.{Says as SaysOf, Repeats as IsRepeat, operation_or}
-use Rattle.hosted_core.specs.Lines.{entered_lines}
-use Rattle.hosted_core.specs.Scene.{Scene, with_guests}
-use Rattle.hosted_core.specs.Steps.{does, comes, gets_number, leaves, rests}
+use Rattle.live_core.specs.declared.hosted.KeyState.{KeyState}
+use Rattle.live_core.specs.declared.hosted.KeyState.TheVariants as keys
+use Rattle.live_core.specs.Keys.{Says as SaysOf, Repeats as IsRepeat, operation_or}
+use Rattle.live_core.specs.HostedLines.{entered_lines}
+use Rattle.live_core.specs.Scene.{Scene, with_guests}
+use Rattle.live_core.specs.HostedSteps.{does, comes, gets_number, leaves, rests}
 use Rattle.client_core.specs.declared.ask.Ask.{Ask}
 use Rattle.client_core.specs.declared.ask.Ask.TheVariants as asks
 use Rattle.client_core.specs.declared.ask.Sight.{Sight}
@@ -28,7 +28,7 @@ use Rattle.client_core.specs.declared.client.OpenObject.{OpenObject}
 use Rattle.client_core.specs.Asks.{Asks}
 use Rattle.client_core.specs.Held.{is_some, waits_of}
 use Rattle.client_core.specs.Asked.{OpensBare, OpensAs, Opens, GetsNumber, Sits, Calls, RepeatsUnder, AnswersCall, AnswersInside, LeavesObject, Goes, Quits, Acts, Heeds, keyed_text}
-use Rattle.custody_core.specs.Custody.{not_held_text}
+use Rattle.client_core.specs.Custody.{not_held_text}
 use Rattle.client_core.specs.Deeds.{Texts}
 use Rattle.client_core.specs.Gone.{SeatsOne, Frees}
 use Rattle.client_core.specs.State.{Peer, State, change, changed, nobody, opened_at, opened_in, one_text, opening, session_by, told_to, waits_at, who_at, who_in}

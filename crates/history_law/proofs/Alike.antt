@@ -9,7 +9,7 @@ use Rattle.guest_core.specs.Guests.{Guests, IsSound, IsUnknown, guest_of}
 use Rattle.guest_core.specs.Keys.{Keys, HasKey, fresh_keys, remembered}
 use Rattle.guest_core.proofs.Items.{get_set}
 use Rattle.guest_core.proofs.Sound.{sound_changed}
-use Rattle.hosted_core.specs.Fronts.{client_of as client_from}
+use Rattle.live_core.specs.Fronts.{client_of as client_from}
 use Rattle.history_law.specs.Keys.{KeyedCall, KeyEvent, epoch_began, name_came, call_ended, IsAmong, StaysKnown, Gives, IsNext, IsRemembered}
 use Rattle.history_law.proofs.Counted.{Events, CallsAreNext, calls_on, next_own, next_other, next_came, next_apart, next_began, stands_once}
 use Rattle.history_law.specs.Keyed.{HaveKeys}

@@ -8,11 +8,11 @@ use Rattle.apply_core.specs.declared.reply.Reply.{Reply}
 use Rattle.session_text.specs.declared.line.ReplyLine.TheVariants as lines
 use Rattle.session_text.specs.Lines.{cancel_name, repeated_text}
 use Rattle.guest_core.specs.Keys.{asks as asks_for}
-use Rattle.hosted_core.specs.declared.hosted.KeyState.{KeyState}
-use Rattle.hosted_core.specs.declared.hosted.KeyState.TheVariants as keys
-use Rattle.hosted_core.specs.Keys.{Repeats, Says, operation_or}
-use Rattle.hosted_core.specs.Scene.{Scene}
-use Rattle.post_core.specs.Turns.{Turn}
+use Rattle.live_core.specs.declared.hosted.KeyState.{KeyState}
+use Rattle.live_core.specs.declared.hosted.KeyState.TheVariants as keys
+use Rattle.live_core.specs.Keys.{Repeats, Says, operation_or}
+use Rattle.live_core.specs.Scene.{Scene}
+use Rattle.keep_loop.specs.Turns.{Turn}
 use Rattle.client_core.specs.declared.ask.Ask.{Ask}
 use Rattle.client_core.specs.declared.ask.Ask.TheVariants as asks
 use Rattle.client_core.specs.Asks.{Asks}

@@ -5,10 +5,10 @@ use Rattle.std.proofs.lemmas.Bool.Decides.{eqb_tells}
 use Rattle.std.proofs.lemmas.List.{append-nil, length-set}
 use Rattle.std.proofs.lemmas.Option.{same_Some, slice_get_within}
 use Rattle.audit_core.specs.Steps.{Step}
-use Rattle.hosted_core.specs.Scene.{Scene}
-use Rattle.hosted_core.specs.Steps.{Steps, rests, goes_on}
+use Rattle.live_core.specs.Scene.{Scene}
+use Rattle.live_core.specs.HostedSteps.{Steps, rests, goes_on}
 use Rattle.history_law.specs.Happens.{all_happen}
-use Rattle.post_core.specs.Texts.{to}
+use Rattle.keep_loop.specs.Texts.{to}
 use Rattle.client_core.specs.Deeds.{Texts}
 use Rattle.client_core.proofs.Moving.{to_more}
 use Rattle.history_law.specs.Said.{Account, AllWent}

@@ -11,18 +11,18 @@ use Rattle.guest_core.specs.declared.kept.RememberedCall.{RememberedCall}
 use Rattle.guest_core.specs.Guests.{Guests, IsSound}
 use Rattle.guest_core.proofs.Sound.{sound_renewed}
 use Rattle.audit_core.specs.Steps.{Step}
-use Rattle.hosted_core.specs.Fronts.{client_of}
-use Rattle.hosted_core.specs.Scene.{Scene}
-use Rattle.hosted_core.specs.Steps.{Steps, BeginsBy, rests}
+use Rattle.live_core.specs.Fronts.{client_of}
+use Rattle.live_core.specs.Scene.{Scene}
+use Rattle.live_core.specs.HostedSteps.{Steps, BeginsBy, rests}
 use Rattle.history_law.specs.Happens.{all_happen}
 use Rattle.history_law.specs.Keys.{KeyEvent, KeyedCall, epoch_began, IsKeptLine, IsRemembered}
 use Rattle.history_law.specs.Keyed.{HaveKeys, with_steps}
 use Rattle.history_law.proofs.Keeping.{steps_keep_keys, epoch_keeps_keys}
-use Rattle.post_core.specs.Texts.{to}
-use Rattle.post_core.specs.Turns.{Asked, Turn}
-use Rattle.post_core.specs.Turns.Asked.{Heard, Noted, Changes}
+use Rattle.keep_loop.specs.Texts.{to}
+use Rattle.keep_loop.specs.Turns.{Asked, Turn}
+use Rattle.keep_loop.specs.Turns.Asked.{Heard, Noted, Changes}
 use Rattle.client_core.specs.Deeds.{Texts}
-use Rattle.custody_core.specs.Custody.{held_lines, held_lines_in}
+use Rattle.client_core.specs.Custody.{held_lines, held_lines_in}
 use Rattle.client_core.specs.Moves.{BeginsHeld}
 use Rattle.client_core.specs.State.{State}
 use Rattle.history_law.specs.Said.{Account}

@@ -15,9 +15,9 @@ use Rattle.audit_core.specs.Steps.{Begun, Heard, nothing_heard, told_by}
 use Rattle.audit_core.specs.EpochTells.{IsSession}
 use Rattle.recover_core.specs.Carried.{calls_of}
 use Rattle.recover_core.specs.Playing.{begun_by}
-use Rattle.hosted_core.specs.Fronts.{carried_from, front_of}
-use Rattle.hosted_core.specs.Scene.{Scene}
-use Rattle.hosted_core.specs.Steps.{IsFollowed}
+use Rattle.live_core.specs.Fronts.{carried_from, front_of}
+use Rattle.live_core.specs.Scene.{Scene}
+use Rattle.live_core.specs.HostedSteps.{IsFollowed}
 use Rattle.history_law.specs.Stands.{IsAwaited, AreSeated, Stands}
 use Rattle.history_law.specs.Begins.{BegunStands, FollowedStands, AgainStands}
 use Rattle.history_law.proofs.Seating.{seated_renewed}

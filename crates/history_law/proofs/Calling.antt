@@ -10,15 +10,15 @@ use Rattle.live_core.specs.declared.live.Taken.{Taken}
 use Rattle.live_core.specs.Answers.{asked}
 use Rattle.live_core.specs.Hall.{Every, Hall, Told, IsHeld}
 use Rattle.live_core.specs.Settles.{with_all}
-use Rattle.hosted_core.specs.Calls.{Does}
-use Rattle.hosted_core.specs.Scene.{Scene}
-use Rattle.hosted_core.specs.Steps as hosted
-use Rattle.hosted_core.specs.Steps.{Steps}
+use Rattle.live_core.specs.Calls.{Does}
+use Rattle.live_core.specs.Scene.{Scene}
+use Rattle.live_core.specs.HostedSteps as hosted
+use Rattle.live_core.specs.HostedSteps.{Steps}
 use Rattle.decl_core.specs.HoldForm.{HoldForm, RulesForm}
 use Rattle.guest_core.specs.Held.{HeldCall, Fits, MayUndo, MayUndoBy, hold_ended}
 use Rattle.guest_core.specs.Undo.{taken_by, IsUndoOf}
-use Rattle.custody_core.specs.Custody.{Custody, HeldBehindAll, IsOwed, MayMake, holding_now}
-use Rattle.custody_core.specs.Custody.IsOwed.{gives_back, again}
+use Rattle.client_core.specs.Custody.{Custody, HeldBehindAll, IsOwed, MayMake, holding_now}
+use Rattle.client_core.specs.Custody.IsOwed.{gives_back, again}
 use Rattle.history_law.specs.Ended.{ends_of}
 use Rattle.history_law.specs.Keeps.{AreApart, Keeps}
 use Rattle.history_law.proofs.TurnHolding.{happened_by, quiet_none, calls_end, both_end}

@@ -9,7 +9,7 @@ use Rattle.guest_core.specs.declared.seats.SeatHolder.TheVariants.{Void, Free, N
 use Rattle.guest_core.specs.Guests.{Guests, IsNamed, IsSound, with_guest, with_other, with_seat}
 use Rattle.guest_core.proofs.Items.{get_front, get_here, get_there, get_within, one_item}
 use Rattle.guest_core.proofs.Sound.{one_place}
-use Rattle.hosted_core.specs.Calls.{seat_of}
+use Rattle.live_core.specs.Calls.{seat_of}
 use Rattle.history_law.specs.Stands.{AreSeated}
 use Rattle.history_law.specs.Asked.{ClientHas}
 

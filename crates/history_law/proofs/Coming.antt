@@ -14,8 +14,8 @@ use Rattle.guest_core.specs.Entering.{Enters, Leaves}
 use Rattle.guest_core.specs.Guests.{Guests, guest_of, with_seat}
 use Rattle.guest_core.specs.Seats.{IsLeastFree, renewed}
 use Rattle.guest_core.proofs.Items.{get_here, get_last, get_set, get_there}
-use Rattle.hosted_core.specs.Scene.{Scene}
-use Rattle.hosted_core.specs.Steps.{IsFollowed}
+use Rattle.live_core.specs.Scene.{Scene}
+use Rattle.live_core.specs.HostedSteps.{IsFollowed}
 use Rattle.history_law.specs.Stands.{AreSeated}
 use Rattle.history_law.proofs.Seating.{seated_enters, seated_leaves, seated_number, seated_renewed}
 use Rattle.history_law.specs.Awaits.{IsIn}

@@ -7,12 +7,12 @@ use Rattle.decl_core.specs.ObjectMap.{object_of}
 use Rattle.word_core.specs.Events.{Happened as Ended}
 use Rattle.decl_core.specs.HoldForm.{RulesForm}
 use Rattle.front_read.specs.HeldLines.{held_text}
-use Rattle.hosted_core.specs.Scene.{Scene}
-use Rattle.post_core.specs.Texts.{Begins, to}
-use Rattle.post_core.specs.Turns.{Turn, Runs, added_by}
+use Rattle.live_core.specs.Scene.{Scene}
+use Rattle.keep_loop.specs.Texts.{Begins, to}
+use Rattle.keep_loop.specs.Turns.{Turn, Runs, added_by}
 use Rattle.keep_loop.specs.Epochs.{rules_of, front_in, before_in, since_in, Agrees, HasBegun, LastBegan, change_to, BeginsNone}
 use Rattle.keep_loop.specs.Stands.{Survives}
-use Rattle.custody_core.specs.Custody.{Custody, held_lines, held_lines_in}
+use Rattle.client_core.specs.Custody.{Custody, held_lines, held_lines_in}
 use Rattle.table_core.specs.Moves.{Gives, Fronts}
 use Rattle.table_core.specs.Seen.{seen}
 use Rattle.table_core.specs.declared.table.Table.{Table}

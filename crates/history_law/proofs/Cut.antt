@@ -2,7 +2,7 @@
 use Rattle.std.proofs.Common.{◌≡◌, ℕ, ◌≤◌, true, false, List, [], ◌∷◌, ◌++◌, length, take, drop, refl, sym, ap, ◌∙◌, subst, arith, zero, suc, append_assoc, length-append}
 use Rattle.std.specs.Str.Lines.{lines}
 use Rattle.std.proofs.lemmas.Option.{slice_get_within}
-use Rattle.post_core.specs.Journal.{recovered, AreLines, Begins, IsBetween}
+use Rattle.keep_loop.specs.Journal.{recovered, AreLines, Begins, IsBetween}
 use Rattle.history_law.specs.CrashLaws.{TellsParts, IsLeft}
 use Rattle.history_law.proofs.Texts.{lines_cut}
 use Rattle.path_tree.specs.Path.{Path}

@@ -6,12 +6,12 @@ use Rattle.decl_core.specs.declared.object.Object.{Object}
 use Rattle.session_text.specs.Lines.{line_text}
 use Rattle.live_core.specs.Hall.{Every, Hall}
 use Rattle.audit_core.specs.Steps.{Step, ran}
-use Rattle.hosted_core.specs.Scene.{Scene, with_guests}
-use Rattle.hosted_core.specs.Steps as hosted
-use Rattle.hosted_core.specs.Steps.{Steps, goes_on}
+use Rattle.live_core.specs.Scene.{Scene, with_guests}
+use Rattle.live_core.specs.HostedSteps as hosted
+use Rattle.live_core.specs.HostedSteps.{Steps, goes_on}
 use Rattle.guest_core.specs.Guests.{Guests}
 use Rattle.history_law.specs.Happens.{all_happen}
-use Rattle.post_core.specs.Texts.{to}
+use Rattle.keep_loop.specs.Texts.{to}
 use Rattle.client_core.specs.Asked.{IsRefused}
 use Rattle.client_core.specs.Deeds.{Texts, Deed, Nothing, OnlyTold, Then}
 use Rattle.client_core.specs.State.{Peer, State, one_text, told_to, who_in}

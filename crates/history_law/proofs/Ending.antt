@@ -9,10 +9,10 @@ use Rattle.decl_core.specs.ObjectForm.{ObjectForm}
 use Rattle.word_core.specs.Events.{Called, end_of}
 use Rattle.session_text.specs.Lines.{ended_text}
 use Rattle.live_core.specs.declared.call.Ran.{Ran}
-use Rattle.hosted_core.specs.Scene.{Scene, told_of}
+use Rattle.live_core.specs.Scene.{Scene, told_of}
 use Rattle.client_core.specs.declared.client.OpenObject.{OpenObject}
 use Rattle.client_core.specs.Held.{waits_of, with_waits}
-use Rattle.post_core.specs.declared.served.LineEnd.{LineEnd}
+use Rattle.keep_loop.specs.declared.served.LineEnd.{LineEnd}
 use Rattle.client_core.specs.Asked as told
 use Rattle.client_core.specs.Asked.{AllEnd}
 use Rattle.client_core.specs.Deeds.{Texts}

@@ -6,7 +6,7 @@ use Rattle.word_core.specs.Events.{Called}
 use Rattle.live_core.specs.declared.call.Ran.{Ran}
 use Rattle.guest_core.specs.declared.seats.SeatHolder.TheVariants.{Nameless}
 use Rattle.guest_core.specs.Guests.{Guests}
-use Rattle.hosted_core.specs.Scene.{Scene, with_guests, told_of}
+use Rattle.live_core.specs.Scene.{Scene, with_guests, told_of}
 use Rattle.session_text.specs.Lines.{ended_text}
 use Rattle.client_core.specs.declared.client.OpenObject.{OpenObject}
 use Rattle.client_core.specs.Asked.{AllEnd, Ends}

@@ -13,11 +13,11 @@ use Rattle.guest_core.specs.declared.guests.EnterFault.{EnterFault}
 use Rattle.guest_core.specs.declared.seats.SeatHolder.{SeatHolder}
 use Rattle.guest_core.specs.declared.seats.SeatHolder.TheVariants.{Void, Free, Nameless, Named, Retired}
 use Rattle.audit_core.specs.Steps.{Step, ran, named}
-use Rattle.hosted_core.specs.Scene.{Scene, told_of}
-use Rattle.hosted_core.specs.Steps as hosted
-use Rattle.hosted_core.specs.Steps.{Steps, rests, goes_on}
+use Rattle.live_core.specs.Scene.{Scene, told_of}
+use Rattle.live_core.specs.HostedSteps as hosted
+use Rattle.live_core.specs.HostedSteps.{Steps, rests, goes_on}
 use Rattle.history_law.specs.Happens.{with_ran, with_entered, with_cancelled, happens, all_happen}
-use Rattle.post_core.specs.Texts.{to}
+use Rattle.keep_loop.specs.Texts.{to}
 use Rattle.client_core.specs.Deeds.{Texts}
 use Rattle.client_core.proofs.Moving.{to_more}
 use Rattle.history_law.specs.Said.{Account, Went, AllWent, HasRun, HasRemembered, IsTrue}

@@ -7,11 +7,11 @@ use Rattle.std.proofs.lemmas.List.Elements.{All-cons, All-head, All-nil, All-tai
 use Rattle.value_core.specs.Runs.{NoLineFeed}
 use Rattle.decl_core.specs.declared.object.Object.{Object}
 use Rattle.word_core.specs.Events.{Called}
-use Rattle.hosted_core.specs.Scene.{Scene}
-use Rattle.post_core.specs.Turns.{Turn, heard_of, line_from}
-use Rattle.post_core.specs.Turns.Asked.{Heard}
-use Rattle.post_core.specs.declared.served.LineEnd.{LineEnd}
-use Rattle.post_core.specs.declared.served.LineEnd.TheVariants as ends
+use Rattle.live_core.specs.Scene.{Scene}
+use Rattle.keep_loop.specs.Turns.{Turn, heard_of, line_from}
+use Rattle.keep_loop.specs.Turns.Asked.{Heard}
+use Rattle.keep_loop.specs.declared.served.LineEnd.{LineEnd}
+use Rattle.keep_loop.specs.declared.served.LineEnd.TheVariants as ends
 use Rattle.keep_loop.specs.Cuts.{IsCut}
 use Rattle.client_core.specs.Deeds.{Texts}
 use Rattle.client_core.specs.State.{Peer, State, who_at, who_in}

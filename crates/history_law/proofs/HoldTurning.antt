@@ -13,11 +13,11 @@ use Rattle.decl_core.specs.HoldForm.{RulesForm}
 use Rattle.guest_core.specs.Held.{HeldCall, MayUndo}
 use Rattle.guest_core.proofs.Given.{each_given_once, never_more_given}
 use Rattle.audit_core.specs.Steps.{Step, told_by, happened_of}
-use Rattle.hosted_core.specs.Scene.{Scene}
-use Rattle.post_core.specs.Texts.{to}
-use Rattle.post_core.specs.Turns.{Asked}
-use Rattle.post_core.specs.Turns.Asked.{Heard, Noted, Changes}
-use Rattle.custody_core.specs.Custody.{Custody, Custodies}
+use Rattle.live_core.specs.Scene.{Scene}
+use Rattle.keep_loop.specs.Texts.{to}
+use Rattle.keep_loop.specs.Turns.{Asked}
+use Rattle.keep_loop.specs.Turns.Asked.{Heard, Noted, Changes}
+use Rattle.client_core.specs.Custody.{Custody, Custodies}
 use Rattle.client_core.specs.Deeds.{Texts}
 use Rattle.client_core.specs.Moves.{Begins}
 use Rattle.client_core.specs.State.{State}

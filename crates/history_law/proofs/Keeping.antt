@@ -18,10 +18,10 @@ use Rattle.guest_core.specs.Guests.{Guests, IsNamed, with_away, with_guest, with
 use Rattle.guest_core.specs.Keys.{Keys, Ends}
 use Rattle.guest_core.proofs.Items.{get_more, get_set}
 use Rattle.guest_core.proofs.Sound.{sound_changed, sound_seat, sound_more, sound_other}
-use Rattle.hosted_core.specs.Calls.{IsAsked, AreRemembered, seat_of}
-use Rattle.hosted_core.specs.Fronts.{client_of as client_from}
-use Rattle.hosted_core.specs.Scene.{Scene, told_of}
-use Rattle.hosted_core.specs.Steps as hosted
+use Rattle.live_core.specs.Calls.{IsAsked, AreRemembered, seat_of}
+use Rattle.live_core.specs.Fronts.{client_of as client_from}
+use Rattle.live_core.specs.Scene.{Scene, told_of}
+use Rattle.live_core.specs.HostedSteps as hosted
 use Rattle.history_law.specs.Keys.{epoch_began, name_came, call_ended, client_of, IsRemembered as IsKnown, all_told, oldest}
 use Rattle.history_law.proofs.Counted.{Events, no_calls, nothing_told}
 use Rattle.history_law.proofs.Keyed.{keys_stand_once}

@@ -10,9 +10,9 @@ use Rattle.live_core.specs.Front.{Opening}
 use Rattle.live_core.specs.Epochs.{numbered_from}
 use Rattle.recover_core.specs.Playing.{begun_by}
 use Rattle.audit_core.specs.Steps.{nothing_heard}
-use Rattle.hosted_core.specs.Fronts.{IsNextFront}
-use Rattle.hosted_core.specs.Scene.{Scene, next_base, next_epoch}
-use Rattle.hosted_core.specs.Steps.{Steps, rests, goes_on}
+use Rattle.live_core.specs.Fronts.{IsNextFront}
+use Rattle.live_core.specs.Scene.{Scene, next_base, next_epoch}
+use Rattle.live_core.specs.HostedSteps.{Steps, rests, goes_on}
 use Rattle.history_law.specs.Happens.{all_happen}
 use Rattle.history_law.specs.WrittenRead.{Adds, AddsTwice}
 use Rattle.history_law.specs.Stands.{Stands}
@@ -20,15 +20,15 @@ use Rattle.history_law.specs.Told.{heard_of}
 use Rattle.history_law.proofs.Beginning.{followed_begun, followed_stands}
 use Rattle.history_law.proofs.WrittenReading.{stored_is_read, no_fault_is_found}
 use Rattle.history_law.proofs.WrittenTelling.{steps_are_told}
-use Rattle.post_core.specs.Texts.{Begins, to}
-use Rattle.post_core.specs.Turns.{Asked, Turn, Runs, added_by}
-use Rattle.post_core.specs.Turns.Asked.{Heard, Noted, Changes}
+use Rattle.keep_loop.specs.Texts.{Begins, to}
+use Rattle.keep_loop.specs.Turns.{Asked, Turn, Runs, added_by}
+use Rattle.keep_loop.specs.Turns.Asked.{Heard, Noted, Changes}
 use Rattle.keep_loop.specs.Epochs.{rules_of, front_in, before_in, since_in, BeginsNot, BeginsNone, change_to, Agrees, LastBegan, HasBegun}
 use Rattle.keep_loop.specs.Seen.{Happened}
 use Rattle.keep_loop.specs.Stands.{SurvivesSince}
 use Rattle.keep_loop.proofs.Crashed.{survives_since}
 use Rattle.client_core.specs.Deeds.{Texts}
-use Rattle.custody_core.specs.Custody.{Custodies, held_lines, held_lines_in}
+use Rattle.client_core.specs.Custody.{Custodies, held_lines, held_lines_in}
 use Rattle.client_core.specs.Moves.{Moves, FrontsHeld}
 use Rattle.client_core.specs.State.{State}
 use Rattle.client_core.proofs.Turning.{turns_move}

@@ -8,19 +8,19 @@ use Rattle.live_core.specs.Front.{Opening}
 use Rattle.guest_core.specs.Guests.{Guests, IsSound}
 use Rattle.guest_core.proofs.Sound.{sound_renewed}
 use Rattle.recover_core.specs.declared.recover.Recovered.{Recovered}
-use Rattle.hosted_core.specs.Fronts.{client_of}
-use Rattle.hosted_core.specs.Scene.{Scene}
-use Rattle.hosted_core.specs.Steps.{BeginsBy}
+use Rattle.live_core.specs.Fronts.{client_of}
+use Rattle.live_core.specs.Scene.{Scene}
+use Rattle.live_core.specs.HostedSteps.{BeginsBy}
 use Rattle.history_law.specs.Keys.{KeyEvent, epoch_began, all_told, oldest}
 use Rattle.history_law.specs.Keyed.{HaveKeys, with_steps}
 use Rattle.history_law.proofs.Keeping.{steps_keep_keys, epoch_keeps_keys, read_have_keys, repeat_is_the_call}
-use Rattle.post_core.specs.Texts.{to}
-use Rattle.post_core.specs.Turns.{Asked}
-use Rattle.post_core.specs.Turns.Asked.{Heard, Noted, Changes}
-use Rattle.post_core.specs.declared.served.LineEnd.{LineEnd}
-use Rattle.post_core.specs.declared.served.Note.{Note}
+use Rattle.keep_loop.specs.Texts.{to}
+use Rattle.keep_loop.specs.Turns.{Asked}
+use Rattle.keep_loop.specs.Turns.Asked.{Heard, Noted, Changes}
+use Rattle.keep_loop.specs.declared.served.LineEnd.{LineEnd}
+use Rattle.keep_loop.specs.declared.served.Note.{Note}
 use Rattle.client_core.specs.Deeds.{Texts}
-use Rattle.custody_core.specs.Custody.{held_lines, held_lines_in}
+use Rattle.client_core.specs.Custody.{held_lines, held_lines_in}
 use Rattle.client_core.specs.Moves.{BeginsHeld}
 use Rattle.client_core.specs.State.{State}
 use Rattle.history_law.specs.Said.{Account, AllWent, SaysIn}

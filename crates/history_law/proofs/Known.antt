@@ -17,8 +17,8 @@ use Rattle.guest_core.specs.Guests.{Guests, IsNamed, IsSound, SomebodyHas, with_
 use Rattle.guest_core.specs.Keys.{Keys, asks}
 use Rattle.guest_core.specs.Steps.{AtName}
 use Rattle.guest_core.proofs.Items.{get_here, get_set, get_there, one_item}
-use Rattle.hosted_core.specs.Calls.{AreRemembered, Does, IsAsked as AsksOne, LetsGo, seat_of}
-use Rattle.hosted_core.specs.Scene.{Scene}
+use Rattle.live_core.specs.Calls.{AreRemembered, Does, IsAsked as AsksOne, LetsGo, seat_of}
+use Rattle.live_core.specs.Scene.{Scene}
 use Rattle.history_law.specs.Stands.{AreSeated}
 use Rattle.history_law.proofs.Seating.{seated_keys, seated_remembered}
 use Rattle.history_law.proofs.Tables.{whose}

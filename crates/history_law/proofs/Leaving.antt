@@ -13,10 +13,10 @@ use Rattle.session_text.specs.declared.line.ReplyLine.TheVariants as lines
 use Rattle.session_text.specs.declared.line.LineRefusal.TheVariants as refusals
 use Rattle.session_text.specs.Lines.{bye_text, line_text, withdrawn_text}
 use Rattle.word_core.specs.Events.{Called}
-use Rattle.hosted_core.specs.Scene.{Scene, told_of}
-use Rattle.post_core.specs.declared.served.Note.{Note}
-use Rattle.post_core.specs.declared.served.Note.TheVariants as notes
-use Rattle.post_core.specs.Turns.{is_joining}
+use Rattle.live_core.specs.Scene.{Scene, told_of}
+use Rattle.keep_loop.specs.declared.served.Note.{Note}
+use Rattle.keep_loop.specs.declared.served.Note.TheVariants as notes
+use Rattle.keep_loop.specs.Turns.{is_joining}
 use Rattle.client_core.specs.declared.ask.Ask.{Ask}
 use Rattle.client_core.specs.declared.ask.Ask.TheVariants as asks
 use Rattle.client_core.specs.declared.client.OpenObject.{OpenObject}

@@ -18,17 +18,17 @@ use Rattle.history_law.specs.Ended.{ends_of}
 use Rattle.history_law.proofs.TurnHolding.{calls_end, ends_alike, ends_both, quiet_none}
 use Rattle.history_law.proofs.TurnKeeping.{ran_ends}
 use Rattle.audit_core.specs.Steps.{Begun, Heard, Step, told_by}
-use Rattle.hosted_core.specs.Calls.{RepliesDatum}
-use Rattle.hosted_core.specs.Scene.{Scene}
-use Rattle.hosted_core.specs.Steps as hosted
+use Rattle.live_core.specs.Calls.{RepliesDatum}
+use Rattle.live_core.specs.Scene.{Scene}
+use Rattle.live_core.specs.HostedSteps as hosted
 use Rattle.history_law.specs.Named.{IsNamed}
 use Rattle.history_law.specs.Happens.{all_happen, happens}
 use Rattle.history_law.specs.Stands.{IsAwaited, Stands}
 use Rattle.history_law.specs.Told.{heard_of}
 use Rattle.history_law.proofs.WrittenTelling.{steps_are_told}
-use Rattle.post_core.specs.Turns.{Asked}
-use Rattle.post_core.specs.Turns.Asked.{Heard as Hears, Noted, Changes}
-use Rattle.custody_core.specs.Custody.{as_told}
+use Rattle.keep_loop.specs.Turns.{Asked}
+use Rattle.keep_loop.specs.Turns.Asked.{Heard as Hears, Noted, Changes}
+use Rattle.client_core.specs.Custody.{as_told}
 use Rattle.history_law.specs.Said.{SaysIn, Went}
 use Rattle.history_law.proofs.Going.{all_alike, all_more}
 use Rattle.table_core.specs.Seen.{seen}

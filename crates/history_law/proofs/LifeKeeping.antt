@@ -22,10 +22,10 @@ use Rattle.guest_core.specs.Guests.{Guests, guest_of}
 use Rattle.guest_core.specs.Keys.{Keys, Asks, Ends, asks, fresh_keys}
 use Rattle.guest_core.specs.Steps.{AtName}
 use Rattle.audit_core.specs.Steps.{Begun, Heard, told_by}
-use Rattle.hosted_core.specs.Calls.{AreRemembered}
-use Rattle.hosted_core.specs.Scene.{Scene, told_of}
-use Rattle.hosted_core.specs.Steps as hosted
-use Rattle.hosted_core.specs.Steps.{IsFollowed}
+use Rattle.live_core.specs.Calls.{AreRemembered}
+use Rattle.live_core.specs.Scene.{Scene, told_of}
+use Rattle.live_core.specs.HostedSteps as hosted
+use Rattle.live_core.specs.HostedSteps.{IsFollowed}
 use Rattle.history_law.specs.Named.{IsNamed}
 use Rattle.history_law.specs.Happens.{all_happen}
 use Rattle.history_law.specs.Stands.{AreSeated, Stands}

@@ -32,22 +32,22 @@ use Rattle.recover_core.specs.declared.recover.House.{House}
 use Rattle.recover_core.specs.declared.recover.Recovered.{Recovered}
 use Rattle.recover_core.specs.Playing.{begun_by}
 use Rattle.recover_core.specs.Text.{IsRead}
-use Rattle.hosted_core.specs.Fronts.{IsNextFront, IsPastOf, front_of}
-use Rattle.hosted_core.specs.Scene.{Scene, next_base, next_epoch}
-use Rattle.hosted_core.specs.Steps.{BeginsBy}
+use Rattle.live_core.specs.Fronts.{IsNextFront, IsPastOf, front_of}
+use Rattle.live_core.specs.Scene.{Scene, next_base, next_epoch}
+use Rattle.live_core.specs.HostedSteps.{BeginsBy}
 use Rattle.history_law.specs.WrittenRead.{Adds}
 use Rattle.history_law.proofs.Beginning.{followed_stands}
 use Rattle.history_law.specs.Read.{IsReadOf}
 use Rattle.history_law.specs.Year.{Epoch, Follows, AreEpochs, all_ends, first_opening}
 use Rattle.history_law.proofs.Reading.{epochs_up_to, read_is_epoch}
 use Rattle.history_law.proofs.Sound.{epochs_are_sound}
-use Rattle.post_core.specs.Texts.{Begins, to}
-use Rattle.post_core.specs.Turns.{Turn, Runs, added_by}
+use Rattle.keep_loop.specs.Texts.{Begins, to}
+use Rattle.keep_loop.specs.Turns.{Turn, Runs, added_by}
 use Rattle.keep_loop.specs.declared.keep.LoopLimits.{LoopLimits}
 use Rattle.keep_loop.specs.Seen.{Happened}
 use Rattle.keep_loop.specs.Epochs.{rules_of, front_in, before_in, since_in, stored_since, Agrees, HasBegun, LastBegan, change_to, BeginsNone}
 use Rattle.keep_loop.specs.Stands.{IsBetween, Survives}
-use Rattle.custody_core.specs.Custody.{Custody, Custodies, held_lines, held_lines_in}
+use Rattle.client_core.specs.Custody.{Custody, Custodies, held_lines, held_lines_in}
 use Rattle.history_law.specs.Said.{Account}
 use Rattle.table_core.specs.Moves.{Gives, Fronts}
 use Rattle.table_core.specs.Seen.{seen}

@@ -3,7 +3,7 @@ use Rattle.std.proofs.Common.{subst, []}
 use Rattle.decl_core.specs.ObjectMap.{object_of}
 use Rattle.audit_core.specs.Steps.{nothing_heard, told_by}
 use Rattle.recover_core.specs.Playing.{begun_by}
-use Rattle.hosted_core.specs.Fronts.{front_of}
+use Rattle.live_core.specs.Fronts.{front_of}
 use Rattle.history_law.specs.Year.{IsEpoch, epoch_of}
 use Rattle.history_law.proofs.Sound.{kept_is_epoch}
 use Rattle.history_law.proofs.TurnLiving.{start_epochs}

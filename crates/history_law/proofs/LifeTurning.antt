@@ -6,15 +6,15 @@ use Rattle.std.proofs.lemmas.Option.{same_Some}
 use Rattle.decl_core.specs.ObjectForm.{ObjectForm}
 use Rattle.live_core.specs.Epochs.{numbered_from}
 use Rattle.audit_core.specs.Steps.{nothing_heard}
-use Rattle.hosted_core.specs.Scene.{Scene}
+use Rattle.live_core.specs.Scene.{Scene}
 use Rattle.history_law.specs.Happens.{all_happen}
 use Rattle.history_law.specs.Stands.{Stands}
 use Rattle.history_law.specs.Told.{heard_of}
 use Rattle.history_law.proofs.Beginning.{followed_begun}
 use Rattle.history_law.proofs.WrittenTelling.{steps_are_told}
-use Rattle.post_core.specs.Texts.{to}
-use Rattle.post_core.specs.Turns.{Asked}
-use Rattle.post_core.specs.Turns.Asked.{Heard, Noted, Changes}
+use Rattle.keep_loop.specs.Texts.{to}
+use Rattle.keep_loop.specs.Turns.{Asked}
+use Rattle.keep_loop.specs.Turns.Asked.{Heard, Noted, Changes}
 use Rattle.client_core.specs.Deeds.{Texts}
 use Rattle.table_core.specs.Moves.{Gives}
 use Rattle.table_core.specs.declared.table.Table.{Table}

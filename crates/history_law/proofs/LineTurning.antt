@@ -7,17 +7,17 @@ use Rattle.std.proofs.lemmas.Option.{same_Some}
 use Rattle.decl_core.specs.declared.object.Object.{Object}
 use Rattle.decl_core.specs.ObjectMap.{object_of}
 use Rattle.word_core.specs.Text.{operation_name}
-use Rattle.hosted_core.specs.Scene.{Scene}
-use Rattle.post_core.specs.Texts.{to}
-use Rattle.post_core.specs.Turns.{Asked, Turn, Runs}
-use Rattle.post_core.specs.Turns.Asked.{Heard, Noted, Changes}
-use Rattle.post_core.specs.declared.served.LineEnd.{LineEnd}
-use Rattle.post_core.specs.declared.served.LineEnd.TheVariants as ends
+use Rattle.live_core.specs.Scene.{Scene}
+use Rattle.keep_loop.specs.Texts.{to}
+use Rattle.keep_loop.specs.Turns.{Asked, Turn, Runs}
+use Rattle.keep_loop.specs.Turns.Asked.{Heard, Noted, Changes}
+use Rattle.keep_loop.specs.declared.served.LineEnd.{LineEnd}
+use Rattle.keep_loop.specs.declared.served.LineEnd.TheVariants as ends
 use Rattle.client_core.specs.declared.ask.Ask.{Ask}
 use Rattle.client_core.specs.declared.ask.Ask.TheVariants as asks
 use Rattle.client_core.specs.declared.client.OpenObject.{OpenObject}
 use Rattle.client_core.specs.Asks.{Asks}
-use Rattle.custody_core.specs.Custody.{Custody, IsOwed}
+use Rattle.client_core.specs.Custody.{Custody, IsOwed}
 use Rattle.client_core.specs.Deeds.{Texts}
 use Rattle.client_core.specs.Given as told
 use Rattle.client_core.specs.Held.{is_some}

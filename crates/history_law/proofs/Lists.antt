@@ -9,7 +9,7 @@ use Rattle.live_core.specs.declared.call.Ran.{Ran}
 use Rattle.live_core.specs.Hall.{Every, EachPair, Told}
 use Rattle.live_core.specs.Settles.{Settles}
 use Rattle.live_core.specs.Settles.Settles.{rests, runs}
-use Rattle.hosted_core.specs.Scene.{Scene}
+use Rattle.live_core.specs.Scene.{Scene}
 use Rattle.client_core.specs.declared.client.OpenObject.{OpenObject}
 use Rattle.client_core.specs.State.{Peer, change, opened_in}
 use Rattle.history_law.specs.Awaits.{IsIn}

@@ -2,7 +2,7 @@
 use Rattle.std.proofs.Common.{inl, inr, sym, subst, ℕ, List}
 use Rattle.std.specs.Prelude.{map}
 use Rattle.decl_core.specs.ObjectMap.{object_of}
-use Rattle.hosted_core.specs.Scene.{Scene, is_given}
+use Rattle.live_core.specs.Scene.{Scene, is_given}
 use Rattle.client_core.specs.declared.ask.Sight.{Sight}
 use Rattle.client_core.specs.declared.ask.Sight.TheVariants as insides
 use Rattle.client_core.specs.ToldInside.{Sees, IsWhy, state_by, form_at, object_in}

@@ -18,9 +18,9 @@ use Rattle.live_core.specs.Hall.{Every, Told, Hall, IsHeld}
 use Rattle.live_core.specs.Lines.{all_lines}
 use Rattle.live_core.specs.Settles.{with_all}
 use Rattle.audit_core.specs.Steps.{Step, ran}
-use Rattle.hosted_core.specs.Calls.{Does}
-use Rattle.hosted_core.specs.Scene.{Scene, told_of}
-use Rattle.hosted_core.specs.Steps.{Steps, does, calls, cancels}
+use Rattle.live_core.specs.Calls.{Does}
+use Rattle.live_core.specs.Scene.{Scene, told_of}
+use Rattle.live_core.specs.HostedSteps.{Steps, does, calls, cancels}
 use Rattle.client_core.specs.declared.ask.Ask.TheVariants as asks
 use Rattle.client_core.specs.declared.client.OpenObject.{OpenObject}
 use Rattle.client_core.specs.Asks.{Asks}

@@ -7,14 +7,14 @@ use Rattle.live_core.specs.Hall.{Every}
 use Rattle.decl_core.specs.HoldForm.{HoldForm}
 use Rattle.guest_core.specs.Held.{MayUndo, KeepsHolds}
 use Rattle.audit_core.specs.Steps.{Step}
-use Rattle.hosted_core.specs.Scene.{Scene}
-use Rattle.hosted_core.specs.Steps.{Steps, rests, goes_on}
+use Rattle.live_core.specs.Scene.{Scene}
+use Rattle.live_core.specs.HostedSteps.{Steps, rests, goes_on}
 use Rattle.history_law.specs.Happens.{all_happen}
 use Rattle.history_law.specs.WrittenRead.{Adds}
 use Rattle.history_law.proofs.WrittenReading.{front_is_read}
-use Rattle.post_core.specs.Texts.{to}
-use Rattle.post_core.specs.Turns.{Asked, Turn, added_by}
-use Rattle.post_core.specs.Turns.Asked.{Heard, Noted, Changes}
+use Rattle.keep_loop.specs.Texts.{to}
+use Rattle.keep_loop.specs.Turns.{Asked, Turn, added_by}
+use Rattle.keep_loop.specs.Turns.Asked.{Heard, Noted, Changes}
 use Rattle.keep_loop.specs.Epochs.{BeginsNot, BeginsNone}
 use Rattle.client_core.specs.Deeds.{Texts}
 use Rattle.client_core.specs.State.{State}

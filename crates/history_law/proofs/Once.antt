@@ -7,8 +7,8 @@ use Rattle.audit_core.specs.Steps.{Step, Begun, Heard}
 use Rattle.audit_core.specs.EpochTells.{Tell}
 use Rattle.audit_core.proofs.EpochExact.{tells_once}
 use Rattle.recover_core.specs.Lines.{IsLine, AreLines, joined}
-use Rattle.hosted_core.specs.Scene.{Scene}
-use Rattle.hosted_core.specs.Steps.{Steps}
+use Rattle.live_core.specs.Scene.{Scene}
+use Rattle.live_core.specs.HostedSteps.{Steps}
 use Rattle.history_law.specs.Named.{IsNamed}
 use Rattle.history_law.specs.Happens.{all_happen}
 use Rattle.history_law.specs.Stands.{Stands}

@@ -7,7 +7,7 @@ use Rattle.std.proofs.lemmas.Option.{same_Some}
 use Rattle.value_core.specs.declared.datum.Datum.{Datum}
 use Rattle.live_core.specs.declared.call.Ran.{Ran}
 use Rattle.live_core.specs.Hall.{Every}
-use Rattle.hosted_core.specs.Scene.{Scene}
+use Rattle.live_core.specs.Scene.{Scene}
 use Rattle.client_core.specs.declared.ask.Ask.{Ask}
 use Rattle.client_core.specs.declared.ask.Ask.TheVariants as asks
 use Rattle.client_core.specs.declared.ask.Sight.{Sight}
@@ -21,8 +21,8 @@ use Rattle.client_core.specs.Gone.{CallsFor}
 use Rattle.client_core.specs.State.{Peer, State, change, comer, counted, left_with, nobody, one_text, opened_at, opened_in, opening, told_to, waiting, who_at, who_in, with_object}
 use Rattle.client_core.specs.Turns.EndsHeld.{all, quits, goes_on}
 use Rattle.client_core.specs.Turns.{AllLeave, Comes, EndsAsk, EndsHeld, Leaves, LeavesIf, Notes, TakesLine, WithdrawsAt, place_of}
-use Rattle.post_core.specs.declared.served.Note.{Note}
-use Rattle.post_core.specs.declared.served.Note.TheVariants as notes
+use Rattle.keep_loop.specs.declared.served.Note.{Note}
+use Rattle.keep_loop.specs.declared.served.Note.TheVariants as notes
 use Rattle.history_law.specs.Awaits.{IsIn}
 use Rattle.history_law.specs.Talk.{texts_to}
 use Rattle.history_law.proofs.Going.{every_both, every_map}

@@ -24,11 +24,11 @@ use Rattle.live_core.specs.Hall.{Every}
 use Rattle.guest_core.specs.declared.guest.Guest.{Guest}
 use Rattle.guest_core.specs.Guests.{Guests, IsNamed}
 use Rattle.guest_core.specs.Keys.{asks as asks_for}
-use Rattle.hosted_core.specs.declared.hosted.KeyState.{KeyState}
-use Rattle.hosted_core.specs.declared.hosted.KeyState.TheVariants as keys
-use Rattle.hosted_core.specs.Keys.{Says as SaysOf, Repeats as IsRepeat, operation_or}
-use Rattle.hosted_core.specs.Scene.{Scene, is_given, told_of}
-use Rattle.hosted_core.specs.Steps.{rests}
+use Rattle.live_core.specs.declared.hosted.KeyState.{KeyState}
+use Rattle.live_core.specs.declared.hosted.KeyState.TheVariants as keys
+use Rattle.live_core.specs.Keys.{Says as SaysOf, Repeats as IsRepeat, operation_or}
+use Rattle.live_core.specs.Scene.{Scene, is_given, told_of}
+use Rattle.live_core.specs.HostedSteps.{rests}
 use Rattle.client_core.specs.declared.ask.Ask.{Ask}
 use Rattle.client_core.specs.declared.ask.Ask.TheVariants as asks
 use Rattle.client_core.specs.declared.ask.Sight.{Sight}
@@ -37,7 +37,7 @@ use Rattle.client_core.specs.declared.client.OpenObject.{OpenObject}
 use Rattle.client_core.specs.Asks.{Asks, IsWide, TableDoes, asked_by}
 use Rattle.client_core.specs.Asked as told
 use Rattle.client_core.specs.Asked.{AllEnd, AnswersCall, AnswersCancel, AnswersInside, Calls, Heeds, IsRefused, Opens as OpensOne, Repeats, Sits, keyed_text}
-use Rattle.custody_core.specs.Custody.{not_held_text}
+use Rattle.client_core.specs.Custody.{not_held_text}
 use Rattle.client_core.specs.Deeds.{Texts, OnlyTold}
 use Rattle.client_core.specs.Held.{is_some}
 use Rattle.client_core.specs.State.{Peer, State, one_text, opened_at, opened_in, opening, session_by, told_to, who_in, waits_at, who_at, with_object}

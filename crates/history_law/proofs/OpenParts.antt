@@ -20,13 +20,13 @@ use Rattle.live_core.specs.Hall.{Every}
 use Rattle.guest_core.specs.Guests.{Guests}
 use Rattle.guest_core.specs.Keys.{asks as asks_for}
 use Rattle.audit_core.specs.Steps.{Step}
-use Rattle.hosted_core.specs.declared.hosted.KeyState.TheVariants as keys
-use Rattle.hosted_core.specs.Keys.{Repeats, operation_or}
-use Rattle.hosted_core.specs.Scene.{Scene}
-use Rattle.hosted_core.specs.Steps.{goes_on}
+use Rattle.live_core.specs.declared.hosted.KeyState.TheVariants as keys
+use Rattle.live_core.specs.Keys.{Repeats, operation_or}
+use Rattle.live_core.specs.Scene.{Scene}
+use Rattle.live_core.specs.HostedSteps.{goes_on}
 use Rattle.history_law.specs.Happens.{all_happen}
-use Rattle.post_core.specs.Texts.{to}
-use Rattle.post_core.specs.declared.served.LineEnd.{LineEnd}
+use Rattle.keep_loop.specs.Texts.{to}
+use Rattle.keep_loop.specs.declared.served.LineEnd.{LineEnd}
 use Rattle.client_core.specs.declared.ask.Ask.TheVariants as asks
 use Rattle.client_core.specs.declared.client.OpenObject.{OpenObject}
 use Rattle.client_core.specs.Asks.{Asks}

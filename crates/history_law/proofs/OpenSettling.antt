@@ -8,9 +8,9 @@ use Rattle.guest_core.specs.declared.answer.SubmitFault.TheVariants as faults
 use Rattle.session_text.specs.declared.line.ReplyLine.TheVariants as lines
 use Rattle.session_text.specs.declared.line.LineRefusal.TheVariants as refusals
 use Rattle.session_text.specs.Lines.{bye_text, line_text}
-use Rattle.post_core.specs.Turns.{is_joining}
-use Rattle.post_core.specs.declared.served.Note.{Note}
-use Rattle.post_core.specs.declared.served.Note.TheVariants as notes
+use Rattle.keep_loop.specs.Turns.{is_joining}
+use Rattle.keep_loop.specs.declared.served.Note.{Note}
+use Rattle.keep_loop.specs.declared.served.Note.TheVariants as notes
 use Rattle.client_core.specs.declared.ask.Ask.{Ask}
 use Rattle.client_core.specs.declared.ask.Ask.TheVariants as asks
 use Rattle.client_core.specs.Deeds.{Texts}

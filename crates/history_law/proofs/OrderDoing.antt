@@ -22,10 +22,10 @@ use Rattle.live_core.specs.Answers.{asked as asked_call}
 use Rattle.live_core.specs.Lines.{all_lines}
 use Rattle.guest_core.specs.declared.seats.SeatHolder.TheVariants.{Nameless}
 use Rattle.guest_core.specs.Guests.{Guests, with_seat}
-use Rattle.hosted_core.specs.declared.hosted.KeyState.{KeyState}
-use Rattle.hosted_core.specs.declared.hosted.KeyState.TheVariants as keys
-use Rattle.hosted_core.specs.Scene.{Scene, is_given, told_of, with_guests}
-use Rattle.hosted_core.specs.Steps.{rests}
+use Rattle.live_core.specs.declared.hosted.KeyState.{KeyState}
+use Rattle.live_core.specs.declared.hosted.KeyState.TheVariants as keys
+use Rattle.live_core.specs.Scene.{Scene, is_given, told_of, with_guests}
+use Rattle.live_core.specs.HostedSteps.{rests}
 use Rattle.client_core.specs.declared.ask.Ask.{Ask}
 use Rattle.client_core.specs.declared.ask.Ask.TheVariants as asks
 use Rattle.client_core.specs.declared.ask.Sight.{Sight}
@@ -34,10 +34,10 @@ use Rattle.client_core.specs.declared.client.OpenObject.{OpenObject}
 use Rattle.client_core.specs.Asks.{Asks}
 use Rattle.client_core.specs.Held.{is_some, waits_of}
 use Rattle.history_law.specs.Happens.{with_ran as behind_ran}
-use Rattle.post_core.specs.declared.served.LineEnd.{LineEnd}
+use Rattle.keep_loop.specs.declared.served.LineEnd.{LineEnd}
 use Rattle.client_core.specs.Asked as told
 use Rattle.client_core.specs.Asked.{OpensBare, OpensAs, Opens, GetsNumber, Sits, Calls, Submits, RepeatsUnder, AnswersCall, AnswersInside, LeavesObject, NoneLeaves, Goes, Quits, Acts, Heeds, keyed_text}
-use Rattle.custody_core.specs.Custody.{not_held_text}
+use Rattle.client_core.specs.Custody.{not_held_text}
 use Rattle.client_core.specs.Deeds.{Texts, OnlyTold}
 use Rattle.client_core.specs.Gone.{SeatsOne, Frees}
 use Rattle.client_core.specs.ToldInside.{IsWhy, state_by, form_at, object_in}

@@ -8,10 +8,10 @@ use Rattle.decl_core.specs.ObjectForm.{ObjectForm}
 use Rattle.word_core.specs.Events.{Called, end_of, history_of}
 use Rattle.live_core.specs.declared.call.Ran.{Ran}
 use Rattle.audit_core.specs.Steps.{Step, happened_of, ran, cancelled, named}
-use Rattle.hosted_core.specs.Scene.{Scene}
+use Rattle.live_core.specs.Scene.{Scene}
 use Rattle.history_law.specs.Happens.{with_ran}
-use Rattle.post_core.specs.Texts.{to}
-use Rattle.post_core.specs.declared.served.LineEnd.{LineEnd}
+use Rattle.keep_loop.specs.Texts.{to}
+use Rattle.keep_loop.specs.declared.served.LineEnd.{LineEnd}
 use Rattle.client_core.specs.Deeds.{Texts}
 use Rattle.client_core.specs.State.{Peer, one_text, told_to, who_in}
 use Rattle.history_law.specs.Talk.{Talk, Part, Wanted, Course, line_in, lines_of, text_in, texts_of, end_in, ends_of, IsWanted, IsKept, AllKept, ArePicked, put_together, texts_to}

@@ -18,10 +18,10 @@ use Rattle.live_core.specs.Answers.{asked}
 use Rattle.live_core.specs.Hall.{Hall}
 use Rattle.live_core.specs.Lines.{all_lines}
 use Rattle.audit_core.specs.Steps.{happened_of}
-use Rattle.hosted_core.specs.Scene.{Scene}
+use Rattle.live_core.specs.Scene.{Scene}
 use Rattle.client_core.specs.declared.client.OpenObject.{OpenObject}
 use Rattle.history_law.specs.Happens.{with_ran as behind_ran}
-use Rattle.post_core.specs.declared.served.LineEnd.{LineEnd}
+use Rattle.keep_loop.specs.declared.served.LineEnd.{LineEnd}
 use Rattle.client_core.specs.Asked as told
 use Rattle.client_core.specs.Asked.{AllEnd, LetsGo, Submits}
 use Rattle.client_core.specs.Deeds.{Texts, OnlyTold}

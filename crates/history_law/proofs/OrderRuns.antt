@@ -12,13 +12,13 @@ use Rattle.word_core.specs.Events.{Called}
 use Rattle.live_core.specs.Epochs.{numbered_from}
 use Rattle.live_core.specs.Hall.{Every}
 use Rattle.apply_core.specs.History.{End}
-use Rattle.hosted_core.specs.Scene.{Scene}
-use Rattle.hosted_core.specs.Steps.{IsFollowed}
+use Rattle.live_core.specs.Scene.{Scene}
+use Rattle.live_core.specs.HostedSteps.{IsFollowed}
 use Rattle.client_core.specs.declared.client.OpenObject.{OpenObject}
-use Rattle.post_core.specs.Texts.{to}
-use Rattle.post_core.specs.Turns.{Asked, Turn, Runs, heard_of, is_joining, joins, line_from, said_to, told as told_here}
-use Rattle.post_core.specs.Turns.Asked.{Heard, Noted, Changes}
-use Rattle.post_core.specs.declared.served.LineEnd.{LineEnd}
+use Rattle.keep_loop.specs.Texts.{to}
+use Rattle.keep_loop.specs.Turns.{Asked, Turn, Runs, heard_of, is_joining, joins, line_from, said_to, told as told_here}
+use Rattle.keep_loop.specs.Turns.Asked.{Heard, Noted, Changes}
+use Rattle.keep_loop.specs.declared.served.LineEnd.{LineEnd}
 use Rattle.keep_loop.specs.Cuts.{IsCut}
 use Rattle.client_core.specs.Deeds.{Texts}
 use Rattle.client_core.specs.Given as told

@@ -6,7 +6,7 @@ use Rattle.decl_core.specs.ObjectMap.{object_of}
 use Rattle.decl_core.specs.declared.object.Object.{Object}
 use Rattle.word_core.specs.Events.{Called}
 use Rattle.word_core.specs.Text.{operation_name}
-use Rattle.hosted_core.specs.Scene.{Scene}
+use Rattle.live_core.specs.Scene.{Scene}
 use Rattle.client_core.specs.declared.client.OpenObject.{OpenObject}
 use Rattle.client_core.specs.State.{Peer, change, nobody, who_in}
 use Rattle.history_law.specs.Awaits.{IsIn, Pool, waits_in}

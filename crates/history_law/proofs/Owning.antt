@@ -4,10 +4,10 @@ use Rattle.std.specs.Prelude.{Some, slice_get}
 use Rattle.std.proofs.lemmas.Option.{slice_get_within}
 use Rattle.apply_core.specs.declared.reply.Reply.{Reply}
 use Rattle.audit_core.specs.Steps.{Step, ran}
-use Rattle.hosted_core.specs.Scene.{Scene}
-use Rattle.hosted_core.specs.Steps.{goes_on}
+use Rattle.live_core.specs.Scene.{Scene}
+use Rattle.live_core.specs.HostedSteps.{goes_on}
 use Rattle.history_law.specs.Happens.{all_happen}
-use Rattle.post_core.specs.Texts.{to}
+use Rattle.keep_loop.specs.Texts.{to}
 use Rattle.client_core.specs.Deeds.{Texts}
 use Rattle.client_core.specs.State.{State}
 use Rattle.history_law.specs.Said.{Account, HasRun, IsTrue}

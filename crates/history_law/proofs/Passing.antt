@@ -13,22 +13,22 @@ use Rattle.live_core.specs.declared.live.Taken.{Taken}
 use Rattle.live_core.specs.Lines.{all_lines}
 use Rattle.guest_core.specs.declared.seats.SeatHolder.TheVariants.{Nameless}
 use Rattle.guest_core.specs.Guests.{with_seat}
-use Rattle.hosted_core.specs.Calls.{Does}
-use Rattle.hosted_core.specs.Lines.{entered_lines}
-use Rattle.hosted_core.specs.Scene.{Scene, with_guests}
-use Rattle.hosted_core.specs.Steps as hosted
+use Rattle.live_core.specs.Calls.{Does}
+use Rattle.live_core.specs.HostedLines.{entered_lines}
+use Rattle.live_core.specs.Scene.{Scene, with_guests}
+use Rattle.live_core.specs.HostedSteps as hosted
 use Rattle.guest_core.specs.Held.{HeldCall}
-use Rattle.post_core.specs.Texts.{to}
-use Rattle.post_core.specs.declared.served.LineEnd.{LineEnd}
-use Rattle.post_core.specs.declared.served.LineEnd.TheVariants as line_ends
-use Rattle.post_core.specs.declared.served.Note.{Note}
-use Rattle.post_core.specs.declared.served.Note.TheVariants as notes
+use Rattle.keep_loop.specs.Texts.{to}
+use Rattle.keep_loop.specs.declared.served.LineEnd.{LineEnd}
+use Rattle.keep_loop.specs.declared.served.LineEnd.TheVariants as line_ends
+use Rattle.keep_loop.specs.declared.served.Note.{Note}
+use Rattle.keep_loop.specs.declared.served.Note.TheVariants as notes
 use Rattle.client_core.specs.declared.ask.Ask.{Ask}
 use Rattle.client_core.specs.declared.ask.Ask.TheVariants as asks
 use Rattle.client_core.specs.declared.ask.Sight.{Sight}
 use Rattle.client_core.specs.declared.ask.Sight.TheVariants as insides
 use Rattle.client_core.specs.declared.client.OpenObject.{OpenObject}
-use Rattle.custody_core.specs.Custody.{Custody, Custodies, FollowsIn, HeldBehindAll, IsOwed, MayMake, holding_now}
+use Rattle.client_core.specs.Custody.{Custody, Custodies, FollowsIn, HeldBehindAll, IsOwed, MayMake, holding_now}
 use Rattle.client_core.specs.State.{State}
 use Rattle.client_core.specs.Deeds.{Texts, Deed, Nothing, OnlyTold, Then}
 use Rattle.client_core.specs.Asked.{IsRefused, Opens, Ends, AllEnd, Follows, Submits, GetsNumber, Sits, AnswersCall, LetsGo, AnswersCancel, AnswersInside, LeavesObject, Goes, Acts, Heeds}

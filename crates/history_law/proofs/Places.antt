@@ -8,7 +8,7 @@ use Rattle.word_core.specs.Events.{Called}
 use Rattle.word_core.specs.Text.{operation_name}
 use Rattle.session_text.specs.Lines.{accepted_text}
 use Rattle.live_core.specs.Hall.{Told, IsHeld}
-use Rattle.hosted_core.specs.Scene.{Scene, told_of}
+use Rattle.live_core.specs.Scene.{Scene, told_of}
 use Rattle.client_core.specs.declared.ask.Ask.TheVariants as asks
 use Rattle.client_core.specs.declared.client.OpenObject.{OpenObject}
 use Rattle.client_core.specs.Asks.{Asks}

@@ -16,7 +16,7 @@ use Rattle.session_text.specs.declared.line.ReplyLine.TheVariants as lines
 use Rattle.client_core.specs.Asked.{IsRefusal}
 use Rattle.decl_core.specs.HoldForm.{HoldForm}
 use Rattle.guest_core.specs.Held.{HeldCall}
-use Rattle.custody_core.specs.Custody.{not_held_text}
+use Rattle.client_core.specs.Custody.{not_held_text}
 use Rattle.client_core.specs.ToldInside.{who_held_text}
 use Rattle.history_law.specs.Said.{SaysNoReply}
 

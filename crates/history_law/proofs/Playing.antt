@@ -21,14 +21,14 @@ use Rattle.audit_core.proofs.EpochSaying.{says_once}
 use Rattle.recover_core.specs.Carried.{told_by, told_or}
 use Rattle.recover_core.specs.Lines.{IsLine, AreLines, joined}
 use Rattle.recover_core.specs.Playing.{begun_by}
-use Rattle.hosted_core.specs.Fronts.{carried_from, front_of}
-use Rattle.hosted_core.specs.Scene.{Scene, told_of, next_base, next_epoch}
+use Rattle.live_core.specs.Fronts.{carried_from, front_of}
+use Rattle.live_core.specs.Scene.{Scene, told_of, next_base, next_epoch}
 use Rattle.history_law.specs.WrittenRead.{Adds}
 use Rattle.history_law.specs.Stands.{Stands}
 use Rattle.history_law.specs.Told.{heard_of}
 use Rattle.history_law.proofs.Beginning.{followed_stands}
-use Rattle.post_core.specs.Turns.{added_by}
-use Rattle.custody_core.specs.Custody.{Custody, Custodies, held_lines, held_lines_in}
+use Rattle.keep_loop.specs.Turns.{added_by}
+use Rattle.client_core.specs.Custody.{Custody, Custodies, held_lines, held_lines_in}
 use Rattle.table_core.specs.Seen.{seen}
 use Rattle.history_law.proofs.KeptGoing.{set_at, runs_are_steps}
 use Rattle.history_law.specs.Ended.{ends_of}

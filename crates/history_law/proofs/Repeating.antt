@@ -6,13 +6,13 @@ use Rattle.apply_core.specs.declared.reply.Reply.{Reply}
 use Rattle.session_text.specs.Lines.{ended_text}
 use Rattle.live_core.specs.Hall.{Every}
 use Rattle.live_core.specs.Front.{Opening}
-use Rattle.hosted_core.specs.Scene.{Scene}
-use Rattle.hosted_core.specs.Steps.{rests}
+use Rattle.live_core.specs.Scene.{Scene}
+use Rattle.live_core.specs.HostedSteps.{rests}
 use Rattle.history_law.specs.Happens.{all_happen}
 use Rattle.history_law.specs.Keys.{KeyEvent, IsKeptLine}
 use Rattle.history_law.specs.Keyed.{HaveKeys, with_steps}
 use Rattle.history_law.proofs.Keeping.{steps_keep_keys}
-use Rattle.post_core.specs.Turns.{Turn}
+use Rattle.keep_loop.specs.Turns.{Turn}
 use Rattle.history_law.specs.Said.{Account, SaysNoReply}
 use Rattle.table_core.specs.Seen.{seen}
 use Rattle.table_core.specs.declared.table.Table.{Table}

@@ -18,7 +18,7 @@ use Rattle.history_law.proofs.Refusing.{refused_told}
 use Rattle.live_core.specs.declared.call.Ran.{Ran}
 use Rattle.live_core.specs.Hall.{Every, Told}
 use Rattle.live_core.specs.Settles.{Settles, rests, runs, contents_of}
-use Rattle.hosted_core.specs.Calls.{RepliesDatum}
+use Rattle.live_core.specs.Calls.{RepliesDatum}
 
 -- the body at a place is well typed, and replies what its types say
 pub typed_at : {Z : Type 0} (ops : List (Arc Operation Z)) (place : ℕ) →

@@ -19,9 +19,9 @@ use Rattle.guest_core.specs.declared.kept.RememberedCall.{RememberedCall}
 use Rattle.guest_core.specs.declared.seats.SeatHolder.TheVariants.{Named, Void}
 use Rattle.guest_core.specs.Guests.{Guests}
 use Rattle.audit_core.specs.Steps.{Begun, Heard, Step}
-use Rattle.hosted_core.specs.Fits.{CallFits, GuestFits, ReplyFits, RunFits}
-use Rattle.hosted_core.specs.Fronts.{TellsFront, answer_in, carried_from, client_of, front_of, kept_below, kept_of}
-use Rattle.hosted_core.specs.Scene.{Scene, next_base, next_epoch}
+use Rattle.live_core.specs.Fits.{CallFits, GuestFits, ReplyFits, RunFits}
+use Rattle.live_core.specs.Fronts.{TellsFront, answer_in, carried_from, client_of, front_of, kept_below, kept_of}
+use Rattle.live_core.specs.Scene.{Scene, next_base, next_epoch}
 use Rattle.history_law.specs.Named.{IsNamed}
 use Rattle.history_law.specs.Stands.{AreSeated, IsAwaited, Stands}
 use Rattle.history_law.proofs.Seating.{not_0}

@@ -4,10 +4,10 @@ use Rattle.std.specs.Prelude.{true, false, Some, None, Result, Ok, Err, IfOk, sl
 use Rattle.std.proofs.lemmas.List.{append-nil}
 use Rattle.session_text.specs.Lines.{accepted_text, ended_text}
 use Rattle.live_core.specs.Hall.{Every}
-use Rattle.hosted_core.specs.Scene.{Scene}
+use Rattle.live_core.specs.Scene.{Scene}
 use Rattle.client_core.specs.declared.client.OpenObject.{OpenObject}
-use Rattle.post_core.specs.Turns.{Asked, Turn, Runs}
-use Rattle.post_core.specs.Turns.Asked.{Heard, Noted, Changes}
+use Rattle.keep_loop.specs.Turns.{Asked, Turn, Runs}
+use Rattle.keep_loop.specs.Turns.Asked.{Heard, Noted, Changes}
 use Rattle.client_core.specs.Deeds.{Texts}
 use Rattle.client_core.specs.Given as told
 use Rattle.client_core.specs.State.{State}

@@ -28,7 +28,7 @@ use Rattle.word_core.proofs.Safe.{trace_safe}
 use Rattle.audit_core.specs.Said as audit
 use Rattle.audit_core.specs.EpochSaid.{Said, Says, asks, a_start, an_end, a_cancel, a_name, said_of, asked_in, asked_of, end_in}
 use Rattle.recover_core.specs.Lines.{IsLine}
-use Rattle.hosted_core.specs.Lines.{cancel_words, name_words}
+use Rattle.live_core.specs.HostedLines.{cancel_words, name_words}
 
 -- words without control bytes
 

@@ -17,8 +17,8 @@ use Rattle.guest_core.proofs.Sound.{sound_changed, sound_seat, sound_more, sound
 use Rattle.guest_core.proofs.Seating.{length_free}
 use Rattle.guest_core.proofs.Whole.{unnamed_free, unnamed_nameless}
 use Rattle.live_core.specs.declared.call.Ran.{Ran}
-use Rattle.hosted_core.specs.Calls.{AreRemembered}
-use Rattle.hosted_core.specs.Scene.{Scene}
+use Rattle.live_core.specs.Calls.{AreRemembered}
+use Rattle.live_core.specs.Scene.{Scene}
 use Rattle.history_law.specs.Stands.{AreSeated}
 
 -- a number other than 0 changes

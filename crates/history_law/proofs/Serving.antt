@@ -1,8 +1,8 @@
 -- The bytes that a connection is written are the texts of its talk.
 use Rattle.std.proofs.Common.{◌∙◌, ap, sym, subst, ℕ, List, [], ◌++◌, length}
-use Rattle.post_core.specs.Texts.{Begins}
-use Rattle.post_core.specs.Turns.{Turn, heard_of, said_to}
-use Rattle.post_core.specs.declared.served.LineEnd.{LineEnd}
+use Rattle.keep_loop.specs.Texts.{Begins}
+use Rattle.keep_loop.specs.Turns.{Turn, heard_of, said_to}
+use Rattle.keep_loop.specs.declared.served.LineEnd.{LineEnd}
 use Rattle.keep_loop.specs.Cuts.{IsCut}
 use Rattle.keep_loop.specs.Seen.{Happened, came_from, ended_in, written_to}
 use Rattle.keep_loop.proofs.Turns.{begins_twice, said_more}

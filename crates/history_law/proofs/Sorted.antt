@@ -21,7 +21,7 @@ use Rattle.apply_core.specs.declared.reply.Failure.{Failure}
 use Rattle.apply_core.specs.History.{IsReplyOn}
 use Rattle.word_core.specs.Events.{body_at}
 use Rattle.recover_core.specs.Laws.{Replies}
-use Rattle.hosted_core.specs.Calls.{RepliesDatum}
+use Rattle.live_core.specs.Calls.{RepliesDatum}
 use Rattle.history_law.proofs.Replying.{typed_at}
 
 -- a datum of this sort, or none

@@ -11,16 +11,16 @@ use Rattle.guest_core.specs.declared.guests.EnterFault.{EnterFault}
 use Rattle.guest_core.specs.declared.kept.Asked.{Asked as Call}
 use Rattle.guest_core.specs.Guests.{Guests}
 use Rattle.audit_core.specs.Steps.{Step, ran}
-use Rattle.hosted_core.specs.Calls.{AreRemembered, seat_of}
-use Rattle.hosted_core.specs.Scene.{Scene, told_of}
-use Rattle.hosted_core.specs.Steps as hosted
+use Rattle.live_core.specs.Calls.{AreRemembered, seat_of}
+use Rattle.live_core.specs.Scene.{Scene, told_of}
+use Rattle.live_core.specs.HostedSteps as hosted
 use Rattle.history_law.specs.Happens.{with_ran as all_ran, happens, all_happen}
 use Rattle.history_law.specs.Keys.{KeyEvent, KeyedCall, epoch_began, name_came, call_ended, client_of, IsRemembered, IsKeptLine}
 use Rattle.history_law.specs.Keyed.{ended_as, ended_by, with_ran, with_came, with_step, with_steps}
-use Rattle.post_core.specs.Texts.{to}
-use Rattle.post_core.specs.Turns.{Asked, Turn}
-use Rattle.post_core.specs.Turns.Asked.{Heard, Noted, Changes}
-use Rattle.custody_core.specs.Custody.{Custody}
+use Rattle.keep_loop.specs.Texts.{to}
+use Rattle.keep_loop.specs.Turns.{Asked, Turn}
+use Rattle.keep_loop.specs.Turns.Asked.{Heard, Noted, Changes}
+use Rattle.client_core.specs.Custody.{Custody}
 use Rattle.history_law.specs.Said.{Account}
 use Rattle.history_law.proofs.Going.{ran_more, all_more, TellsAlike, all_alike, told_alike}
 use Rattle.table_core.specs.Seen.{seen}

@@ -7,7 +7,7 @@ use Rattle.std.proofs.lemmas.List.Splits.{slice_split_at, length-slice_split}
 use Rattle.std.proofs.lemmas.List.Elements.{All-append, All-from_recursion}
 use Rattle.std.proofs.lemmas.Bool.{cases_eq}
 use Rattle.std.proofs.lemmas.Bool.Decides.{nat_tests}
-use Rattle.post_core.specs.Journal.{has_end, whole}
+use Rattle.keep_loop.specs.Journal.{has_end, whole}
 
 abbrev NoEnd : List ℕ → Type 0
 NoEnd text = All (λ b. (b == 10) ≡ false) text

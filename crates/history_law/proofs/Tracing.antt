@@ -12,9 +12,9 @@ use Rattle.guest_core.specs.declared.seats.SeatHolder.TheVariants.{Void, Free, N
 use Rattle.guest_core.specs.Guests.{Guests, IsNamed}
 use Rattle.guest_core.specs.Keys.{asks}
 use Rattle.audit_core.specs.Steps.{Step, ran}
-use Rattle.hosted_core.specs.Calls.{AreRemembered, seat_of}
-use Rattle.hosted_core.specs.Scene.{Scene, told_of}
-use Rattle.hosted_core.specs.Steps as hosted
+use Rattle.live_core.specs.Calls.{AreRemembered, seat_of}
+use Rattle.live_core.specs.Scene.{Scene, told_of}
+use Rattle.live_core.specs.HostedSteps as hosted
 use Rattle.history_law.specs.Happens.{with_ran as all_ran, happens, all_happen}
 use Rattle.history_law.specs.Keys.{KeyEvent, KeyedCall, epoch_began, name_came, call_ended, client_at, client_of}
 use Rattle.history_law.specs.Keyed.{ended_as, ended_by, with_ran, with_came, with_step, with_steps}

@@ -4,8 +4,8 @@ use Rattle.std.specs.Prelude.{◌^◌, min, Some, map, slice_get, slice_set, sli
 use Rattle.std.proofs.lemmas.Option.{same_Some}
 use Rattle.word_core.specs.Events.{Called}
 use Rattle.live_core.specs.Epochs.{numbered_from, told_behind}
-use Rattle.hosted_core.specs.Scene.{Scene, told_of}
-use Rattle.hosted_core.specs.Steps.{IsFollowed}
+use Rattle.live_core.specs.Scene.{Scene, told_of}
+use Rattle.live_core.specs.HostedSteps.{IsFollowed}
 use Rattle.client_core.specs.Deeds.{Texts}
 use Rattle.client_core.specs.Moves.{BeginsHeld}
 use Rattle.client_core.specs.State.{Peer, State}

@@ -14,11 +14,11 @@ use Rattle.decl_core.specs.HoldForm.{HoldForm, RulesForm}
 use Rattle.guest_core.specs.Held.{HeldCall, AreHeld}
 use Rattle.guest_core.specs.Held.AreHeld.{at_end}
 use Rattle.audit_core.specs.Steps.{Step, ran, cancelled, named, happened_of}
-use Rattle.hosted_core.specs.Scene.{Scene}
-use Rattle.hosted_core.specs.Steps as hosted
-use Rattle.hosted_core.specs.Steps.{Steps}
+use Rattle.live_core.specs.Scene.{Scene}
+use Rattle.live_core.specs.HostedSteps as hosted
+use Rattle.live_core.specs.HostedSteps.{Steps}
 use Rattle.history_law.specs.Happens.{with_ran, with_entered, with_cancelled, happens, all_happen}
-use Rattle.custody_core.specs.Custody.{Custody, HeldBehindAll, as_told, holding_now}
+use Rattle.client_core.specs.Custody.{Custody, HeldBehindAll, as_told, holding_now}
 use Rattle.history_law.proofs.Going.{TellsAlike, all_more, all_alike, told_alike}
 use Rattle.history_law.specs.Ended.{ends_of}
 use Rattle.history_law.proofs.TurnKeeping.{ran_ends}

@@ -13,8 +13,8 @@ use Rattle.live_core.specs.Hall.{Every, EachPair, Told}
 use Rattle.live_core.specs.Settles.{Settles, rests, runs}
 use Rattle.decl_core.specs.HoldForm.{HoldForm}
 use Rattle.guest_core.specs.Held.{HeldCall, Fits, NoneOwn, NoneFits, IsEnded, GivesOne, GivesBy, Gives, hold_ended, hold_of_op, begun_by, begun, is_loose, AreHeld, at_first, at_begin, at_end, HoldsOwn, MayUndoBy, MayUndo}
-use Rattle.hosted_core.specs.Scene.{Scene, told_of}
-use Rattle.custody_core.specs.Custody.{HeldBehindAll, as_told}
+use Rattle.live_core.specs.Scene.{Scene, told_of}
+use Rattle.client_core.specs.Custody.{HeldBehindAll, as_told}
 use Rattle.history_law.specs.Keeps.{Keeps}
 
 -- lists

@@ -19,9 +19,9 @@ use Rattle.live_core.specs.Text.{front_text}
 use Rattle.audit_core.specs.Steps.{Step, Begun, nothing_heard, told_by, happened_of}
 use Rattle.recover_core.specs.declared.recover.House.{House}
 use Rattle.recover_core.specs.Playing.{begun_by}
-use Rattle.hosted_core.specs.Fronts.{front_of}
-use Rattle.hosted_core.specs.Scene.{Scene, next_base, next_epoch}
-use Rattle.hosted_core.specs.Steps.{BeginsBy, rests}
+use Rattle.live_core.specs.Fronts.{front_of}
+use Rattle.live_core.specs.Scene.{Scene, next_base, next_epoch}
+use Rattle.live_core.specs.HostedSteps.{BeginsBy, rests}
 use Rattle.history_law.specs.Happens.{all_happen}
 use Rattle.history_law.specs.Told.{heard_of}
 use Rattle.history_law.proofs.Beginning.{followed_stands}
@@ -30,12 +30,12 @@ use Rattle.history_law.specs.Read.{IsReadOf}
 use Rattle.history_law.specs.Year.{AreEpochs, Epoch, IsEpoch, Follows, epoch_of, all_ends, first_opening}
 use Rattle.history_law.proofs.Reading.{read_is_epoch, epochs_up_to}
 use Rattle.history_law.proofs.Sound.{kept_is_epoch, begun_follows, epochs_are_sound}
-use Rattle.post_core.specs.Texts.{to}
-use Rattle.post_core.specs.Turns.{Asked, Turn, Runs}
-use Rattle.post_core.specs.Turns.Asked.{Heard, Noted, Changes}
+use Rattle.keep_loop.specs.Texts.{to}
+use Rattle.keep_loop.specs.Turns.{Asked, Turn, Runs}
+use Rattle.keep_loop.specs.Turns.Asked.{Heard, Noted, Changes}
 use Rattle.keep_loop.specs.Epochs.{BeginsNot, BeginsNone, change_to}
 use Rattle.client_core.specs.Deeds.{Texts}
-use Rattle.custody_core.specs.Custody.{held_lines, held_lines_in}
+use Rattle.client_core.specs.Custody.{held_lines, held_lines_in}
 use Rattle.client_core.specs.Moves.{BeginsHeld}
 use Rattle.client_core.specs.State.{State}
 use Rattle.history_law.specs.Said.{Account, Went, AllWent, SaysIn}

@@ -9,8 +9,8 @@ use Rattle.live_core.specs.Hall.{Every}
 use Rattle.session_text.specs.Lines.{ended_text}
 use Rattle.audit_core.specs.Steps.{Step, Begun, ran, happened_of}
 use Rattle.history_law.specs.Year.{Epoch, all_ends, first_opening}
-use Rattle.post_core.specs.Turns.{Asked, Turn}
-use Rattle.post_core.specs.Turns.Asked.{Heard, Noted, Changes}
+use Rattle.keep_loop.specs.Turns.{Asked, Turn}
+use Rattle.keep_loop.specs.Turns.Asked.{Heard, Noted, Changes}
 use Rattle.client_core.specs.Deeds.{Texts}
 use Rattle.client_core.specs.State.{State}
 use Rattle.history_law.specs.Said.{Account, SaysIn, IsTrue, SaysNoReply}

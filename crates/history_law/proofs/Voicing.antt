@@ -11,13 +11,13 @@ use Rattle.word_core.specs.Text.{operation_name}
 use Rattle.word_core.specs.Events.{end_of, history_of}
 use Rattle.live_core.specs.Hall.{Every}
 use Rattle.audit_core.specs.Steps.{Step, happened_of, ran, cancelled, named}
-use Rattle.hosted_core.specs.Scene.{Scene}
-use Rattle.hosted_core.specs.Steps.{goes_on}
+use Rattle.live_core.specs.Scene.{Scene}
+use Rattle.live_core.specs.HostedSteps.{goes_on}
 use Rattle.history_law.specs.Happens.{all_happen}
 use Rattle.client_core.specs.declared.ask.Ask.{Ask}
 use Rattle.client_core.specs.declared.ask.Ask.TheVariants as asks
-use Rattle.post_core.specs.Texts.{to}
-use Rattle.post_core.specs.declared.served.LineEnd.{LineEnd}
+use Rattle.keep_loop.specs.Texts.{to}
+use Rattle.keep_loop.specs.declared.served.LineEnd.{LineEnd}
 use Rattle.client_core.specs.Deeds.{Texts, Deed, Nothing, Then}
 use Rattle.client_core.specs.State.{State}
 use Rattle.history_law.specs.Said.{Account, AllWent}

@@ -7,7 +7,7 @@ use Rattle.std.proofs.lemmas.Bool.{cases_eq}
 use Rattle.std.proofs.lemmas.Bool.Decides.{nat_tests}
 use Rattle.value_core.specs.Plain.{IsPlain, IsText}
 use Rattle.word_core.specs.Words.{Word, bare, quoted, doubled, word_text, behind_word, words_text, line_of}
-use Rattle.post_core.specs.Journal.{has_end, whole, IsSolid, AreLines}
+use Rattle.keep_loop.specs.Journal.{has_end, whole, IsSolid, AreLines}
 use Rattle.history_law.specs.CrashLaws.{EachSolid}
 
 solid_append : (a b : List ℕ) → IsSolid a → IsSolid b → IsSolid (a ++ b)

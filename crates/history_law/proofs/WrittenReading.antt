@@ -13,7 +13,7 @@ use Rattle.audit_core.proofs.EpochExact.{tells_once}
 use Rattle.audit_core.proofs.EpochSaying.{says_once}
 use Rattle.recover_core.specs.Lines.{IsLine, AreLines, joined}
 use Rattle.recover_core.specs.Playing.{begun_by}
-use Rattle.hosted_core.specs.Steps as hosted
+use Rattle.live_core.specs.HostedSteps as hosted
 use Rattle.history_law.specs.Happens.{all_happen}
 use Rattle.history_law.specs.WrittenRead.{Adds, FrontIsRead, AllIsRead, StoredIsRead, NoFaultIsFound}
 use Rattle.history_law.specs.Told.{heard_of, AreTold}

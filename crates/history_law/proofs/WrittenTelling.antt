@@ -33,10 +33,10 @@ use Rattle.audit_core.specs.Steps.{Step, cancelled, named, Begun, Heard, happene
 use Rattle.audit_core.specs.EpochTells.{Tell, IsSession, cancel_told, name_told}
 use Rattle.audit_core.specs.Sound.{IsSound}
 use Rattle.recover_core.specs.Lines.{AreLines, joined}
-use Rattle.hosted_core.specs.Calls.{Does, Cancels, IsCancelLine}
-use Rattle.hosted_core.specs.Lines.{cancel_words, name_words, entered_lines}
-use Rattle.hosted_core.specs.Scene.{Scene, with_guests}
-use Rattle.hosted_core.specs.Steps as hosted
+use Rattle.live_core.specs.Calls.{Does, Cancels, IsCancelLine}
+use Rattle.live_core.specs.HostedLines.{cancel_words, name_words, entered_lines}
+use Rattle.live_core.specs.Scene.{Scene, with_guests}
+use Rattle.live_core.specs.HostedSteps as hosted
 use Rattle.history_law.specs.Named.{IsNamed}
 use Rattle.history_law.specs.Stands.{IsAwaited, AreSeated, Stands}
 use Rattle.history_law.specs.Happens.{with_ran, with_entered, with_cancelled, happens, all_happen}

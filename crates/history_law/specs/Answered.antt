@@ -8,17 +8,17 @@ use Rattle.session_text.specs.declared.line.ReplyLine.TheVariants as lines
 use Rattle.session_text.specs.declared.line.ReplyLine.{ReplyLine as Answer}
 use Rattle.session_text.specs.Lines.{bye_text, line_text, opened_text}
 use Rattle.audit_core.specs.Steps.{Step}
-use Rattle.hosted_core.specs.declared.hosted.KeyState.{KeyState}
-use Rattle.hosted_core.specs.declared.hosted.KeyState.TheVariants.{New}
-use Rattle.hosted_core.specs.Keys.{Says}
-use Rattle.hosted_core.specs.Scene.{Scene}
-use Rattle.hosted_core.specs.Steps.{Steps}
+use Rattle.live_core.specs.declared.hosted.KeyState.{KeyState}
+use Rattle.live_core.specs.declared.hosted.KeyState.TheVariants.{New}
+use Rattle.live_core.specs.Keys.{Says}
+use Rattle.live_core.specs.Scene.{Scene}
+use Rattle.live_core.specs.HostedSteps.{Steps}
 use Rattle.history_law.specs.Happens.{all_happen}
 use Rattle.client_core.specs.declared.ask.Ask.{Ask}
 use Rattle.client_core.specs.declared.ask.Ask.TheVariants as asks
 use Rattle.client_core.specs.Asks.{Asks}
 use Rattle.client_core.specs.Asked.{IsRefusal, keyed_text}
-use Rattle.custody_core.specs.Custody.{not_held_text}
+use Rattle.client_core.specs.Custody.{not_held_text}
 use Rattle.history_law.specs.Said.{Account, SaysNoReply}
 use Rattle.history_law.specs.Awaits.{HasOpened, Lines}
 use Rattle.history_law.specs.Talk.{AnswersCancel, Line}

@@ -2,7 +2,7 @@
 use Rattle.std.specs.Prelude.{◌≡◌, ◌⊎◌, ℕ, List, [], ◌∷◌, ◌++◌}
 use Rattle.apply_core.specs.declared.reply.Reply.{Reply}
 use Rattle.session_text.specs.Lines.{accepted_text, ended_text, repeated_text}
-use Rattle.hosted_core.specs.Scene.{Scene}
+use Rattle.live_core.specs.Scene.{Scene}
 use Rattle.client_core.specs.Deeds.{Texts}
 use Rattle.history_law.specs.Said.{Account, HasRun, HasRemembered, SaysNoReply}
 use Rattle.history_law.specs.Awaits.{IsIn, Lines, HasAsked}

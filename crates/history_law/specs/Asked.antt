@@ -10,9 +10,9 @@ use Rattle.guest_core.specs.declared.seats.SeatHolder.TheVariants.{Nameless}
 use Rattle.guest_core.specs.Guests.{Guests, IsNamed}
 use Rattle.guest_core.specs.Keys.{asks}
 use Rattle.audit_core.specs.Steps.{Step, ran}
-use Rattle.hosted_core.specs.Calls.{AreRemembered, seat_of}
-use Rattle.hosted_core.specs.Scene.{Scene, told_of}
-use Rattle.hosted_core.specs.Steps as hosted
+use Rattle.live_core.specs.Calls.{AreRemembered, seat_of}
+use Rattle.live_core.specs.Scene.{Scene, told_of}
+use Rattle.live_core.specs.HostedSteps as hosted
 use Rattle.history_law.specs.Happens.{all_happen}
 use Rattle.history_law.specs.Stands.{AreSeated}
 use Rattle.history_law.specs.Keys.{KeyedCall}

@@ -7,11 +7,11 @@ use Rattle.guest_core.specs.declared.guest.Guest.{Guest}
 use Rattle.guest_core.specs.declared.kept.RememberedCall.{RememberedCall}
 use Rattle.guest_core.specs.Keys.{HasKey}
 use Rattle.audit_core.specs.Steps.{Begun}
-use Rattle.hosted_core.specs.Scene.{Scene}
+use Rattle.live_core.specs.Scene.{Scene}
 use Rattle.history_law.specs.Year.{Epoch, all_ends, first_opening}
 use Rattle.history_law.specs.Keys.{KeyEvent, KeyedCall, IsKeptLine}
 use Rattle.history_law.specs.Keyed.{HaveKeys}
-use Rattle.post_core.specs.Turns.{Turn}
+use Rattle.keep_loop.specs.Turns.{Turn}
 use Rattle.keep_loop.specs.declared.keep.LoopLimits.{LoopLimits}
 use Rattle.keep_loop.specs.Epochs.{rules_of, since_in, stored_since}
 use Rattle.keep_loop.specs.Seen.{Happened}

@@ -8,19 +8,19 @@ use Rattle.decl_core.specs.ObjectMap.{object_of}
 use Rattle.decl_core.specs.HoldForm.{RulesForm}
 use Rattle.word_core.specs.Text.{operation_name}
 use Rattle.guest_core.specs.declared.kept.Asked.{Asked}
-use Rattle.hosted_core.specs.Scene.{Scene}
+use Rattle.live_core.specs.Scene.{Scene}
 use Rattle.history_law.specs.Keyed.{HaveKeys}
 use Rattle.history_law.specs.Keys.{KeyEvent}
 use Rattle.history_law.specs.Stands.{AreSeated}
 use Rattle.live_core.specs.Front.{Opening}
-use Rattle.post_core.specs.Turns.{Turn, Runs}
+use Rattle.keep_loop.specs.Turns.{Turn, Runs}
 use Rattle.keep_loop.specs.declared.keep.LoopLimits.{LoopLimits}
 use Rattle.keep_loop.specs.Epochs.{rules_of, since_in, stored_since}
 use Rattle.keep_loop.specs.Seen.{Happened}
 use Rattle.keep_loop.specs.Stands.{IsHonest, IsBetween}
 use Rattle.client_core.specs.declared.ask.Ask.TheVariants as asks
 use Rattle.client_core.specs.Asks.{Asks}
-use Rattle.custody_core.specs.Custody.{Custody, IsOwed}
+use Rattle.client_core.specs.Custody.{Custody, IsOwed}
 use Rattle.table_core.specs.Moves.{Gives, Fronts}
 use Rattle.table_core.specs.Seen.{IsQuiet, seen}
 use Rattle.table_core.specs.declared.table.Table.{Table}

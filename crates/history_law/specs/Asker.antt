@@ -2,10 +2,10 @@
 use Rattle.std.specs.Prelude.{◌≡◌, ◌⊎◌, ◌<◌, ℕ, Bool, true, false, List, [], ◌∷◌, ◌++◌}
 use Rattle.std.specs.Str.Lines.{strip_carriage_return}
 use Rattle.session_text.specs.Lines.{accepted_text}
-use Rattle.hosted_core.specs.Scene.{told_of}
-use Rattle.post_core.specs.Turns.{Turn, Runs, heard_of}
-use Rattle.post_core.specs.declared.served.LineEnd.{LineEnd}
-use Rattle.post_core.specs.declared.served.LineEnd.TheVariants as ends
+use Rattle.live_core.specs.Scene.{told_of}
+use Rattle.keep_loop.specs.Turns.{Turn, Runs, heard_of}
+use Rattle.keep_loop.specs.declared.served.LineEnd.{LineEnd}
+use Rattle.keep_loop.specs.declared.served.LineEnd.TheVariants as ends
 use Rattle.keep_loop.specs.declared.keep.LoopLimits.{LoopLimits}
 use Rattle.keep_loop.specs.Cuts.{IsCut}
 use Rattle.keep_loop.specs.Epochs.{rules_of, since_in, stored_since}

@@ -15,11 +15,11 @@ use Rattle.recover_core.specs.declared.recover.House.{House}
 use Rattle.recover_core.specs.declared.recover.Recovered.{Recovered}
 use Rattle.recover_core.specs.Playing.{begun_by}
 use Rattle.recover_core.specs.Recovered.{HasClients}
-use Rattle.hosted_core.specs.declared.start.EndedEpoch.{EndedEpoch}
-use Rattle.hosted_core.specs.Again.{BeginsAgain}
-use Rattle.hosted_core.specs.Fronts.{front_of}
-use Rattle.hosted_core.specs.Scene.{Scene}
-use Rattle.hosted_core.specs.Steps.{IsFollowed}
+use Rattle.live_core.specs.declared.start.EndedEpoch.{EndedEpoch}
+use Rattle.live_core.specs.Again.{BeginsAgain}
+use Rattle.live_core.specs.Fronts.{front_of}
+use Rattle.live_core.specs.Scene.{Scene}
+use Rattle.live_core.specs.HostedSteps.{IsFollowed}
 use Rattle.history_law.specs.Stands.{AreSeated, Stands}
 
 -- An object at the beginning of an epoch: this past stands behind it, no call waits, and its clients have their places.

@@ -1,7 +1,7 @@
 -- Laws of traces that were cut short.
 use Rattle.std.specs.Prelude.{ℕ, ◌≤◌, List, [], ◌∷◌, take, drop}
 use Rattle.std.specs.Str.Lines.{lines}
-use Rattle.post_core.specs.Journal.{recovered, IsSolid, AreLines, Begins, IsBetween}
+use Rattle.keep_loop.specs.Journal.{recovered, IsSolid, AreLines, Begins, IsBetween}
 use Rattle.value_core.specs.Plain.{IsText}
 use Rattle.word_core.specs.Words.{Word, bare, quoted, line_of}
 use Rattle.decl_core.specs.ObjectForm.{ObjectForm}

@@ -7,13 +7,13 @@ use Rattle.live_core.specs.declared.past.PastRun.{PastRun}
 use Rattle.live_core.specs.Text.{front_text}
 use Rattle.audit_core.specs.Steps.{nothing_heard}
 use Rattle.recover_core.specs.Playing.{begun_by}
-use Rattle.hosted_core.specs.Fronts.{front_of}
-use Rattle.hosted_core.specs.Scene.{Scene}
+use Rattle.live_core.specs.Fronts.{front_of}
+use Rattle.live_core.specs.Scene.{Scene}
 use Rattle.history_law.specs.Stands.{Stands}
-use Rattle.custody_core.specs.Custody.{Custody}
+use Rattle.client_core.specs.Custody.{Custody}
 use Rattle.decl_core.specs.HoldForm.{RulesForm}
 use Rattle.front_read.specs.HeldLines.{held_text}
-use Rattle.post_core.specs.Turns.{Turn, Runs}
+use Rattle.keep_loop.specs.Turns.{Turn, Runs}
 use Rattle.keep_loop.specs.declared.keep.LoopLimits.{LoopLimits}
 use Rattle.keep_loop.specs.Seen.{Happened}
 use Rattle.keep_loop.specs.Epochs.{rules_of, front_in, since_in, stored_since, change_to}

@@ -9,11 +9,11 @@ use Rattle.session_text.specs.Lines.{repeated_text}
 use Rattle.live_core.specs.Front.{Opening}
 use Rattle.live_core.specs.Hall.{Every}
 use Rattle.guest_core.specs.Keys.{asks as asks_for}
-use Rattle.hosted_core.specs.Keys.{operation_or}
-use Rattle.hosted_core.specs.Scene.{Scene}
+use Rattle.live_core.specs.Keys.{operation_or}
+use Rattle.live_core.specs.Scene.{Scene}
 use Rattle.history_law.specs.Keys.{KeyEvent, IsKeptLine}
 use Rattle.history_law.specs.Keyed.{HaveKeys}
-use Rattle.post_core.specs.Turns.{Turn, Runs}
+use Rattle.keep_loop.specs.Turns.{Turn, Runs}
 use Rattle.keep_loop.specs.declared.keep.LoopLimits.{LoopLimits}
 use Rattle.keep_loop.specs.Epochs.{rules_of, since_in, stored_since}
 use Rattle.keep_loop.specs.Seen.{Happened}

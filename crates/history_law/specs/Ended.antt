@@ -5,9 +5,9 @@ use Rattle.word_core.specs.Events.{Happened, ended, history_of}
 use Rattle.decl_core.specs.HoldForm.{RulesForm}
 use Rattle.guest_core.specs.Held.{AreHeld}
 use Rattle.audit_core.specs.Steps.{Step, ran, cancelled, named}
-use Rattle.hosted_core.specs.Scene.{Scene}
-use Rattle.post_core.specs.Turns.{Turn}
-use Rattle.custody_core.specs.Custody.{Custody, as_told}
+use Rattle.live_core.specs.Scene.{Scene}
+use Rattle.keep_loop.specs.Turns.{Turn}
+use Rattle.client_core.specs.Custody.{Custody, as_told}
 use Rattle.history_law.specs.Said.{Account, SaysIn}
 use Rattle.table_core.specs.Moves.{Gives}
 use Rattle.table_core.specs.Seen.{seen}

@@ -10,7 +10,7 @@ use Rattle.recover_core.specs.HeldText.{HasHeld}
 use Rattle.recover_core.specs.Laws.{AreEndings}
 use Rattle.history_law.specs.Ended.{EndsOver, HoldsBy}
 use Rattle.history_law.specs.Year.{Epoch}
-use Rattle.post_core.specs.Turns.{Turn}
+use Rattle.keep_loop.specs.Turns.{Turn}
 use Rattle.keep_loop.specs.declared.keep.LoopLimits.{LoopLimits}
 use Rattle.keep_loop.specs.Seen.{Happened as Seen}
 use Rattle.keep_loop.specs.Epochs.{rules_of, front_in, since_in, stored_since}

@@ -7,8 +7,8 @@ use Rattle.guest_core.specs.declared.guests.EnterFault.{EnterFault}
 use Rattle.guest_core.specs.declared.seats.SeatHolder.{SeatHolder}
 use Rattle.guest_core.specs.declared.seats.SeatHolder.TheVariants.{Void, Free, Nameless, Named, Retired}
 use Rattle.audit_core.specs.Steps.{Step, ran, cancelled, named}
-use Rattle.hosted_core.specs.Scene.{Scene}
-use Rattle.hosted_core.specs.Steps as hosted
+use Rattle.live_core.specs.Scene.{Scene}
+use Rattle.live_core.specs.HostedSteps as hosted
 
 -- these calls ran, one after the other, behind these steps
 abbrev pub with_ran : List Ran → List Step → List Step

@@ -9,9 +9,9 @@ use Rattle.decl_core.specs.HoldForm.{HoldForm, EveryForm, RulesForm}
 use Rattle.guest_core.specs.Held.{HeldCall, AreHeld, MayUndo, KeepsHolds, hold_ended, is_loose}
 use Rattle.guest_core.specs.Laws.{given, taken, held_by}
 use Rattle.hold_read.specs.Holds.{IsRules}
-use Rattle.hosted_core.specs.Scene.{Scene}
-use Rattle.post_core.specs.Turns.{Turn}
-use Rattle.custody_core.specs.Custody.{Custody}
+use Rattle.live_core.specs.Scene.{Scene}
+use Rattle.keep_loop.specs.Turns.{Turn}
+use Rattle.client_core.specs.Custody.{Custody}
 use Rattle.history_law.specs.Said.{Account}
 use Rattle.table_core.specs.Seen.{seen}
 use Rattle.table_core.specs.declared.table.Table.{Table}

@@ -10,19 +10,19 @@ use Rattle.recover_core.specs.declared.recover.Recovered.{Recovered}
 use Rattle.recover_core.specs.declared.recover.RecoverFault.TheVariants as faults
 use Rattle.recover_core.specs.Playing.{begun_by}
 use Rattle.recover_core.specs.Recovered.{IsBehind, RefusesBehind}
-use Rattle.hosted_core.specs.Fronts.{front_of, IsNextFront}
-use Rattle.hosted_core.specs.Scene.{Scene, next_base, next_epoch}
-use Rattle.hosted_core.specs.Steps.{Steps, BeginsBy}
+use Rattle.live_core.specs.Fronts.{front_of, IsNextFront}
+use Rattle.live_core.specs.Scene.{Scene, next_base, next_epoch}
+use Rattle.live_core.specs.HostedSteps.{Steps, BeginsBy}
 use Rattle.history_law.specs.Named.{IsNamed}
 use Rattle.history_law.specs.Stands.{Stands}
 use Rattle.history_law.specs.WrittenRead.{AddsTwice, IsReadOf}
-use Rattle.post_core.specs.Texts.{Begins}
-use Rattle.post_core.specs.Turns.{Turn, Runs, added_by}
+use Rattle.keep_loop.specs.Texts.{Begins}
+use Rattle.keep_loop.specs.Turns.{Turn, Runs, added_by}
 use Rattle.keep_loop.specs.declared.keep.LoopLimits.{LoopLimits}
 use Rattle.keep_loop.specs.Seen.{Happened}
 use Rattle.keep_loop.specs.Epochs.{rules_of, front_in, since_in, stored_since, BeginsNone, change_to}
 use Rattle.keep_loop.specs.Stands.{IsHonest, IsBetween, SurvivesSince}
-use Rattle.custody_core.specs.Custody.{held_lines}
+use Rattle.client_core.specs.Custody.{held_lines}
 use Rattle.table_core.specs.Moves.{Gives, Fronts}
 use Rattle.table_core.specs.Seen.{seen}
 use Rattle.table_core.specs.declared.table.Table.{Table}

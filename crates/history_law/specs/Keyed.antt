@@ -11,11 +11,11 @@ use Rattle.guest_core.specs.declared.kept.Asked.{Asked}
 use Rattle.guest_core.specs.declared.kept.RememberedCall.{RememberedCall}
 use Rattle.guest_core.specs.Guests.{Guests, IsNamed, IsSound}
 use Rattle.guest_core.specs.Keys.{HasKey}
-use Rattle.hosted_core.specs.Calls.{AreRemembered, seat_of}
-use Rattle.hosted_core.specs.Fronts.{client_of as client_from}
-use Rattle.hosted_core.specs.Keys.{Repeats}
-use Rattle.hosted_core.specs.Scene.{Scene, told_of}
-use Rattle.hosted_core.specs.Steps as hosted
+use Rattle.live_core.specs.Calls.{AreRemembered, seat_of}
+use Rattle.live_core.specs.Fronts.{client_of as client_from}
+use Rattle.live_core.specs.Keys.{Repeats}
+use Rattle.live_core.specs.Scene.{Scene, told_of}
+use Rattle.live_core.specs.HostedSteps as hosted
 use Rattle.history_law.specs.Keys.{KeyEvent, epoch_began, name_came, call_ended, client_of, IsRemembered, AreKeyed, ReadEpoch, AreKnownOn, all_told, oldest}
 
 -- the call that a client has asked, where one is, has its next key, and has ended so

@@ -12,8 +12,8 @@ use Rattle.guest_core.specs.declared.kept.Asked.{Asked}
 use Rattle.guest_core.specs.declared.kept.RememberedCall.{RememberedCall}
 use Rattle.guest_core.specs.Guests.{Guests}
 use Rattle.guest_core.specs.Keys.{Keys}
-use Rattle.hosted_core.specs.Scene.{Scene}
-use Rattle.post_core.specs.Turns.{Turn, Runs}
+use Rattle.live_core.specs.Scene.{Scene}
+use Rattle.keep_loop.specs.Turns.{Turn, Runs}
 use Rattle.table_core.specs.Moves.{Gives}
 use Rattle.table_core.specs.declared.table.Table.{Table}
 use Rattle.history_law.specs.Kept.{Stood}

@@ -13,19 +13,19 @@ use Rattle.recover_core.specs.declared.recover.House.{House}
 use Rattle.recover_core.specs.declared.recover.Recovered.{Recovered}
 use Rattle.recover_core.specs.Playing.{begun_by}
 use Rattle.recover_core.specs.Text.{IsRead}
-use Rattle.hosted_core.specs.Fronts.{AddsFirst, front_of}
-use Rattle.hosted_core.specs.Scene.{Scene}
+use Rattle.live_core.specs.Fronts.{AddsFirst, front_of}
+use Rattle.live_core.specs.Scene.{Scene}
 use Rattle.serve_core.specs.Behind.{BeginsBehind}
 use Rattle.history_law.specs.Named.{IsNamed}
 use Rattle.history_law.specs.Stands.{Stands}
 use Rattle.history_law.specs.Year.{Epoch, epoch_of, AreEpochs, IsSound, all_ends, first_opening}
 use Rattle.history_law.specs.Read.{IsReadOf}
-use Rattle.post_core.specs.Turns.{Turn, Runs}
+use Rattle.keep_loop.specs.Turns.{Turn, Runs}
 use Rattle.keep_loop.specs.declared.keep.LoopLimits.{LoopLimits as LoopLimits}
 use Rattle.keep_loop.specs.Seen.{Happened}
 use Rattle.keep_loop.specs.Epochs.{rules_of, since_in, stored_since, BeginsNone, change_to}
 use Rattle.keep_loop.specs.Stands.{IsHonest, IsBetween}
-use Rattle.custody_core.specs.Custody.{Custody, held_lines}
+use Rattle.client_core.specs.Custody.{Custody, held_lines}
 use Rattle.table_core.specs.Moves.{Gives, Fronts}
 use Rattle.table_core.specs.declared.table.Table.{Table}
 use Rattle.history_law.specs.Kept.{Stood, LeavesAnswered}

@@ -1,6 +1,6 @@
 -- One life behind another: what a crash left of a journal, and what a start makes of it.
 use Rattle.std.specs.Prelude.{◌≡◌, ℕ, List, ◌++◌}
-use Rattle.post_core.specs.Journal.{IsBetween}
+use Rattle.keep_loop.specs.Journal.{IsBetween}
 use Rattle.decl_core.specs.declared.object.Object.{Object}
 use Rattle.decl_core.specs.ObjectForm.{ObjectForm}
 use Rattle.decl_core.specs.ObjectMap.{object_of}
@@ -12,7 +12,7 @@ use Rattle.audit_core.specs.Steps.{Step, happened_of}
 use Rattle.recover_core.specs.declared.recover.House.{House}
 use Rattle.recover_core.specs.declared.recover.Recovered.{Recovered}
 use Rattle.recover_core.specs.Text.{IsRead}
-use Rattle.hosted_core.specs.Scene.{Scene}
+use Rattle.live_core.specs.Scene.{Scene}
 use Rattle.serve_core.specs.Behind.{BeginsBehind}
 use Rattle.history_law.specs.Year.{Epoch, Follows}
 use Rattle.history_law.specs.Read.{IsReadOf}

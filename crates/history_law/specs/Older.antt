@@ -9,8 +9,8 @@ use Rattle.guest_core.specs.Held.{HeldCall, KeepsHolds}
 use Rattle.recover_core.specs.declared.recover.House.{House}
 use Rattle.recover_core.specs.declared.recover.Recovered.{Recovered}
 use Rattle.recover_core.specs.Recovered.{IsBehind}
-use Rattle.hosted_core.specs.Scene.{Scene}
-use Rattle.post_core.specs.Turns.{Turn, added_by}
+use Rattle.live_core.specs.Scene.{Scene}
+use Rattle.keep_loop.specs.Turns.{Turn, added_by}
 use Rattle.history_law.specs.Said.{Account}
 use Rattle.table_core.specs.declared.table.Table.{Table}
 use Rattle.history_law.specs.Kept.{IsServed}

@@ -1,7 +1,7 @@
 -- No two connections are told of one call, and none is told of it twice.
 use Rattle.std.specs.Prelude.{◌≡◌, ◌<◌, ℕ, true, List, ◌++◌}
 use Rattle.decl_core.specs.ObjectForm.{ObjectForm}
-use Rattle.post_core.specs.Turns.{Turn, Runs}
+use Rattle.keep_loop.specs.Turns.{Turn, Runs}
 use Rattle.keep_loop.specs.declared.keep.LoopLimits.{LoopLimits}
 use Rattle.keep_loop.specs.Epochs.{rules_of, since_in, stored_since}
 use Rattle.keep_loop.specs.Seen.{Happened}

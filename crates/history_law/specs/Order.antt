@@ -1,7 +1,7 @@
 -- What each connection is told, in the order of its lines and of the one history.
 use Rattle.std.specs.Prelude.{◌≡◌, ◌<◌, ℕ, true, List, [], ◌++◌, Some, None, slice_get}
 use Rattle.decl_core.specs.ObjectForm.{ObjectForm}
-use Rattle.post_core.specs.Turns.{Turn, Runs, heard_of}
+use Rattle.keep_loop.specs.Turns.{Turn, Runs, heard_of}
 use Rattle.keep_loop.specs.declared.keep.LoopLimits.{LoopLimits}
 use Rattle.keep_loop.specs.Epochs.{rules_of, since_in, stored_since}
 use Rattle.keep_loop.specs.Seen.{Happened}

@@ -15,11 +15,11 @@ use Rattle.recover_core.specs.declared.recover.House.{House}
 use Rattle.recover_core.specs.declared.recover.Recovered.{Recovered}
 use Rattle.recover_core.specs.Playing.{begun_by}
 use Rattle.recover_core.specs.Recovered.{IsBehind}
-use Rattle.hosted_core.specs.Fronts.{front_of}
-use Rattle.hosted_core.specs.Scene.{Scene}
-use Rattle.post_core.specs.Texts.{Begins}
-use Rattle.post_core.specs.Turns.{Turn, Runs, added_by}
-use Rattle.post_core.specs.Turns.Asked.{Changes}
+use Rattle.live_core.specs.Fronts.{front_of}
+use Rattle.live_core.specs.Scene.{Scene}
+use Rattle.keep_loop.specs.Texts.{Begins}
+use Rattle.keep_loop.specs.Turns.{Turn, Runs, added_by}
+use Rattle.keep_loop.specs.Turns.Asked.{Changes}
 use Rattle.keep_loop.specs.Epochs.{BeginsNone}
 use Rattle.table_core.specs.Moves.{Gives}
 use Rattle.table_core.specs.declared.table.Table.{Table}

@@ -5,10 +5,10 @@ use Rattle.apply_core.specs.declared.reply.Reply.{Reply}
 use Rattle.word_core.specs.Events.{Called}
 use Rattle.live_core.specs.Front.{Opening}
 use Rattle.audit_core.specs.Steps.{Begun}
-use Rattle.hosted_core.specs.Scene.{Scene, told_of}
+use Rattle.live_core.specs.Scene.{Scene, told_of}
 use Rattle.history_law.specs.Year.{Epoch, all_ends, first_opening}
 use Rattle.history_law.specs.Keys.{KeyEvent, KeyedCall, call_ended, IsKeptLine}
-use Rattle.post_core.specs.Turns.{Turn}
+use Rattle.keep_loop.specs.Turns.{Turn}
 use Rattle.history_law.specs.Said.{Account}
 use Rattle.table_core.specs.declared.table.Table.{Table}
 use Rattle.history_law.specs.Lived.{HasLived, epoch_in}

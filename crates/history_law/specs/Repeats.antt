@@ -6,10 +6,10 @@ use Rattle.live_core.specs.Front.{Opening}
 use Rattle.guest_core.specs.declared.guest.Guest.{Guest}
 use Rattle.guest_core.specs.declared.kept.RememberedCall.{RememberedCall}
 use Rattle.guest_core.specs.Guests.{IsNamed}
-use Rattle.hosted_core.specs.Scene.{Scene}
+use Rattle.live_core.specs.Scene.{Scene}
 use Rattle.history_law.specs.Keys.{KeyEvent, IsKeptLine}
 use Rattle.history_law.specs.Keyed.{HaveKeys}
-use Rattle.post_core.specs.Turns.{Turn}
+use Rattle.keep_loop.specs.Turns.{Turn}
 use Rattle.history_law.specs.Said.{Account, SaysNoReply}
 use Rattle.table_core.specs.declared.table.Table.{Table}
 use Rattle.history_law.specs.Replied.{AreTold, HaveOneHistory, IsReplied}

@@ -7,9 +7,9 @@ use Rattle.apply_core.specs.History.{End, IsReplyOn, leads_to}
 use Rattle.word_core.specs.Events.{Called, body_at, end_of, history_of}
 use Rattle.session_text.specs.Lines.{ended_text, repeated_text}
 use Rattle.audit_core.specs.Steps.{Begun, happened_of}
-use Rattle.hosted_core.specs.Scene.{Scene, told_of}
+use Rattle.live_core.specs.Scene.{Scene, told_of}
 use Rattle.history_law.specs.Year.{Epoch, all_ends, first_opening}
-use Rattle.post_core.specs.Turns.{Turn, Runs}
+use Rattle.keep_loop.specs.Turns.{Turn, Runs}
 use Rattle.keep_loop.specs.declared.keep.LoopLimits.{LoopLimits}
 use Rattle.keep_loop.specs.Seen.{Happened}
 use Rattle.keep_loop.specs.Epochs.{rules_of, since_in, stored_since}

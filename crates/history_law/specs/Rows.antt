@@ -9,8 +9,8 @@ use Rattle.path_count.specs.declared.past.PastEvent.{PastEvent}
 use Rattle.live_core.specs.Front.{HasRows, IsLong}
 use Rattle.audit_core.specs.Steps.{Begun, Heard}
 use Rattle.recover_core.specs.declared.recover.House.{House}
-use Rattle.hosted_core.specs.Fronts.{AddsFirst, IsNextFront, TellsFront, front_of}
-use Rattle.hosted_core.specs.Scene.{Scene, next_base, next_epoch}
+use Rattle.live_core.specs.Fronts.{AddsFirst, IsNextFront, TellsFront, front_of}
+use Rattle.live_core.specs.Scene.{Scene, next_base, next_epoch}
 use Rattle.serve_core.specs.Behind.{BeginsBehind}
 use Rattle.serve_core.specs.First.{BeginsFirst}
 use Rattle.history_law.specs.Named.{IsNamed}

@@ -6,13 +6,13 @@ use Rattle.session_text.specs.Lines.{ended_text, repeated_text}
 use Rattle.live_core.specs.Hall.{Every}
 use Rattle.guest_core.specs.declared.kept.Asked.{Asked as Call}
 use Rattle.audit_core.specs.Steps.{Step, ran}
-use Rattle.hosted_core.specs.Keys.{Repeats}
-use Rattle.hosted_core.specs.Scene.{Scene, told_of}
-use Rattle.hosted_core.specs.Steps.{Steps}
+use Rattle.live_core.specs.Keys.{Repeats}
+use Rattle.live_core.specs.Scene.{Scene, told_of}
+use Rattle.live_core.specs.HostedSteps.{Steps}
 use Rattle.history_law.specs.Happens.{all_happen}
-use Rattle.post_core.specs.Texts.{to}
-use Rattle.post_core.specs.Turns.{Asked}
-use Rattle.post_core.specs.Turns.Asked.{Heard, Noted, Changes}
+use Rattle.keep_loop.specs.Texts.{to}
+use Rattle.keep_loop.specs.Turns.{Asked}
+use Rattle.keep_loop.specs.Turns.Asked.{Heard, Noted, Changes}
 use Rattle.client_core.specs.Deeds.{Texts}
 use Rattle.client_core.specs.State.{State}
 use Rattle.client_core.specs.Given.{Gives}

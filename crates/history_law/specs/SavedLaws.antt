@@ -4,7 +4,7 @@ use Rattle.decl_core.specs.ObjectMap.{object_of}
 use Rattle.decl_core.specs.declared.object.Part.{Part}
 use Rattle.device_core.specs.Device.{Assignment}
 use Rattle.page_core.specs.Opened.{ArePinned}
-use Rattle.board_core.specs.Lists.{Every}
+use Rattle.desk_core.specs.Lists.{Every}
 use Rattle.office_core.specs.Slips.{IsTrueTold}
 use Rattle.serve_core.specs.ObjectEnds.{Ended, IsAtEnd, trace_of}
 use Rattle.serve_core.specs.Opening.{values_of}

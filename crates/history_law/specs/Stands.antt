@@ -10,7 +10,7 @@ use Rattle.guest_core.specs.Guests.{Guests, IsSound}
 use Rattle.audit_core.specs.Carried.{IsTheOne}
 use Rattle.audit_core.specs.Steps.{Step, Begun, Heard, IsUnused, told_by}
 use Rattle.audit_core.specs.EpochTells.{IsSession}
-use Rattle.hosted_core.specs.Scene.{Scene}
+use Rattle.live_core.specs.Scene.{Scene}
 
 -- A call that waits: no line told of its number; its session and its arguments can be written; and where a call was
 -- carried into the epoch by its number, it is that call.

@@ -8,8 +8,8 @@ use Rattle.live_core.specs.declared.call.Limits.{Limits}
 use Rattle.audit_core.specs.Steps.{nothing_heard}
 use Rattle.recover_core.specs.declared.recover.House.{House}
 use Rattle.recover_core.specs.Playing.{begun_by}
-use Rattle.hosted_core.specs.Fronts.{front_of, AddsFirst}
-use Rattle.hosted_core.specs.Scene.{Scene}
+use Rattle.live_core.specs.Fronts.{front_of, AddsFirst}
+use Rattle.live_core.specs.Scene.{Scene}
 use Rattle.serve_core.specs.First.{BeginsFirst}
 use Rattle.serve_core.specs.Behind.{BeginsBehind}
 use Rattle.history_law.specs.Stands.{Stands}

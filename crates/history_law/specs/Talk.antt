@@ -17,9 +17,9 @@ use Rattle.session_text.specs.declared.line.ReplyLine.TheVariants as lines
 use Rattle.session_text.specs.declared.line.ReplyLine.{ReplyLine as Answer}
 use Rattle.session_text.specs.declared.line.LineRefusal.TheVariants as refusals
 use Rattle.session_text.specs.Lines.{accepted_text, bye_text, cancel_name, ended_text, line_text, withdrawn_text}
-use Rattle.hosted_core.specs.Scene.{Scene}
-use Rattle.post_core.specs.declared.served.LineEnd.{LineEnd}
-use Rattle.post_core.specs.declared.served.LineEnd.TheVariants as ends
+use Rattle.live_core.specs.Scene.{Scene}
+use Rattle.keep_loop.specs.declared.served.LineEnd.{LineEnd}
+use Rattle.keep_loop.specs.declared.served.LineEnd.TheVariants as ends
 use Rattle.client_core.specs.declared.ask.Ask.TheVariants as asks
 use Rattle.client_core.specs.declared.ask.Sight.{Sight}
 use Rattle.client_core.specs.Asks.{Asks}

@@ -1,8 +1,8 @@
 -- What steps tell of names tells of the calls that ran.
 use Rattle.std.specs.Prelude.{◌≡◌, ◌⊎◌, ℕ, List, [], ◌∷◌, ◌++◌, Some}
 use Rattle.apply_core.specs.declared.reply.Reply.{Reply}
-use Rattle.hosted_core.specs.Scene.{Scene}
-use Rattle.hosted_core.specs.Steps as hosted
+use Rattle.live_core.specs.Scene.{Scene}
+use Rattle.live_core.specs.HostedSteps as hosted
 use Rattle.history_law.specs.Happens.{all_happen}
 use Rattle.history_law.specs.Keys.{KeyEvent, KeyedCall, call_ended}
 use Rattle.history_law.specs.Keyed.{with_steps}

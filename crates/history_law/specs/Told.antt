@@ -5,8 +5,8 @@ use Rattle.audit_core.specs.Steps.{Step, Begun, Heard}
 use Rattle.audit_core.specs.EpochTells.{Tell}
 use Rattle.audit_core.specs.Sound.{IsSound}
 use Rattle.recover_core.specs.Lines.{AreLines, joined}
-use Rattle.hosted_core.specs.Scene.{Scene}
-use Rattle.hosted_core.specs.Steps as hosted
+use Rattle.live_core.specs.Scene.{Scene}
+use Rattle.live_core.specs.HostedSteps as hosted
 use Rattle.history_law.specs.Named.{IsNamed}
 use Rattle.history_law.specs.Stands.{Stands}
 use Rattle.history_law.specs.Happens.{happens, all_happen}

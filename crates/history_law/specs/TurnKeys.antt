@@ -6,15 +6,15 @@ use Rattle.live_core.specs.declared.call.Limits.{Limits}
 use Rattle.live_core.specs.Front.{Opening}
 use Rattle.audit_core.specs.Steps.{Step}
 use Rattle.recover_core.specs.declared.recover.House.{House}
-use Rattle.hosted_core.specs.Fronts.{client_of}
-use Rattle.hosted_core.specs.Scene.{Scene}
-use Rattle.hosted_core.specs.Steps.{BeginsBy}
+use Rattle.live_core.specs.Fronts.{client_of}
+use Rattle.live_core.specs.Scene.{Scene}
+use Rattle.live_core.specs.HostedSteps.{BeginsBy}
 use Rattle.history_law.specs.Keys.{KeyEvent, epoch_began, ReadEpoch, AreKnownOn, all_told, oldest}
 use Rattle.history_law.specs.Keyed.{HaveKeys, IsTheCall, with_steps}
-use Rattle.post_core.specs.Texts.{to}
-use Rattle.post_core.specs.Turns.{Asked, Turn}
-use Rattle.post_core.specs.Turns.Asked.{Heard, Noted, Changes}
-use Rattle.custody_core.specs.Custody.{Custody, held_lines}
+use Rattle.keep_loop.specs.Texts.{to}
+use Rattle.keep_loop.specs.Turns.{Asked, Turn}
+use Rattle.keep_loop.specs.Turns.Asked.{Heard, Noted, Changes}
+use Rattle.client_core.specs.Custody.{Custody, held_lines}
 use Rattle.history_law.specs.Said.{Account, SaysIn, Went}
 use Rattle.table_core.specs.Moves.{Gives}
 use Rattle.table_core.specs.Seen.{seen}

@@ -15,20 +15,20 @@ use Rattle.recover_core.specs.declared.recover.House.{House}
 use Rattle.recover_core.specs.declared.recover.Recovered.{Recovered}
 use Rattle.recover_core.specs.Playing.{begun_by}
 use Rattle.recover_core.specs.Text.{IsRead}
-use Rattle.hosted_core.specs.Fronts.{AddsFirst, front_of}
-use Rattle.hosted_core.specs.Scene.{Scene, next_base, next_epoch}
+use Rattle.live_core.specs.Fronts.{AddsFirst, front_of}
+use Rattle.live_core.specs.Scene.{Scene, next_base, next_epoch}
 use Rattle.serve_core.specs.First.{BeginsFirst}
 use Rattle.history_law.specs.Named.{IsNamed}
 use Rattle.history_law.specs.WrittenRead.{Adds}
 use Rattle.history_law.specs.Stands.{Stands}
 use Rattle.history_law.specs.Year.{Epoch, AreEpochs, IsSound, all_ends, epoch_of, first_opening}
 use Rattle.history_law.specs.Read.{IsReadOf}
-use Rattle.post_core.specs.Turns.{Turn}
+use Rattle.keep_loop.specs.Turns.{Turn}
 use Rattle.keep_loop.specs.declared.keep.LoopLimits.{LoopLimits}
 use Rattle.keep_loop.specs.Seen.{Happened}
 use Rattle.keep_loop.specs.Epochs.{rules_of, front_in, since_in, stored_since}
 use Rattle.keep_loop.specs.Stands.{IsHonest, IsBetween}
-use Rattle.custody_core.specs.Custody.{held_lines}
+use Rattle.client_core.specs.Custody.{held_lines}
 use Rattle.history_law.specs.Said.{Account}
 use Rattle.table_core.specs.Moves.{Gives, Fronts}
 use Rattle.table_core.specs.Seen.{seen}

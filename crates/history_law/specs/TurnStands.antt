@@ -5,11 +5,11 @@ use Rattle.decl_core.specs.ObjectForm.{ObjectForm}
 use Rattle.apply_core.specs.History.{End}
 use Rattle.word_core.specs.Events.{Called, history_of}
 use Rattle.audit_core.specs.Steps.{happened_of}
-use Rattle.hosted_core.specs.Scene.{Scene}
+use Rattle.live_core.specs.Scene.{Scene}
 use Rattle.client_core.specs.declared.client.OpenObject.{OpenObject}
 use Rattle.client_core.specs.Held.{is_whole_before, waits_of}
-use Rattle.post_core.specs.Turns.{Turn}
-use Rattle.post_core.specs.declared.served.LineEnd.{LineEnd}
+use Rattle.keep_loop.specs.Turns.{Turn}
+use Rattle.keep_loop.specs.declared.served.LineEnd.{LineEnd}
 use Rattle.client_core.specs.Deeds.{Texts}
 use Rattle.client_core.specs.Gone.{Settles}
 use Rattle.client_core.specs.State.{Peer, State, who_in}

@@ -1,7 +1,7 @@
 -- From the bytes of a client to its bytes: what a connection is written are the texts of its talk.
 use Rattle.std.specs.Prelude.{◌≡◌, ◌<◌, ℕ, true, List, ◌++◌}
-use Rattle.post_core.specs.Texts.{Begins}
-use Rattle.post_core.specs.Turns.{Turn, Runs, said_to}
+use Rattle.keep_loop.specs.Texts.{Begins}
+use Rattle.keep_loop.specs.Turns.{Turn, Runs, said_to}
 use Rattle.keep_loop.specs.declared.keep.LoopLimits.{LoopLimits}
 use Rattle.keep_loop.specs.Cuts.{IsCut}
 use Rattle.keep_loop.specs.Epochs.{rules_of, since_in, stored_since}

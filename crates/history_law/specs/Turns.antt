@@ -6,13 +6,13 @@ use Rattle.live_core.specs.Hall.{Every}
 use Rattle.session_text.specs.Lines.{ended_text, repeated_text}
 use Rattle.guest_core.specs.declared.seats.SeatHolder.TheVariants.{Nameless}
 use Rattle.audit_core.specs.Steps.{Step}
-use Rattle.hosted_core.specs.Scene.{Scene}
-use Rattle.hosted_core.specs.Steps.{Steps}
+use Rattle.live_core.specs.Scene.{Scene}
+use Rattle.live_core.specs.HostedSteps.{Steps}
 use Rattle.history_law.specs.Happens.{all_happen}
 use Rattle.history_law.specs.Stands.{AreSeated}
-use Rattle.post_core.specs.Texts.{to}
-use Rattle.post_core.specs.Turns.{Asked, Turn, Runs}
-use Rattle.post_core.specs.Turns.Asked.{Heard, Noted, Changes}
+use Rattle.keep_loop.specs.Texts.{to}
+use Rattle.keep_loop.specs.Turns.{Asked, Turn, Runs}
+use Rattle.keep_loop.specs.Turns.Asked.{Heard, Noted, Changes}
 use Rattle.client_core.specs.declared.client.OpenObject.{OpenObject}
 use Rattle.client_core.specs.Deeds.{Texts}
 use Rattle.client_core.specs.State.{Peer, State, opened_in, who_in}

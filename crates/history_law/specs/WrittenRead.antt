@@ -9,8 +9,8 @@ use Rattle.recover_core.specs.declared.recover.Recovered.{Recovered}
 use Rattle.recover_core.specs.declared.recover.RecoverFault.TheVariants as faults
 use Rattle.recover_core.specs.Playing.{begun_by}
 use Rattle.recover_core.specs.Recovered.{IsBehind, RefusesBehind}
-use Rattle.hosted_core.specs.Scene.{Scene}
-use Rattle.hosted_core.specs.Steps as hosted
+use Rattle.live_core.specs.Scene.{Scene}
+use Rattle.live_core.specs.HostedSteps as hosted
 use Rattle.history_law.specs.Named.{IsNamed}
 use Rattle.history_law.specs.Stands.{Stands}
 use Rattle.history_law.specs.Happens.{all_happen}

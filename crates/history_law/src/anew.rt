@@ -3,14 +3,14 @@
 ghost use Rattle.std.specs.Prelude.{◌≡◌, ◌⊎◌, ◌+◌, ◌<◌, ◌^◌, List, ℕ, length, true, false, IfOk, OnOk};
 ghost use Rattle.decl_core.specs.ObjectForm.{ObjectForm};
 ghost use Rattle.audit_core.specs.Verdicts.{IsLegalTrace};
-ghost use Rattle.post_core.specs.Device.{LeavesOnly};
-ghost use Rattle.post_core.specs.Journal.{recovered, AreLines, Begins};
-ghost use Rattle.post_core.specs.Order.{IsInOrder, Holds};
+ghost use Rattle.keep_loop.specs.Device.{LeavesOnly};
+ghost use Rattle.keep_loop.specs.Journal.{recovered, AreLines, Begins};
+ghost use Rattle.keep_loop.specs.Order.{IsInOrder, Holds};
 ghost use Rattle.history_law.specs.CrashLaws.{TellsParts, IsLeft};
 
 use crate::crash_laws::crash_leaves_legal;
-use post_core::device::{Device, DeviceError};
-use post_core::journal::Journal;
+use keep_loop::device::{Device, DeviceError};
+use keep_loop::journal::Journal;
 use std::alloc::Global;
 
 /// Begins the journal of an object anew with this front, and room for so many bytes behind it, as [`Journal::change`] does.

@@ -4,8 +4,8 @@ ghost use Rattle.std.specs.Prelude.{IfOk};
 ghost use Rattle.history_law.specs.Asker.{RepliesAreAsked, WaitsAreAsked, CrashLeavesAsked};
 ghost use Rattle.history_law.specs.Asker.{AreAskedFrom, CrashLeavesAskedFrom};
 
-use custody_core::all::AllHeld;
-use hosted_core::hosted::Hosted;
+use client_core::all::AllHeld;
+use live_core::hosted::Hosted;
 use std::alloc::{AllocError, Global};
 use table_core::table::Table;
 

@@ -2,8 +2,8 @@
 
 ghost use Rattle.history_law.specs.CrashLaws.{FrontIsSound, CompletedIsSound, CrashLeavesLegal, WordsAreLines};
 
+use keep_loop::journal::recovered_are_lines;
 use path_tree::laws::finish_keeps_satisfaction;
-use post_core::journal::recovered_are_lines;
 
 /// Of a sound trace the first lines behind its parts are a sound trace, however many.
 pub fn front_is_sound()

@@ -3,16 +3,16 @@
 ghost use Rattle.std.specs.Prelude.{◌≡◌, ◌++◌, ◌≤◌, List, ℕ};
 ghost use Rattle.decl_core.specs.ObjectForm.{ObjectForm};
 ghost use Rattle.audit_core.specs.Verdicts.{IsLegalTrace};
-ghost use Rattle.post_core.specs.Device.{LeavesOnly};
-ghost use Rattle.post_core.specs.Journal.{recovered, AreLines, Begins};
-ghost use Rattle.post_core.specs.Order.{IsInOrder, Holds};
-ghost use Rattle.post_core.specs.Run.{AreSteps, added};
+ghost use Rattle.keep_loop.specs.Device.{LeavesOnly};
+ghost use Rattle.keep_loop.specs.Journal.{recovered, AreLines, Begins};
+ghost use Rattle.keep_loop.specs.Order.{IsInOrder, Holds};
+ghost use Rattle.keep_loop.specs.Run.{AreSteps, added};
 ghost use Rattle.history_law.specs.CrashLaws.{TellsParts, IsLeft};
 
 use crate::crash_laws::crash_leaves_legal;
-use post_core::device::{Device, DeviceError};
-use post_core::journal::Journal;
-use post_core::uncalled::JournalStep;
+use keep_loop::device::{Device, DeviceError};
+use keep_loop::journal::Journal;
+use keep_loop::uncalled::JournalStep;
 
 /// Adds lines of a trace and stores them, in these steps, up to the first that fails; `Err` is that of the step. Where
 /// the text with all these lines is a legal trace of an object whose parts are stored, a crash at any moment leaves a

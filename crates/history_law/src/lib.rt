@@ -11,7 +11,7 @@
 //!   with its contents. So all epochs together, however many, are as one: their starts and ends are one trace, each
 //!   prefix of which satisfies every path, and the ends of all calls one history of the sequential object. In it the
 //!   key of a call stands once, as long as its name stays known.
-//! - `written_laws`: what an object with its clients adds to its journal (`hosted_core`) is what recovery reads
+//! - `written_laws`: what an object with its clients adds to its journal (`live_core`) is what recovery reads
 //!   (`audit_core`): wherever a crash has cut the lines, they tell the first steps of what happened, and nothing else.
 //! - `front_laws`: the front of an epoch that a start reads is the one that was written; no line behind it is taken for
 //!   one of it.

@@ -6,7 +6,7 @@ use Rattle.std.proofs.lemmas.Option.{slice_get_past}
 use Rattle.word_core.specs.Events.{Called}
 use Rattle.std.specs.Prelude.{Bool, true, false, ◌==◌, Option, Some, None, cond, slice_get, if◌then◌else◌}
 use Rattle.live_core.specs.Hall.{Hall}
-use Rattle.hosted_core.specs.Scene.{Scene}
+use Rattle.live_core.specs.Scene.{Scene}
 use Rattle.client_core.specs.declared.client.OpenObject.{OpenObject}
 use Rattle.client_core.specs.declared.clients.ClientPlaces.{ClientPlaces}
 use Rattle.client_core.specs.People.{called_in}
@@ -14,7 +14,7 @@ use Rattle.inside_core.specs.declared.numbers.SeenObject.{SeenObject}
 use Rattle.inside_core.specs.declared.numbers.OperationTally.{OperationTally}
 use Rattle.inside_core.specs.declared.tallies.CallEnds.{CallEnds}
 use Rattle.inside_core.specs.declared.tallies.ObjectTally.{ObjectTally}
-use Rattle.custody_core.specs.Custody.{Custodies}
+use Rattle.client_core.specs.Custody.{Custodies}
 use Rattle.client_core.specs.ToldInside.{Crowd, is_asked, sits_in, sitting_from}
 use Rattle.client_core.specs.State.{Peer, opened_in}
 use Rattle.inside_core.proofs.Sitting.{sits_more}

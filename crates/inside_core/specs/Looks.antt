@@ -7,7 +7,7 @@ use Rattle.decl_core.specs.ObjectMap.{object_of}
 use Rattle.word_core.specs.Events.{Called}
 use Rattle.word_core.specs.Text.{operation_name}
 use Rattle.live_core.specs.Hall.{Hall}
-use Rattle.hosted_core.specs.Scene.{Scene}
+use Rattle.live_core.specs.Scene.{Scene}
 use Rattle.inside_core.specs.declared.numbers.EndCounts.{EndCounts}
 use Rattle.inside_core.specs.declared.numbers.SeenObject.{SeenObject}
 use Rattle.inside_core.specs.declared.numbers.OperationTally.{OperationTally}
@@ -16,7 +16,7 @@ use Rattle.inside_core.specs.Laws.{sum_of}
 use Rattle.inside_core.specs.Tallies.{ends_of, taken_of}
 use Rattle.inside_core.specs.declared.tallies.CallEnds.{CallEnds}
 use Rattle.inside_core.specs.declared.tallies.ObjectTally.{ObjectTally}
-use Rattle.custody_core.specs.Custody.{Custodies, held_by}
+use Rattle.client_core.specs.Custody.{Custodies, held_by}
 use Rattle.client_core.specs.ToldInside.{Crowd, sitting_from}
 use Rattle.client_core.specs.State.{opened_in, peers_of}
 

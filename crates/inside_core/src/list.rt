@@ -2,11 +2,11 @@
 
 ghost use Rattle.std.specs.Prelude.{◌≡◌, ◌++◌, map, flat_map, length, IfOk, OnOk};
 ghost use Rattle.decl_core.specs.ObjectMap.{object_of};
-ghost use Rattle.hosted_core.specs.Scene.{Scene};
+ghost use Rattle.live_core.specs.Scene.{Scene};
 ghost use Rattle.stuck_core.specs.List.{object_line, open_count, open_text};
 ghost use Rattle.client_core.specs.ToldInside.{form_at, IsList};
 
-use hosted_core::hosted::Hosted;
+use live_core::hosted::Hosted;
 use std::alloc::{AllocError, Global};
 use stuck_core::list::{push_list, push_object, push_operations};
 

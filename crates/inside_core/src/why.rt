@@ -6,11 +6,11 @@ ghost use Rattle.word_core.specs.Events.{Called};
 ghost use Rattle.stuck_core.specs.ReasonViews.{whys_of};
 ghost use Rattle.stuck_core.specs.Why.{why_text};
 ghost use Rattle.live_core.specs.Hall.{Every};
-ghost use Rattle.hosted_core.specs.Scene.{is_given, told_of};
+ghost use Rattle.live_core.specs.Scene.{is_given, told_of};
 ghost use Rattle.client_core.specs.ToldInside.{AreWhys, SaysState, SaysWhy, IsWhy, state_by};
 
-use hosted_core::hosted::Hosted;
 use live_core::call::LiveCall;
+use live_core::hosted::Hosted;
 use path_tree::node::OpId;
 use std::alloc::{AllocError, Global};
 use stuck_core::find::reasons_by;

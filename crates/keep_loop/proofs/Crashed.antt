@@ -1,8 +1,8 @@
 -- What a crash leaves.
 use Rattle.std.proofs.Common.{◌≡◌, ◌∙◌, ap, sym, ℕ, ◌<◌, List, ◌++◌, append_assoc, subst}
 use Rattle.std.specs.Prelude.{true, if◌then◌else◌}
-use Rattle.post_core.specs.Texts.{Begins}
-use Rattle.post_core.specs.Turns.{added_by}
+use Rattle.keep_loop.specs.Texts.{Begins}
+use Rattle.keep_loop.specs.Turns.{added_by}
 use Rattle.keep_loop.specs.Seen.{Happened, stored_in, added_in}
 use Rattle.keep_loop.specs.Epochs.{Rules, before_in, since_in, stored_since}
 use Rattle.keep_loop.specs.Stands.{IsHonest, IsBetween, Survives, SurvivesSince}

@@ -2,10 +2,10 @@
 use Rattle.std.proofs.Common.{◌≡◌, ℕ, ◌<◌, ◌≤◌, List, [], ◌∷◌, ◌++◌, refl, sym, ◌∙◌, ap, subst, append_assoc, length, arith}
 use Rattle.std.specs.Prelude.{◌==◌, false}
 use Rattle.std.proofs.lemmas.List.Elements.{All-nil, All-append}
-use Rattle.post_core.specs.Texts.{NoLineFeed}
+use Rattle.keep_loop.specs.Texts.{NoLineFeed}
 use Rattle.keep_loop.specs.Cuts.{IsCut, IsCutBy, IsFed, most_line}
-use Rattle.post_core.specs.declared.served.LineEnd.{LineEnd}
-use Rattle.post_core.specs.declared.served.LineEnd.TheVariants.{Feed, Input, TooLong}
+use Rattle.keep_loop.specs.declared.served.LineEnd.{LineEnd}
+use Rattle.keep_loop.specs.declared.served.LineEnd.TheVariants.{Feed, Input, TooLong}
 
 pub fed_nothing : IsFed [] [] []
 fed_nothing = (refl, All-nil (λ b. (b == 10) ≡ false), omega arith)

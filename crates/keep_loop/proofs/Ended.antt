@@ -3,8 +3,8 @@ use Rattle.std.proofs.Common.{◌≡◌, ℕ, ◌<◌, ◌≤◌, ◌+◌, List,
 use Rattle.std.proofs.lemmas.Bool.{eqb-false}
 use Rattle.std.specs.Prelude.{Bool, true, false, Option, if◌then◌else◌, ◌==◌, IfSome}
 use Rattle.std.proofs.lemmas.List.{append-nil}
-use Rattle.post_core.specs.Texts.{text_at}
-use Rattle.post_core.specs.Turns.{Turn, Runs, heard_of, notes_by, added_by}
+use Rattle.keep_loop.specs.Texts.{text_at}
+use Rattle.keep_loop.specs.Turns.{Turn, Runs, heard_of, notes_by, added_by}
 use Rattle.keep_loop.specs.Seen.{Happened, Grows, Always, ended_in, came_from, added_in, stored_in, kept_in}
 use Rattle.keep_loop.specs.Seen.Happened.{Stored}
 use Rattle.keep_loop.specs.Cuts.{IsCut}

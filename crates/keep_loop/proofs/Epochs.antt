@@ -3,8 +3,8 @@ use Rattle.std.proofs.Common.{◌≡◌, ◌⊎◌, inl, inr, ℕ, List, [], ◌
 use Rattle.std.specs.Prelude.{Bool, true, false, Option, Some, None, if◌then◌else◌, ◌==◌}
 use Rattle.std.proofs.lemmas.Bool.{eqb-false}
 use Rattle.std.proofs.lemmas.List.{append-nil, append_cancel_left, length-append, nil_from_length}
-use Rattle.post_core.specs.Texts.{Begins}
-use Rattle.post_core.specs.Turns.{Turn, added_by}
+use Rattle.keep_loop.specs.Texts.{Begins}
+use Rattle.keep_loop.specs.Turns.{Turn, added_by}
 use Rattle.keep_loop.specs.Seen.{Happened, added_in, stored_in}
 use Rattle.keep_loop.specs.Seen.Happened.{Came, Ended, Broke, Wrote, Noticed, Added, Stored, Changed}
 use Rattle.keep_loop.specs.Epochs.{Rules, front_in, before_in, since_in, stored_since, BeginsNot, BeginsNone, change_to, Agrees, AgreesIn, IsAhead, HasBegun}

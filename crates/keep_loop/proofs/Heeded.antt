@@ -2,18 +2,18 @@
 use Rattle.std.proofs.Common.{◌≡◌, ◌⊎◌, inl, inr, ℕ, ◌<◌, ◌≤◌, ◌+◌, List, [], ◌∷◌, ◌++◌, refl, sym, ◌∙◌, ap, subst, length, true≢false, arith}
 use Rattle.std.specs.Prelude.{Bool, true, false, if◌then◌else◌, ◌==◌}
 use Rattle.std.proofs.lemmas.List.{append-nil}
-use Rattle.post_core.specs.Turns.{Turn, heard_of, notes_by, is_joining}
-use Rattle.post_core.specs.Turns.Asked.{Noted}
+use Rattle.keep_loop.specs.Turns.{Turn, heard_of, notes_by, is_joining}
+use Rattle.keep_loop.specs.Turns.Asked.{Noted}
 use Rattle.keep_loop.specs.Seen.{comings}
 use Rattle.keep_loop.specs.Cuts.{IsCut, IsFed}
-use Rattle.post_core.specs.Posts.{is_here, hears}
+use Rattle.keep_loop.specs.Posts.{is_here, hears}
 use Rattle.keep_loop.specs.Stands.{Heeds, held_of}
-use Rattle.post_core.specs.declared.post.Post.{Post}
-use Rattle.post_core.specs.declared.post.OwedText.{OwedText}
-use Rattle.post_core.specs.declared.served.Note.{Note}
+use Rattle.keep_loop.specs.declared.post.Post.{Post}
+use Rattle.keep_loop.specs.declared.post.OwedText.{OwedText}
+use Rattle.keep_loop.specs.declared.served.Note.{Note}
 use Rattle.keep_loop.proofs.Turns.{heard_last, notes_last, comings_last}
 use Rattle.keep_loop.proofs.Cuts.{fed_nothing}
-use Rattle.post_core.proofs.Places.{by_who}
+use Rattle.keep_loop.proofs.Places.{by_who}
 
 counted : (b : Bool) (n m : ℕ) → m ≡ n + (if b then 1 else 0) → n ≤ 1 → (b ≡ true → n ≡ 0) → m ≤ 1
 counted true n m is le none = (let zero_is = none refl in omega (arith, is, zero_is))

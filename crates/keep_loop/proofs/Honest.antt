@@ -2,24 +2,24 @@
 use Rattle.std.proofs.Common.{◌≡◌, inl, ℕ, ◌<◌, ◌≤◌, ◌+◌, List, [], ◌∷◌, ◌++◌, refl, sym, ◌∙◌, ap, subst, append_assoc, take, drop, take-append-drop, eqb-true, arith}
 use Rattle.std.specs.Prelude.{Bool, true, false, if◌then◌else◌, ◌==◌}
 use Rattle.std.proofs.lemmas.List.{append-nil}
-use Rattle.post_core.specs.Texts.{Begins, text_at}
-use Rattle.post_core.specs.Turns.{Turn, Runs, heard_of, notes_by, is_joining, added_by, said_to}
+use Rattle.keep_loop.specs.Texts.{Begins, text_at}
+use Rattle.keep_loop.specs.Turns.{Turn, Runs, heard_of, notes_by, is_joining, added_by, said_to}
 use Rattle.keep_loop.specs.Seen.{Happened, came_from, ended_in, written_to, notes_in, added_in, stored_in, kept_in, comings, read_of}
 use Rattle.keep_loop.specs.Seen.Happened.{Came, Ended, Broke, Wrote, Noticed, Added, Changed}
 use Rattle.keep_loop.specs.Cuts.{IsCut}
 use Rattle.keep_loop.specs.Epochs.{Rules, HasBegun}
-use Rattle.post_core.specs.Posts.{is_here, hears, owed_to}
+use Rattle.keep_loop.specs.Posts.{is_here, hears, owed_to}
 use Rattle.keep_loop.specs.Stands.{Owes, Stands, Rests, IsHonest}
 use Rattle.keep_loop.specs.declared.keep.Keep.{Keep}
 use Rattle.keep_loop.specs.declared.keep.LoopLimits.{LoopLimits}
 use Rattle.keep_loop.specs.declared.outside.ReadEnd.{ReadEnd}
 use Rattle.keep_loop.specs.declared.outside.ReadEnd.TheVariants as reads
-use Rattle.post_core.specs.declared.post.Post.{Post}
-use Rattle.post_core.specs.declared.served.Note.{Note}
+use Rattle.keep_loop.specs.declared.post.Post.{Post}
+use Rattle.keep_loop.specs.declared.served.Note.{Note}
 use Rattle.keep_loop.proofs.Turns.{comings_last, begins_more}
 use Rattle.keep_loop.proofs.Cuts.{cut_more, cut_later}
 use Rattle.keep_loop.proofs.Epochs.{ahead}
-use Rattle.post_core.proofs.Places.{by_who, is_same}
+use Rattle.keep_loop.proofs.Places.{by_who, is_same}
 
 more_ended : (b : Bool) (n : ℕ) → n ≤ (if b then 1 else 0) + n
 more_ended true n = omega arith

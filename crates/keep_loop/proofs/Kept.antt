@@ -1,17 +1,17 @@
 -- What steps keep.
 use Rattle.std.proofs.Common.{◌≡◌, ℕ, ◌<◌, ◌≤◌, List, [], ◌∷◌, refl, sym, ◌∙◌, ap, subst, length, take}
 use Rattle.std.specs.Prelude.{Bool, true, false, Option, Result, Ok, Err, OnErr, if◌then◌else◌, ◌==◌}
-use Rattle.post_core.specs.Texts.{text_at}
-use Rattle.post_core.specs.Turns.{is_joining}
+use Rattle.keep_loop.specs.Texts.{text_at}
+use Rattle.keep_loop.specs.Turns.{is_joining}
 use Rattle.keep_loop.specs.Seen.{Happened, Grows, GrowsIf, Always, read_of}
 use Rattle.keep_loop.specs.Seen.Happened.{Broke, Wrote, Noticed, Added, Stored, Changed}
-use Rattle.post_core.specs.Posts.{is_here, hears, owed_to}
+use Rattle.keep_loop.specs.Posts.{is_here, hears, owed_to}
 use Rattle.keep_loop.specs.Epochs.{Rules}
 use Rattle.keep_loop.specs.Stands.{Stands, Rests, IsHonest, Good, Rested, Keeps, Settles, Sends, Renews, Fails, FailsRested}
 use Rattle.keep_loop.specs.declared.keep.Keep.{Keep}
 use Rattle.keep_loop.specs.declared.keep.LoopLimits.{LoopLimits}
 use Rattle.keep_loop.specs.declared.outside.ReadEnd.{ReadEnd}
-use Rattle.post_core.specs.declared.served.Note.{Note}
+use Rattle.keep_loop.specs.declared.served.Note.{Note}
 use Rattle.keep_loop.proofs.Grown.{grown, same}
 use Rattle.keep_loop.proofs.Stood.{rests_kept, stands_added, stands_stored, rests_synced}
 use Rattle.keep_loop.proofs.Honest.{honest, honest_broke, honest_changed, honest_read, honest_noticed, honest_added, honest_wrote}

@@ -9,3 +9,12 @@ pub mod Kept
 pub mod Owed
 pub mod Stood
 pub mod Turns
+pub mod Places
+pub mod Slots
+pub mod Begun
+pub mod KeptLines
+pub mod Lines
+pub mod Moments
+pub mod Quiet
+pub mod Replaced
+pub mod Runs

@@ -2,12 +2,12 @@
 use Rattle.std.proofs.Common.{◌≡◌, ◌⊎◌, inl, inr, ℕ, ◌<◌, ◌≤◌, List, [], ◌∷◌, ◌++◌, refl, sym, ◌∙◌, ap, subst, append_assoc, length, take, drop, take-append-drop, eqb-true, true≢false, arith}
 use Rattle.std.specs.Prelude.{Bool, true, false, ◌||◌, if◌then◌else◌, ◌==◌}
 use Rattle.std.proofs.lemmas.List.{append-nil}
-use Rattle.post_core.specs.Texts.{Begins, text_at, to}
-use Rattle.post_core.specs.Turns.{Turn, joins, said_to, added_by, has_joined}
-use Rattle.post_core.specs.Posts.{is_here, is_here_in, owed_to, Writes}
+use Rattle.keep_loop.specs.Texts.{Begins, text_at, to}
+use Rattle.keep_loop.specs.Turns.{Turn, joins, said_to, added_by, has_joined}
+use Rattle.keep_loop.specs.Posts.{is_here, is_here_in, owed_to, Writes}
 use Rattle.keep_loop.specs.Stands.{Owes}
 use Rattle.keep_loop.specs.declared.keep.LoopLimits.{LoopLimits}
-use Rattle.post_core.specs.declared.post.Post.{Post}
+use Rattle.keep_loop.specs.declared.post.Post.{Post}
 use Rattle.keep_loop.proofs.Turns.{joined_last, said_last, said_first, said_more, added_last, begins_more, begins_twice}
 
 -- one that is there was there before, and is owed what is said to it; or it comes now

@@ -2,28 +2,28 @@
 use Rattle.std.proofs.Common.{◌≡◌, ◌⊎◌, inl, inr, ℕ, ◌<◌, ◌≤◌, ◌+◌, ◌%◌, List, [], ◌∷◌, ◌++◌, refl, sym, ◌∙◌, ap, subst, append_assoc, length, take, eqb-true, true≢false, arith}
 use Rattle.std.specs.Prelude.{Bool, true, false, if◌then◌else◌, ◌==◌}
 use Rattle.std.proofs.lemmas.List.{append-nil}
-use Rattle.post_core.specs.Texts.{NoLineFeed, text_at, to}
-use Rattle.post_core.specs.Turns.{Turn, Gives, Runs, Asked, heard_of, added_by, notes_by, is_joining, joins}
-use Rattle.post_core.specs.Turns.Asked.{Heard, Noted, Changes}
+use Rattle.keep_loop.specs.Texts.{NoLineFeed, text_at, to}
+use Rattle.keep_loop.specs.Turns.{Turn, Gives, Runs, Asked, heard_of, added_by, notes_by, is_joining, joins}
+use Rattle.keep_loop.specs.Turns.Asked.{Heard, Noted, Changes}
 use Rattle.keep_loop.specs.Seen.{Happened, came_from, ended_in, written_to, notes_in, added_in, stored_in, kept_in}
 use Rattle.keep_loop.specs.Seen.Happened.{Came, Ended, Broke, Wrote, Noticed, Added, Stored, Changed}
 use Rattle.keep_loop.specs.Cuts.{IsCut, IsFed, most_line}
 use Rattle.keep_loop.specs.Epochs.{AgreesIn, change_to}
-use Rattle.post_core.specs.declared.post.Stage.TheVariants.{Gone}
-use Rattle.post_core.specs.Posts.{is_here_in, hears_in, stage_of, is_here, hears, owed_to, Tells, Opens, Closes, Writes, Does}
+use Rattle.keep_loop.specs.declared.post.Stage.TheVariants.{Gone}
+use Rattle.keep_loop.specs.Posts.{is_here_in, hears_in, stage_of, is_here, hears, owed_to, Tells, Opens, Closes, Writes, Does}
 use Rattle.keep_loop.specs.Stands.{Owes, Heeds, Stands, Rests, held_of}
 use Rattle.keep_loop.specs.declared.keep.Keep.{Keep}
 use Rattle.keep_loop.specs.declared.keep.LoopLimits.{LoopLimits}
-use Rattle.post_core.specs.declared.post.Post.{Post}
-use Rattle.post_core.specs.declared.post.OwedText.{OwedText}
-use Rattle.post_core.specs.declared.served.LineEnd.{LineEnd}
-use Rattle.post_core.specs.declared.served.LineEnd.TheVariants.{Feed, Input, TooLong}
-use Rattle.post_core.specs.declared.served.Note.{Note}
-use Rattle.post_core.specs.declared.served.Note.TheVariants.{Joins}
+use Rattle.keep_loop.specs.declared.post.Post.{Post}
+use Rattle.keep_loop.specs.declared.post.OwedText.{OwedText}
+use Rattle.keep_loop.specs.declared.served.LineEnd.{LineEnd}
+use Rattle.keep_loop.specs.declared.served.LineEnd.TheVariants.{Feed, Input, TooLong}
+use Rattle.keep_loop.specs.declared.served.Note.{Note}
+use Rattle.keep_loop.specs.declared.served.Note.TheVariants.{Joins}
 use Rattle.keep_loop.proofs.Turns.{runs_last, heard_last, notes_last}
 use Rattle.keep_loop.proofs.Epochs.{nothing_more, agrees_on, agrees_changed}
 use Rattle.keep_loop.proofs.Cuts.{cut_of_fed, fed_more, fed_line, cut_long, cut_last, cut_more, cut_later}
-use Rattle.post_core.proofs.Places.{same_place, here_of_hears, is_same}
+use Rattle.keep_loop.proofs.Places.{same_place, here_of_hears, is_same}
 use Rattle.keep_loop.proofs.Owed.{owes_turn, owes_same, owes_handed, owes_kept, owes_stored, owes_wrote}
 use Rattle.keep_loop.proofs.Heeded.{heeds_note, heeds_one, heeds_same, heeds_came, heeds_turn}
 

@@ -2,10 +2,10 @@
 use Rattle.std.proofs.Common.{◌≡◌, ℕ, ◌+◌, arith, List, [], ◌∷◌, ◌++◌, refl, sym, ◌∙◌, ap, subst, append_assoc, true≢false}
 use Rattle.std.specs.Prelude.{Bool, true, false, ◌||◌, if◌then◌else◌}
 use Rattle.std.proofs.lemmas.List.{append-nil}
-use Rattle.post_core.specs.Texts.{Begins, to}
+use Rattle.keep_loop.specs.Texts.{Begins, to}
 use Rattle.keep_loop.specs.Seen.{comings}
-use Rattle.post_core.specs.Turns.{Turn, Gives, Runs, joins, is_joining, told, said_to, line_from, heard_of, added_by, note_of, notes_by, has_joined}
-use Rattle.post_core.specs.declared.served.Note.{Note}
+use Rattle.keep_loop.specs.Turns.{Turn, Gives, Runs, joins, is_joining, told, said_to, line_from, heard_of, added_by, note_of, notes_by, has_joined}
+use Rattle.keep_loop.specs.declared.served.Note.{Note}
 
 pub runs_last : {S : Type 0} (gives : Gives S) (old : S) (ts : List Turn) (mid : S) (t : Turn) (new : S) → Runs gives old ts mid →
     gives mid t.asked t.said t.added new → Runs gives old (ts ++ t ∷ []) new

@@ -1,8 +1,8 @@
 -- How what a connection says is cut into lines.
 use Rattle.std.specs.Prelude.{◌≡◌, ◌<◌, ◌≤◌, ℕ, List, [], ◌∷◌, ◌++◌, length}
-use Rattle.post_core.specs.Texts.{NoLineFeed}
-use Rattle.post_core.specs.declared.served.LineEnd.{LineEnd}
-use Rattle.post_core.specs.declared.served.LineEnd.TheVariants.{Feed, Input, TooLong}
+use Rattle.keep_loop.specs.Texts.{NoLineFeed}
+use Rattle.keep_loop.specs.declared.served.LineEnd.{LineEnd}
+use Rattle.keep_loop.specs.declared.served.LineEnd.TheVariants.{Feed, Input, TooLong}
 
 -- the most bytes of a line before its LF
 abbrev pub most_line : ℕ

@@ -2,3 +2,11 @@ pub mod Cuts
 pub mod Epochs
 pub mod Seen
 pub mod Stands
+pub mod Posts
+pub mod Texts
+pub mod Turns
+pub mod Device
+pub mod Journal
+pub mod Order
+pub mod Past
+pub mod Run

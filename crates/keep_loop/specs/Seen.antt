@@ -1,9 +1,9 @@
 -- What is seen of a server from outside, the newest first.
 use Rattle.std.specs.Prelude.{◌≡◌, ℕ, ◌+◌, Bool, true, false, Option, Some, None, List, [], ◌∷◌, ◌++◌, if◌then◌else◌, ◌==◌}
-use Rattle.post_core.specs.Turns.{is_joining}
+use Rattle.keep_loop.specs.Turns.{is_joining}
 use Rattle.keep_loop.specs.declared.outside.ReadEnd.{ReadEnd}
 use Rattle.keep_loop.specs.declared.outside.ReadEnd.TheVariants as reads
-use Rattle.post_core.specs.declared.served.Note.{Note}
+use Rattle.keep_loop.specs.declared.served.Note.{Note}
 
 -- bytes of a connection came; its input ended; it broke; bytes were written to it; a note; lines were handed to a journal;
 -- it was stored; it began anew

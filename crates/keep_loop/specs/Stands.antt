@@ -2,15 +2,15 @@
 use Rattle.std.specs.Prelude.{◌≡◌, ◌<◌, ◌≤◌, ◌%◌, ℕ, true, false, List, [], ◌++◌, Option, IfSome, length}
 use Rattle.keep_loop.specs.Cuts.{IsCut, IsFed}
 use Rattle.keep_loop.specs.Epochs.{Rules, before_in, AgreesIn, HasBegun}
-use Rattle.post_core.specs.Posts.{is_here, hears, owed_to}
+use Rattle.keep_loop.specs.Posts.{is_here, hears, owed_to}
 use Rattle.keep_loop.specs.Seen.{Happened, came_from, ended_in, written_to, notes_in, added_in, stored_in, kept_in, comings, Always}
-use Rattle.post_core.specs.Texts.{Begins, text_at}
-use Rattle.post_core.specs.Turns.{Turn, Gives, Runs, said_to, heard_of, added_by, notes_by, has_joined}
+use Rattle.keep_loop.specs.Texts.{Begins, text_at}
+use Rattle.keep_loop.specs.Turns.{Turn, Gives, Runs, said_to, heard_of, added_by, notes_by, has_joined}
 use Rattle.keep_loop.specs.declared.keep.Keep.{Keep}
 use Rattle.keep_loop.specs.declared.keep.LoopLimits.{LoopLimits}
-use Rattle.post_core.specs.declared.post.Post.{Post}
-use Rattle.post_core.specs.declared.post.OwedText.{OwedText}
-use Rattle.post_core.specs.declared.served.Note.{Note}
+use Rattle.keep_loop.specs.declared.post.Post.{Post}
+use Rattle.keep_loop.specs.declared.post.OwedText.{OwedText}
+use Rattle.keep_loop.specs.declared.served.Note.{Note}
 
 -- There is one sequential history, such that what each connection said begins with its lines in it, and what each was
 -- written is a front of what the history tells it, no further than the lines of all turns up to there are kept. Numbers of

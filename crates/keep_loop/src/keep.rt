@@ -3,19 +3,19 @@
 ghost use Rattle.std.specs.Prelude.{◌≡◌, ◌<◌, ◌≤◌, ◌%◌, ◌++◌, ◌∷◌, [], ℕ, List, true, false, OnOk, IfOk, IfSome, length, take};
 ghost use Rattle.std.specs.Prelude.{if◌then◌else◌, ◌==◌};
 ghost use Rattle.keep_loop.specs.Cuts.{most_line};
-ghost use Rattle.post_core.specs.Posts.{Does, is_here, hears, owed_to};
+ghost use Rattle.keep_loop.specs.Posts.{Does, is_here, hears, owed_to};
 ghost use Rattle.keep_loop.specs.Seen.{Happened, ended_in, read_of};
 ghost use Rattle.keep_loop.specs.Seen.Happened.{Came, Ended, Broke, Wrote, Noticed, Changed};
 ghost use Rattle.keep_loop.specs.Stands.{Stands, Rests, held_of};
-ghost use Rattle.post_core.specs.Texts.{NoLineFeed, text_at};
-ghost use Rattle.post_core.specs.Turns.{is_joining};
-ghost use Rattle.post_core.specs.Turns.Asked.{Heard};
-ghost use Rattle.post_core.specs.declared.served.Note.TheVariants.{Joins, Leaves};
+ghost use Rattle.keep_loop.specs.Texts.{NoLineFeed, text_at};
+ghost use Rattle.keep_loop.specs.Turns.{is_joining};
+ghost use Rattle.keep_loop.specs.Turns.Asked.{Heard};
+ghost use Rattle.keep_loop.specs.declared.served.Note.TheVariants.{Joins, Leaves};
 
 use crate::cut::split_line;
 use crate::outside::ReadEnd;
-use post_core::post::{OwedText, Post, clear, join, no_texts};
-use post_core::served::{LineEnd, Note, Served};
+use crate::post::{OwedText, Post, clear, join, no_texts};
+use crate::served::{LineEnd, Note, Served};
 use std::alloc::{AllocError, Global};
 
 /// The most bytes of a line before its LF.

@@ -6,7 +6,7 @@ ghost use Rattle.keep_loop.specs.Epochs.{rules_of, since_in, stored_since};
 ghost use Rattle.keep_loop.specs.Stands.{IsHonest, IsBetween, Survives, SurvivesSince};
 
 use crate::keep::LoopLimits;
-use post_core::served::Served;
+use crate::served::Served;
 
 /// After a crash, where answers wait for the disk: the lines that are found in each journal have each turn of which a
 /// connection may have read, and are those of a history that goes on as the one that was seen.

@@ -3,7 +3,7 @@
 ghost use Rattle.std.specs.Prelude.{◌≡◌, ◌≤◌, true, false, ℕ, List, Option, length, take, OnOk, OnErr, IfOk, IfSome, IfNone};
 ghost use Rattle.keep_loop.specs.Seen.{Happened, Grows, GrowsIf, read_of};
 ghost use Rattle.keep_loop.specs.Seen.Happened.{Broke, Wrote, Noticed, Added, Stored, Changed};
-ghost use Rattle.post_core.specs.declared.served.Note.TheVariants.{Joins, Leaves, Ticks, Ends};
+ghost use Rattle.keep_loop.specs.declared.served.Note.TheVariants.{Joins, Leaves, Ticks, Ends};
 
 use std::alloc::AllocError;
 

@@ -1,16 +1,16 @@
 //! Rounds: hear, store, and only then write.
 
 ghost use Rattle.std.specs.Prelude.{◌≡◌, ◌<◌, [], ℕ, List, true, false, OnOk, OnErr, IfOk, IfSome, length, if◌then◌else◌, ◌==◌};
-ghost use Rattle.post_core.specs.Posts.{is_here};
+ghost use Rattle.keep_loop.specs.Posts.{is_here};
 ghost use Rattle.keep_loop.specs.Seen.{Happened, Grows, Always};
 ghost use Rattle.keep_loop.specs.Seen.Happened.{Stored};
 ghost use Rattle.keep_loop.specs.Epochs.{rules_of};
 ghost use Rattle.keep_loop.specs.Stands.{IsHonest, HasEnded, Stands, Keeps, Settles, Sends, Renews, Ends, EndsRested, Fails, FailsRested};
-ghost use Rattle.post_core.specs.Texts.{text_at};
+ghost use Rattle.keep_loop.specs.Texts.{text_at};
 
 use crate::keep::{Keep, LoopLimits};
 use crate::outside::{Fault, Outside, Visible};
-use post_core::served::{Note, Served};
+use crate::served::{Note, Served};
 use std::alloc::{AllocError, Global};
 
 // So many connections that can be read or written are noted in a round.

@@ -10,3 +10,7 @@ pub mod Opening
 pub mod Settling
 pub mod Written
 mod Adding
+pub mod Calling
+pub mod Following
+pub mod Keeping
+pub mod Writing

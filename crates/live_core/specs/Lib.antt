@@ -9,3 +9,12 @@ pub mod View
 pub mod Front
 pub mod Past
 pub mod Text
+pub mod Again
+pub mod Calls
+pub mod Fits
+pub mod Fronts
+pub mod Keys
+pub mod HostedLines
+pub mod Scene
+pub mod HostedSteps
+pub mod HostedView

@@ -1,11 +1,11 @@
 //! Journals, each in order or shut for ever, and the files of the epochs that they had before.
 
 ghost use Rattle.std.specs.Prelude.{◌≡◌, ◌<◌, ◌+◌, ◌^◌, length, true};
-ghost use Rattle.post_core.specs.Journal.{AreLines};
+ghost use Rattle.keep_loop.specs.Journal.{AreLines};
 
 use crate::traces::{Traces, epoch_of};
-use post_core::folder::FolderFile;
-use post_core::journal::{Journal, recover, recovered_are_lines, recovered_len};
+use keep_loop::folder::FolderFile;
+use keep_loop::journal::{Journal, recover, recovered_are_lines, recovered_len};
 use std::alloc::Global;
 use std::rt::Files;
 

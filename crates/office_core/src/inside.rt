@@ -1,11 +1,11 @@
 //! What lies under the lock.
 
 ghost use Rattle.std.specs.Prelude.{◌≡◌, ◌+◌, ◌≤◌, ◌<◌, length, IfOk, IfErr, IfSome, IfNone, Ok, Err, []};
-ghost use Rattle.board_core.specs.Board.{opened, Rests};
-ghost use Rattle.board_core.specs.Sound.{IsSound};
-ghost use Rattle.board_core.specs.Answers.{Cancels};
-ghost use Rattle.board_core.specs.Started.{Settles};
-ghost use Rattle.board_core.specs.Board.{released, marked};
+ghost use Rattle.desk_core.specs.Board.{opened, Rests};
+ghost use Rattle.desk_core.specs.Sound.{IsSound};
+ghost use Rattle.desk_core.specs.Answers.{Cancels};
+ghost use Rattle.desk_core.specs.Started.{Settles};
+ghost use Rattle.desk_core.specs.Board.{released, marked};
 ghost use Rattle.std.specs.Prelude.{◌⊎◌};
 ghost use Rattle.office_core.specs.Insides.{KeepsSeats, Submits};
 ghost use Rattle.office_core.specs.Submissions.{Asks, IsOf, Tells, Tries};
@@ -20,8 +20,8 @@ use crate::seat::{NotTaken, Submitted, Tried};
 use crate::seats::are_seats;
 use crate::slip::Slip;
 use crate::turns::{Pace, Turns};
-use board_core::answer::{Collected, Finished};
 use decl_core::analyse::Accepted;
+use desk_core::answer::{Collected, Finished};
 use desk_core::desk::Desk;
 use guest_core::answer::{Cancelled, SubmitFault};
 use page_core::outcome::Outcome;

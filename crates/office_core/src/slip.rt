@@ -5,9 +5,9 @@ ghost use Rattle.office_core.specs.Slips.{StandsIn, IsEntryTold, pins_told};
 
 use apply_core::short::Short;
 use apply_core::slim::Slims;
-use board_core::entry::Entry;
 use decl_core::object::Operation;
 use decl_core::same::same_declaration;
+use desk_core::entry::Entry;
 use page_core::part_pins::PartPins;
 use std::marker::Model;
 use std::sync::Arc;

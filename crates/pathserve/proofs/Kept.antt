@@ -2,12 +2,12 @@
 use Rattle.std.proofs.Common.{◌≡◌, List, subst}
 use Rattle.std.specs.Prelude.{Option, IfSome}
 use Rattle.device_core.specs.Papers.{Papers}
-use Rattle.hosted_core.specs.Scene.{Scene}
+use Rattle.live_core.specs.Scene.{Scene}
 use Rattle.keep_loop.specs.Seen.{Happened}
 use Rattle.keep_loop.specs.Stands.{HasEnded}
 use Rattle.keep_loop.specs.declared.keep.LoopLimits.{LoopLimits}
 use Rattle.serve_core.specs.Ending.{ObjectsAreSaved}
-use Rattle.post_core.specs.Turns.{Gives}
+use Rattle.keep_loop.specs.Turns.{Gives}
 use Rattle.pathserve.specs.Kept.{IsKept}
 
 -- what the loop handed back, with its objects saved

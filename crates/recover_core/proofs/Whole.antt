@@ -4,7 +4,7 @@ use Rattle.std.specs.Prelude.{Bool, cond, ◌||◌, Result, Ok, Err, IfOk, Match
 use Rattle.std.proofs.lemmas.List.{take-append-drop, length-take-le}
 use Rattle.std.proofs.lemmas.List.Elements.{recursion_from_All, All-from_recursion}
 use Rattle.std.proofs.lemmas.Bool.{false≢true}
-use Rattle.post_core.specs.Journal.{has_end, whole}
+use Rattle.keep_loop.specs.Journal.{has_end, whole}
 use Rattle.decl_core.specs.ObjectForm.{ObjectForm}
 use Rattle.live_core.specs.Front.{Opening, HasRows}
 use Rattle.live_core.specs.Text.{front_text}

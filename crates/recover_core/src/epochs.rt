@@ -4,7 +4,7 @@ ghost use Rattle.std.specs.Prelude.{◌≡◌, ◌+◌, ◌≤◌, ◌<◌, ◌^
 ghost use Rattle.decl_core.specs.ObjectMap.{object_of};
 ghost use Rattle.live_core.specs.Front.{opening_of, HasRows};
 ghost use Rattle.live_core.specs.Text.{front_text};
-ghost use Rattle.post_core.specs.Journal.{recovered, whole as whole_of};
+ghost use Rattle.keep_loop.specs.Journal.{recovered, whole as whole_of};
 ghost use Rattle.decl_core.specs.declared.object.Object.{Object as AnObject};
 ghost use Rattle.recover_core.specs.Text.{BeginsEpoch};
 

@@ -4,15 +4,15 @@ ghost use Rattle.std.specs.Prelude.{◌≡◌, ◌≤◌, IfOk, MatchResult, len
 ghost use Rattle.decl_core.specs.ObjectMap.{object_of};
 ghost use Rattle.live_core.specs.Front.{opening_of, HasRows};
 ghost use Rattle.live_core.specs.Text.{front_text};
-ghost use Rattle.post_core.specs.Journal.{recovered, whole as whole_of};
+ghost use Rattle.keep_loop.specs.Journal.{recovered, whole as whole_of};
 ghost use Rattle.recover_core.specs.Text.{IsRead, IsRecovered, Refuses};
 
 use crate::lines::line_ends;
 use crate::recover::{FrontSize, House, RecoverFault, Recovered, recover_behind};
 use decl_core::object::Object;
 use front_read::read::read_front;
+use keep_loop::journal::recovered_len;
 use live_core::front::Front;
-use post_core::journal::recovered_len;
 use std::alloc::{AllocError, Global};
 
 // The whole lines of a file, before its first byte 0.

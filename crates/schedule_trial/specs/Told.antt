@@ -3,7 +3,7 @@ use Rattle.std.specs.Prelude.{ℕ, Option, None, Some, List, [], ◌∷◌}
 use Rattle.std.specs.Global.{Vec}
 use Rattle.keep_loop.specs.Seen.{Happened}
 use Rattle.keep_loop.specs.Seen.Happened.{Came, Ended, Broke, Wrote, Noticed, Added, Stored, Changed}
-use Rattle.post_core.specs.declared.served.Note.TheVariants.{Joins, Leaves, Ticks, Ends}
+use Rattle.keep_loop.specs.declared.served.Note.TheVariants.{Joins, Leaves, Ticks, Ends}
 use Rattle.schedule_trial.specs.declared.rows.EventKind.{EventKind}
 use Rattle.schedule_trial.specs.declared.rows.EventKind.TheVariants as kinds
 use Rattle.schedule_trial.specs.declared.rows.EventRow.{EventRow}

@@ -14,9 +14,9 @@ use crate::steps::{LoopCall, ScheduleStep, StepWords, cut_bytes, is_run, push_st
 use check_core::judge::{JudgedSource, judge};
 use decl_core::object::Object;
 use guest_core::guests::Guests;
-use hosted_core::hosted::{Hosted, HostedStart};
 use keep_loop::{Fault as LoopFault, LoopLimits, run};
 use live_core::call::Limits as LiveLimits;
+use live_core::hosted::{Hosted, HostedStart};
 use live_core::live::Live;
 use live_core::source::source_of;
 use path_count::past::PastEvent;

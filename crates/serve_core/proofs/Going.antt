@@ -6,8 +6,8 @@ use Rattle.live_core.specs.declared.call.Limits.{Limits}
 use Rattle.recover_core.specs.declared.recover.House.{House}
 use Rattle.recover_core.specs.declared.recover.Recovered.{Recovered}
 use Rattle.recover_core.specs.Text.{IsRecovered}
-use Rattle.hosted_core.specs.Again.{BeginsAgain}
-use Rattle.hosted_core.specs.Scene.{Scene}
+use Rattle.live_core.specs.Again.{BeginsAgain}
+use Rattle.live_core.specs.Scene.{Scene}
 use Rattle.serve_core.specs.Behind.{BeginsBehind, BeginsNot, ended_of}
 use Rattle.serve_core.specs.declared.start.NotBegun.{NotBegun}
 use Rattle.serve_core.specs.declared.start.NotBegun.TheVariants.{NoPast, Memory}

@@ -6,7 +6,7 @@ use Rattle.decl_core.specs.ObjectMap.{object_names}
 use Rattle.device_core.specs.Device.{Assignment}
 use Rattle.device_core.specs.Papers.{Papers}
 use Rattle.page_core.specs.Opened.{AreLoaded}
-use Rattle.board_core.specs.Lists.{Among}
+use Rattle.desk_core.specs.Lists.{Among}
 use Rattle.serve_core.specs.declared.opening.ObjectOpening.{ObjectOpening}
 use Rattle.serve_core.specs.declared.opened.NotOpened.{NotOpened}
 use Rattle.serve_core.specs.declared.opened.NotOpened.TheVariants.{Damaged, Fault}

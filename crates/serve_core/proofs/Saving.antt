@@ -4,7 +4,7 @@ use Rattle.std.specs.Prelude.{Result, Ok, Err, OnOk}
 use Rattle.device_core.specs.Papers.{Papers, part_key}
 use Rattle.value_core.specs.Contents.{Contents}
 use Rattle.decl_core.specs.declared.object.Part.{Part}
-use Rattle.hosted_core.specs.Scene.{Scene}
+use Rattle.live_core.specs.Scene.{Scene}
 use Rattle.serve_core.specs.Saved.{IsSaved, MayBeSaved}
 use Rattle.serve_core.specs.Ending.{AreSaved, MayAllBeSaved, ObjectsAreSaved, ObjectsMayBeSaved}
 

@@ -3,7 +3,7 @@ use Rattle.std.specs.Prelude.{◌≡◌, ℕ, List, [], ◌∷◌}
 use Rattle.device_core.specs.Papers.{Papers, part_key}
 use Rattle.value_core.specs.Contents.{Contents}
 use Rattle.decl_core.specs.declared.object.Part.{Part}
-use Rattle.hosted_core.specs.Scene.{Scene}
+use Rattle.live_core.specs.Scene.{Scene}
 use Rattle.serve_core.specs.Saved.{IsSaved, MayBeSaved}
 
 -- each of these parts of the object of this name is saved, in order, with the value at its place; all else is as before

@@ -13,7 +13,7 @@ use Rattle.live_core.specs.Answers.{IsSetUp}
 use Rattle.live_core.specs.Epochs.{told_behind}
 use Rattle.live_core.specs.Hall.{IsHeld}
 use Rattle.guest_core.specs.Seats.{free_seats}
-use Rattle.hosted_core.specs.Scene.{Scene}
+use Rattle.live_core.specs.Scene.{Scene}
 use Rattle.value_core.specs.Contents.{Contents}
 
 -- so many calls of an operation, one behind another

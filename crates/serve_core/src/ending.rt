@@ -8,7 +8,7 @@ use crate::save::{key_of, save_value};
 use decl_core::object::Part;
 use device_core::hand::HandFault;
 use device_core::shelf::Shelf;
-use hosted_core::hosted::Hosted;
+use live_core::hosted::Hosted;
 use path_tree::name::Name;
 use std::alloc::Global;
 use std::io::Write;

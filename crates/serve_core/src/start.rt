@@ -2,10 +2,10 @@
 
 ghost use Rattle.std.specs.Prelude.{◌≡◌, ◌++◌, ◌⊎◌, ℕ, IfOk, IfErr, OnOk};
 ghost use Rattle.device_core.specs.Papers.{Papers};
-ghost use Rattle.post_core.specs.Journal.{recovered};
+ghost use Rattle.keep_loop.specs.Journal.{recovered};
 ghost use Rattle.page_core.specs.Opened.{AreLoaded};
 ghost use Rattle.serve_core.specs.First.{BeginsFirst, calls_of};
-ghost use Rattle.hosted_core.specs.Again.{BeginsAgain};
+ghost use Rattle.live_core.specs.Again.{BeginsAgain};
 ghost use Rattle.serve_core.specs.Behind.{BeginsBehind, BeginsNot, ended_of};
 ghost use Rattle.serve_core.specs.declared.start.NotBegun.TheVariants.{NoPast as IsNoPast, Memory as IsMemory};
 
@@ -16,11 +16,11 @@ use device_core::hand::HandFault;
 use device_core::memory::MemHand;
 use device_core::shelf::Shelf;
 use guest_core::guests::Guests;
-use hosted_core::hosted::{Hosted, HostedStart};
-use hosted_core::start::{EndedEpoch, begin_again};
 use live_core::call::Limits;
+use live_core::hosted::{Hosted, HostedStart};
 use live_core::live::Live;
 use live_core::source::source_of;
+use live_core::start::{EndedEpoch, begin_again};
 use page_core::open::{OpenFault, open_parts};
 use path_count::finder::short_past;
 use path_count::past::{PastEvent, counters_behind};

@@ -13,3 +13,8 @@ pub mod Lacking
 pub mod Ordering
 pub mod Refusing
 pub mod Telling
+pub mod Carrying
+pub mod Certifying
+pub mod Findings
+pub mod Grouping
+pub mod Replaying

@@ -17,3 +17,5 @@ pub mod Lacks
 pub mod ReasonLaws
 pub mod Reasons
 pub mod Tells
+pub mod Parts
+pub mod Shown

@@ -1,8 +1,8 @@
 -- What is done while a post is filled.
 use Rattle.std.proofs.Common.{◌≡◌, ◌∙◌, ap, sym, subst, refl, ℕ, List, [], ◌∷◌, ◌++◌, append_assoc}
 use Rattle.std.specs.Prelude.{Some, None, Result, Ok, Err, OnErr, slice_get}
-use Rattle.post_core.specs.Posts.{Tells}
-use Rattle.post_core.specs.declared.post.Post.{Post}
+use Rattle.keep_loop.specs.Posts.{Tells}
+use Rattle.keep_loop.specs.declared.post.Post.{Post}
 use Rattle.session_text.specs.declared.line.ReplyLine.{ReplyLine}
 use Rattle.session_text.specs.Lines.{line_text}
 use Rattle.client_core.specs.State.{Peer, State, told_to, one_text, who_in}

@@ -1,17 +1,17 @@
 -- Calls that are cancelled.
 use Rattle.std.proofs.Common.{◌≡◌, ◌∙◌, ap, sym, subst, refl, ℕ, inl, inr, List, [], ◌∷◌, ◌++◌, true≢false}
 use Rattle.std.specs.Prelude.{Bool, true, false, Some, slice_get, slice_set}
-use Rattle.post_core.specs.Posts.{Tells}
-use Rattle.post_core.specs.declared.post.Post.{Post}
+use Rattle.keep_loop.specs.Posts.{Tells}
+use Rattle.keep_loop.specs.declared.post.Post.{Post}
 use Rattle.word_core.specs.Answers.{cancelled_line}
 use Rattle.session_text.specs.declared.line.ReplyLine.{ReplyLine}
 use Rattle.session_text.specs.Lines.{cancel_name, line_text, withdrawn_text}
 use Rattle.guest_core.specs.declared.answer.Cancelled.{Cancelled}
 use Rattle.guest_core.specs.declared.answer.Cancelled.TheVariants as answers
 use Rattle.client_core.specs.declared.client.OpenObject.{OpenObject}
-use Rattle.hosted_core.specs.Keys.{WaitsAs}
-use Rattle.hosted_core.specs.Scene.{Scene}
-use Rattle.custody_core.specs.Custody.{Custodies}
+use Rattle.live_core.specs.Keys.{WaitsAs}
+use Rattle.live_core.specs.Scene.{Scene}
+use Rattle.client_core.specs.Custody.{Custodies}
 use Rattle.client_core.specs.State.{Peer, State, opened_at, told_to, with_object}
 use Rattle.client_core.specs.Deeds.{Texts, OnlyTold}
 use Rattle.client_core.specs.Asked.{IsRefusal, Ends, LetsGo, AnswersCancel}

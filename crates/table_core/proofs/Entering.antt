@@ -2,17 +2,17 @@
 use Rattle.std.proofs.Common.{◌≡◌, ◌∙◌, ap, sym, subst, refl, ℕ, inl, inr, List, [], ◌∷◌, ◌++◌, append-nil, true≢false}
 use Rattle.std.specs.Prelude.{true, false, Option, Some, None, Ok, slice_get, slice_set}
 use Rattle.std.proofs.lemmas.Option.{same_Some}
-use Rattle.post_core.specs.Posts.{Tells}
-use Rattle.post_core.specs.declared.post.Post.{Post}
+use Rattle.keep_loop.specs.Posts.{Tells}
+use Rattle.keep_loop.specs.declared.post.Post.{Post}
 use Rattle.session_text.specs.declared.line.ReplyLine.{ReplyLine}
 use Rattle.session_text.specs.Lines.{bye_text, line_text, opened_text}
 use Rattle.client_core.specs.declared.client.OpenObject.{OpenObject}
 use Rattle.client_core.specs.declared.clients.ClientPlaces.{ClientPlaces}
 use Rattle.client_core.specs.Held.{is_some}
 use Rattle.guest_core.specs.declared.guests.Entered.{Entered}
-use Rattle.hosted_core.specs.Lines.{entered_lines}
-use Rattle.hosted_core.specs.Scene.{Scene, with_guests}
-use Rattle.custody_core.specs.Custody.{Custodies, IsFreeOf}
+use Rattle.live_core.specs.HostedLines.{entered_lines}
+use Rattle.live_core.specs.Scene.{Scene, with_guests}
+use Rattle.client_core.specs.Custody.{Custodies, IsFreeOf}
 use Rattle.client_core.specs.State.{Peer, State, change, changed, nobody, opening, opened_at, peers_of, told_to}
 use Rattle.client_core.specs.Deeds.{Texts, OnlyTold}
 use Rattle.client_core.specs.Asked.{IsRefusal, IsRefused, OpensBare, Opens, HasNoSession, Goes, Quits}

@@ -12,12 +12,12 @@ use Rattle.guest_core.specs.Entering.{Enters, Leaves}
 use Rattle.guest_core.specs.Guests.{Guests, with_seat}
 use Rattle.guest_core.specs.Seats.{IsLeastFree}
 use Rattle.live_core.specs.declared.live.Taken.{Taken}
-use Rattle.hosted_core.specs.Calls.{Calls, Cancels, CancelsSome}
+use Rattle.live_core.specs.Calls.{Calls, Cancels, CancelsSome}
 use Rattle.live_core.specs.Hall.{Every}
 use Rattle.word_core.specs.Events.{Called}
-use Rattle.hosted_core.specs.Scene.{Scene, with_guests}
-use Rattle.hosted_core.specs.Steps.{Comes}
-use Rattle.hosted_core.specs.Lines.{entered_lines}
+use Rattle.live_core.specs.Scene.{Scene, with_guests}
+use Rattle.live_core.specs.HostedSteps.{Comes}
+use Rattle.live_core.specs.HostedLines.{entered_lines}
 use Rattle.live_core.specs.Lines.{all_lines}
 use Rattle.decl_core.specs.ObjectMap.{object_of}
 use Rattle.table_core.specs.Objects.{EntersAt, SeatsAt, LeavesAt, CallsAt, CancelsAt}

@@ -5,7 +5,7 @@ use Rattle.std.specs.declared.alloc.AllocError.{AllocError}
 use Rattle.std.proofs.lemmas.Bool.Decides.{eqb_tells}
 use Rattle.value_core.specs.Runs.{NoLineFeed}
 use Rattle.std.proofs.lemmas.Option.{same_Some, slice_get-map}
-use Rattle.hosted_core.specs.Scene.{Scene}
+use Rattle.live_core.specs.Scene.{Scene}
 use Rattle.client_core.specs.declared.ask.Ask.{Ask}
 use Rattle.client_core.specs.declared.client.ClientPlace.{ClientPlace}
 use Rattle.client_core.specs.declared.client.OpenObject.{OpenObject}
@@ -14,7 +14,7 @@ use Rattle.client_core.specs.Held.{waits_of, waits_in, is_not, is_some, rest_in,
 use Rattle.client_core.specs.People.{Person}
 use Rattle.client_core.specs.Places.{has_in, is_here_in, opened_in as has_opened, held_in as all_held, place_at, place_for, Elsewhere}
 use Rattle.client_core.specs.Asks.{Asks}
-use Rattle.custody_core.specs.Custody.{Custodies}
+use Rattle.client_core.specs.Custody.{Custodies}
 use Rattle.client_core.specs.State.{Peer, State, cut_of, peer_of, peers_of, change, nobody, comer, opening, waiting, holding, left_with, who_in, opened_in, held_in}
 use Rattle.client_core.specs.Asked.{IsFor, Waits}
 use Rattle.client_core.specs.Turns.{TakesLine}

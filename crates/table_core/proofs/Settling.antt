@@ -3,11 +3,11 @@ use Rattle.std.proofs.Common.{◌≡◌, ◌∙◌, ap, sym, subst, refl, ℕ, i
 use Rattle.std.specs.Prelude.{false, Option, Some, None, Result, Ok, Err, IfOk, IfSome, slice_get, slice_set}
 use Rattle.std.specs.declared.alloc.AllocError.{AllocError}
 use Rattle.decl_core.specs.ObjectForm.{ObjectForm}
-use Rattle.custody_core.specs.declared.holding.OwedCall.{OwedCall}
+use Rattle.client_core.specs.declared.holding.OwedCall.{OwedCall}
 use Rattle.std.proofs.lemmas.List.{append_cancel_right}
 use Rattle.std.proofs.lemmas.Option.{same_Some}
-use Rattle.post_core.specs.Posts.{Tells}
-use Rattle.post_core.specs.declared.post.Post.{Post}
+use Rattle.keep_loop.specs.Posts.{Tells}
+use Rattle.keep_loop.specs.declared.post.Post.{Post}
 use Rattle.value_core.specs.declared.datum.Datum.{Datum}
 use Rattle.decl_core.specs.ObjectMap.{object_of}
 use Rattle.live_core.specs.declared.call.Ran.{Ran}
@@ -20,9 +20,9 @@ use Rattle.guest_core.specs.Guests.{with_seat}
 use Rattle.decl_core.specs.HoldForm.{EveryForm}
 use Rattle.client_core.specs.declared.client.OpenObject.{OpenObject}
 use Rattle.client_core.specs.declared.clients.ClientPlaces.{ClientPlaces}
-use Rattle.hosted_core.specs.Scene.{Scene, with_guests}
-use Rattle.custody_core.specs.Custody.{Custody, Custodies, IsFreeOf, IsOwed, HasNone, HasSome, FollowsIn, MayMake, held_lines_in, not_held_text}
-use Rattle.custody_core.specs.Custody.IsOwed.{again}
+use Rattle.live_core.specs.Scene.{Scene, with_guests}
+use Rattle.client_core.specs.Custody.{Custody, Custodies, IsFreeOf, IsOwed, HasNone, HasSome, FollowsIn, MayMake, held_lines_in, not_held_text}
+use Rattle.client_core.specs.Custody.IsOwed.{again}
 use Rattle.client_core.specs.Moves.{Begins, BeginsHeld, FrontsHeld}
 use Rattle.client_core.specs.State.{State, opened_at, peers_of}
 use Rattle.client_core.specs.Deeds.{Texts, Deed, OnlyTold}

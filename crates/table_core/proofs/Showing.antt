@@ -3,17 +3,17 @@ use Rattle.std.proofs.Common.{◌≡◌, sym, subst, ℕ, inl, inr, List}
 use Rattle.std.specs.Prelude.{Option, Some, Result, Ok, Err, IfOk, slice_get}
 use Rattle.std.specs.Global.{Vec}
 use Rattle.std.specs.declared.alloc.AllocError.{AllocError}
-use Rattle.post_core.specs.declared.post.Post.{Post}
+use Rattle.keep_loop.specs.declared.post.Post.{Post}
 use Rattle.session_text.specs.declared.line.ReplyLine.{ReplyLine}
 use Rattle.session_text.specs.Lines.{line_text}
 use Rattle.client_core.specs.declared.ask.Sight.{Sight}
 use Rattle.client_core.specs.declared.ask.Sight.TheVariants as insides
 use Rattle.client_core.specs.declared.client.OpenObject.{OpenObject}
-use Rattle.hosted_core.specs.Scene.{Scene}
+use Rattle.live_core.specs.Scene.{Scene}
 use Rattle.client_core.specs.People.{Person}
 use Rattle.decl_core.specs.HoldForm.{HoldForm}
 use Rattle.guest_core.specs.Held.{HeldCall}
-use Rattle.custody_core.specs.Custody.{Custody, holds_by, held_by}
+use Rattle.client_core.specs.Custody.{Custody, holds_by, held_by}
 use Rattle.client_core.specs.State.{State, opened_at}
 use Rattle.client_core.specs.Deeds.{Texts, OnlyTold}
 use Rattle.client_core.specs.Asked.{IsRefusal, IsRefused, AnswersInside}

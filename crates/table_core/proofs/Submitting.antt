@@ -1,8 +1,8 @@
 -- Calls that are made.
 use Rattle.std.proofs.Common.{◌≡◌, ◌∙◌, ap, sym, subst, refl, arith, ℕ, zero, suc, inl, inr, List, [], ◌∷◌, ◌++◌, true≢false}
 use Rattle.std.specs.Prelude.{false, Option, Some, None, Result, Ok, Err, IfSome, OnErr, length, slice_get, slice_set}
-use Rattle.post_core.specs.Posts.{Tells}
-use Rattle.post_core.specs.declared.post.Post.{Post}
+use Rattle.keep_loop.specs.Posts.{Tells}
+use Rattle.keep_loop.specs.declared.post.Post.{Post}
 use Rattle.value_core.specs.declared.datum.Datum.{Datum}
 use Rattle.decl_core.specs.ObjectMap.{object_of}
 use Rattle.word_core.specs.Text.{operation_name}
@@ -16,11 +16,11 @@ use Rattle.live_core.specs.declared.live.Taken.{Taken}
 use Rattle.live_core.specs.Lines.{all_lines}
 use Rattle.guest_core.specs.declared.seats.SeatHolder.TheVariants.{Nameless}
 use Rattle.guest_core.specs.Guests.{with_seat}
-use Rattle.hosted_core.specs.declared.hosted.KeyState.{KeyState}
-use Rattle.hosted_core.specs.declared.hosted.KeyState.TheVariants as keys
-use Rattle.hosted_core.specs.Keys.{Says}
-use Rattle.hosted_core.specs.Scene.{Scene, told_of, with_guests}
-use Rattle.custody_core.specs.Custody.{Custodies}
+use Rattle.live_core.specs.declared.hosted.KeyState.{KeyState}
+use Rattle.live_core.specs.declared.hosted.KeyState.TheVariants as keys
+use Rattle.live_core.specs.Keys.{Says}
+use Rattle.live_core.specs.Scene.{Scene, told_of, with_guests}
+use Rattle.client_core.specs.Custody.{Custodies}
 use Rattle.client_core.specs.State.{Peer, State, change, changed, counted, opening, waiting, opened_at, peers_of, session_by, told_to}
 use Rattle.client_core.specs.Deeds.{Texts, OnlyTold}
 use Rattle.client_core.specs.Asked.{IsRefusal, IsRefused, Sits, Waits, Ends, AllEnd, AnswersCall, keyed_text}

@@ -1,9 +1,9 @@
 -- Posts that are told to.
 use Rattle.std.proofs.Common.{◌∙◌, ap, sym, subst, refl, ℕ, ◌<◌, List, [], ◌++◌, append_assoc}
 use Rattle.std.proofs.lemmas.List.{append-nil}
-use Rattle.post_core.specs.Posts.{Tells, owed_to}
-use Rattle.post_core.specs.Texts.{text_at, to}
-use Rattle.post_core.specs.declared.post.Post.{Post}
+use Rattle.keep_loop.specs.Posts.{Tells, owed_to}
+use Rattle.keep_loop.specs.Texts.{text_at, to}
+use Rattle.keep_loop.specs.declared.post.Post.{Post}
 use Rattle.client_core.proofs.Moving.{to_more}
 
 -- nothing is told

@@ -4,11 +4,11 @@ use Rattle.std.specs.Prelude.{Bool, true, false, Option, Some, None, Result, Ok,
 use Rattle.std.specs.declared.alloc.AllocError.{AllocError}
 use Rattle.value_core.specs.Runs.{NoLineFeed}
 use Rattle.word_core.specs.Reads.{Reads}
-use Rattle.post_core.specs.Posts.{Tells, Does}
-use Rattle.post_core.specs.declared.post.Post.{Post}
-use Rattle.post_core.specs.Turns.Asked.{Heard, Noted}
-use Rattle.post_core.specs.declared.served.LineEnd.{LineEnd}
-use Rattle.post_core.specs.declared.served.Note.{Note}
+use Rattle.keep_loop.specs.Posts.{Tells, Does}
+use Rattle.keep_loop.specs.declared.post.Post.{Post}
+use Rattle.keep_loop.specs.Turns.Asked.{Heard, Noted}
+use Rattle.keep_loop.specs.declared.served.LineEnd.{LineEnd}
+use Rattle.keep_loop.specs.declared.served.Note.{Note}
 use Rattle.guest_core.specs.declared.answer.SubmitFault.TheVariants as faults
 use Rattle.session_text.specs.declared.line.ReplyLine.TheVariants as lines
 use Rattle.session_text.specs.Lines.{line_text}
@@ -21,8 +21,8 @@ use Rattle.client_core.specs.Held.{is_some, waits_of}
 use Rattle.client_core.specs.declared.ask.Sight.{Sight}
 use Rattle.client_core.specs.Inside.{inside_in}
 use Rattle.client_core.specs.Numbers.{cancel_in}
-use Rattle.hosted_core.specs.Scene.{Scene}
-use Rattle.custody_core.specs.Custody.{Custodies}
+use Rattle.live_core.specs.Scene.{Scene}
+use Rattle.client_core.specs.Custody.{Custodies}
 use Rattle.client_core.specs.State.{State, change, comer, holding, held_at, opened_at, waits_at, who_at, peers_of}
 use Rattle.client_core.specs.Deeds.{Texts, Deed, Nothing, OnlyTold, Then}
 use Rattle.client_core.specs.Asked.{AnswersCancel, AnswersInside, Heeds, Goes}

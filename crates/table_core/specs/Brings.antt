@@ -1,7 +1,7 @@
 -- What is done while a post is filled.
 use Rattle.std.specs.Prelude.{ℕ, ◌++◌}
-use Rattle.post_core.specs.Posts.{Tells}
-use Rattle.post_core.specs.declared.post.Post.{Post}
+use Rattle.keep_loop.specs.Posts.{Tells}
+use Rattle.keep_loop.specs.declared.post.Post.{Post}
 use Rattle.client_core.specs.State.{State}
 use Rattle.client_core.specs.Deeds.{Texts, Deed}
 use Rattle.client_core.specs.Gone.{Settles}

@@ -1,9 +1,9 @@
 -- What a turn of a table gives.
 use Rattle.std.specs.Prelude.{ℕ, List}
-use Rattle.post_core.specs.Turns.{Asked}
+use Rattle.keep_loop.specs.Turns.{Asked}
 use Rattle.client_core.specs.Moves.{FrontsHeld}
 use Rattle.client_core.specs.Given as told
-use Rattle.custody_core.specs.Views.{custodies_of}
+use Rattle.client_core.specs.Views.{custodies_of}
 use Rattle.inside_core.specs.Looks.{IsStatus}
 use Rattle.table_core.specs.Seen.{seen}
 use Rattle.table_core.specs.declared.table.Table.{Table}

@@ -15,9 +15,9 @@ use Rattle.guest_core.specs.declared.seats.SeatHolder.TheVariants.{Nameless}
 use Rattle.guest_core.specs.Entering.{Enters, Leaves}
 use Rattle.guest_core.specs.Guests.{Guests, SomebodyHas, with_seat}
 use Rattle.guest_core.specs.Seats.{IsLeastFree}
-use Rattle.hosted_core.specs.Calls.{Does, Cancels}
-use Rattle.hosted_core.specs.Lines.{entered_lines}
-use Rattle.hosted_core.specs.Scene.{Scene, with_guests}
+use Rattle.live_core.specs.Calls.{Does, Cancels}
+use Rattle.live_core.specs.HostedLines.{entered_lines}
+use Rattle.live_core.specs.Scene.{Scene, with_guests}
 
 -- the object at this place has this name
 pub record IsNamed (objects : List Scene) (at : ℕ) (name : List ℕ) : Type 0 where

@@ -16,18 +16,18 @@ use Rattle.guest_core.specs.declared.guests.Entered.{Entered}
 use Rattle.guest_core.specs.declared.guests.EnterFault.{EnterFault}
 use Rattle.guest_core.specs.Entering.{Enters}
 use Rattle.guest_core.specs.Guests.{Guests}
-use Rattle.hosted_core.specs.declared.hosted.KeyState.{KeyState}
-use Rattle.hosted_core.specs.declared.hosted.KeyState.TheVariants as keys
-use Rattle.hosted_core.specs.Calls.{Does, Cancels}
-use Rattle.hosted_core.specs.Keys.{Says}
-use Rattle.hosted_core.specs.Lines.{entered_lines}
-use Rattle.hosted_core.specs.Scene.{Scene, told_of, with_guests}
+use Rattle.live_core.specs.declared.hosted.KeyState.{KeyState}
+use Rattle.live_core.specs.declared.hosted.KeyState.TheVariants as keys
+use Rattle.live_core.specs.Calls.{Does, Cancels}
+use Rattle.live_core.specs.Keys.{Says}
+use Rattle.live_core.specs.HostedLines.{entered_lines}
+use Rattle.live_core.specs.Scene.{Scene, told_of, with_guests}
 use Rattle.client_core.specs.declared.client.OpenObject.{OpenObject}
-use Rattle.post_core.specs.Posts.{Tells}
-use Rattle.post_core.specs.declared.post.Post.{Post}
+use Rattle.keep_loop.specs.Posts.{Tells}
+use Rattle.keep_loop.specs.declared.post.Post.{Post}
 use Rattle.client_core.specs.State.{State, opening, changed, with_object, told_to, counted, session_by}
 use Rattle.client_core.specs.Deeds.{Texts, Deed, OnlyTold}
-use Rattle.custody_core.specs.Custody.{Custody, IsOwed, not_held_text}
+use Rattle.client_core.specs.Custody.{Custody, IsOwed, not_held_text}
 use Rattle.client_core.specs.Asked.{IsRefused, Sits, Submits, AllEnd, Ends, Follows, LetsGo, IsNotCancelled, LeavesObject, MayCall, NoneLeaves, keyed_text}
 use Rattle.client_core.specs.Gone.{Frees, SeatsOne}
 use Rattle.client_core.specs.Turns.{NoneWaits}

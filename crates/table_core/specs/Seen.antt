@@ -1,9 +1,9 @@
 -- What is seen of a table.
 use Rattle.std.specs.Prelude.{◌≡◌, ℕ, List, [], Some, None, slice_get}
-use Rattle.hosted_core.specs.Scene.{Scene}
+use Rattle.live_core.specs.Scene.{Scene}
 use Rattle.client_core.specs.declared.clients.ClientPlaces.{ClientPlaces}
-use Rattle.custody_core.specs.Custody.{Custodies}
-use Rattle.custody_core.specs.Views.{custodies_of}
+use Rattle.client_core.specs.Custody.{Custodies}
+use Rattle.client_core.specs.Views.{custodies_of}
 use Rattle.client_core.specs.State.{Peer, State, peers_of}
 use Rattle.table_core.specs.declared.table.Table.{Table}
 

@@ -1,13 +1,13 @@
 //! What is told to one that asks to see something.
 
 ghost use Rattle.std.specs.Prelude.{◌≡◌, Some, OnOk, IfOk, IfSome, slice_get};
-ghost use Rattle.hosted_core.specs.Scene.{Scene};
+ghost use Rattle.live_core.specs.Scene.{Scene};
 ghost use Rattle.client_core.specs.declared.ask.Sight.TheVariants as insides;
 ghost use Rattle.client_core.specs.People.{people_of};
 ghost use Rattle.inside_core.specs.Adds.{crowd_of};
 ghost use Rattle.client_core.specs.Asked.{AnswersInside};
-ghost use Rattle.custody_core.specs.Custody.{holds_by, held_by};
-ghost use Rattle.custody_core.specs.Views.{custodies_of};
+ghost use Rattle.client_core.specs.Custody.{holds_by, held_by};
+ghost use Rattle.client_core.specs.Views.{custodies_of};
 ghost use Rattle.client_core.specs.ToldInside.{IsWhy, IsWho, object_in};
 ghost use Rattle.client_core.specs.State.{opened_in, peers_of};
 ghost use Rattle.table_core.specs.Brings.{Brings};
@@ -18,15 +18,15 @@ ghost use Rattle.table_core.specs.Seen.{seen};
 use crate::peers::opened_at;
 use crate::table::Table;
 use crate::tell::tell;
+use client_core::all::AllHeld;
 use client_core::ask::Sight;
 use client_core::clients::ClientPlaces;
-use custody_core::all::AllHeld;
 use guest_core::answer::SubmitFault;
-use hosted_core::hosted::Hosted;
 use inside_core::list::list_of;
 use inside_core::who::{Whom, who_of};
 use inside_core::why::why_of;
 use keep_loop::Post;
+use live_core::hosted::Hosted;
 use session_text::line::LineRefusal;
 use std::alloc::{AllocError, Global};
 

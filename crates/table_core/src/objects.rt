@@ -2,17 +2,17 @@
 
 ghost use Rattle.std.specs.Prelude.{◌≡◌, [], ◌∷◌, Ok, Err, Some, true, false, IfOk, IfErr, IfSome, OnErr, slice_get, slice_set};
 ghost use Rattle.guest_core.specs.declared.answer.Cancelled.TheVariants as answers;
-ghost use Rattle.hosted_core.specs.declared.hosted.KeyState.TheVariants as keys;
-ghost use Rattle.hosted_core.specs.Keys.{Says, WaitsAs};
-ghost use Rattle.hosted_core.specs.Scene.{Scene, told_of};
-ghost use Rattle.hosted_core.specs.Fronts.{IsNextFront};
+ghost use Rattle.live_core.specs.declared.hosted.KeyState.TheVariants as keys;
+ghost use Rattle.live_core.specs.Keys.{Says, WaitsAs};
+ghost use Rattle.live_core.specs.Scene.{Scene, told_of};
+ghost use Rattle.live_core.specs.Fronts.{IsNextFront};
 ghost use Rattle.guest_core.specs.Guests.{SomebodyHas};
 ghost use Rattle.client_core.specs.Moves.{Begins, IsFrontAt};
 ghost use Rattle.table_core.specs.Objects.{IsNamed, HasOperation, EntersAt, SeatsAt, LeavesAt, CallsAt, CancelsAt, IsKnownAt};
 
 use guest_core::answer::{Cancelled, SubmitFault};
 use guest_core::guests::{EnterFault, Entered};
-use hosted_core::hosted::{Hosted, KeyState};
+use live_core::hosted::{Hosted, KeyState};
 use live_core::live::Taken;
 use path_tree::name::Name;
 use path_tree::node::OpId;

@@ -2,10 +2,10 @@
 
 ghost use Rattle.std.specs.Prelude.{◌≡◌, ◌%◌, [], ℕ, true, false, List, Some, None, IfSome, IfNone, OnOk, OnErr, length, slice_get};
 ghost use Rattle.value_core.specs.Runs.{NoLineFeed};
-ghost use Rattle.hosted_core.specs.Scene.{Scene};
+ghost use Rattle.live_core.specs.Scene.{Scene};
 ghost use Rattle.client_core.specs.Held.{waits_of};
 ghost use Rattle.client_core.specs.Asked.{IsFor, Waits};
-ghost use Rattle.custody_core.specs.Custody.{Custodies};
+ghost use Rattle.client_core.specs.Custody.{Custodies};
 ghost use Rattle.client_core.specs.declared.client.OpenObject.{OpenObject as AnOpened};
 ghost use Rattle.client_core.specs.Gone.{NoneHas};
 ghost use Rattle.client_core.specs.State.{peers_of, change, nobody, comer, opening, waiting, holding, who_in, opened_in, held_in};

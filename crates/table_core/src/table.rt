@@ -1,8 +1,8 @@
 //! All objects of a kept server, and all connections.
 
 ghost use Rattle.std.specs.Prelude.{◌≡◌, [], Some, OnOk, IfOk, slice_get};
-ghost use Rattle.hosted_core.specs.Scene.{Scene};
-ghost use Rattle.post_core.specs.Posts.{Tells};
+ghost use Rattle.live_core.specs.Scene.{Scene};
+ghost use Rattle.keep_loop.specs.Posts.{Tells};
 ghost use Rattle.session_text.specs.declared.line.ReplyLine.TheVariants as lines;
 ghost use Rattle.session_text.specs.Lines.{line_text, opened_text};
 ghost use Rattle.client_core.specs.Asked.{IsRefusal, OpensBare, Opens, Goes, Quits};
@@ -15,14 +15,14 @@ ghost use Rattle.table_core.specs.Seen.{IsQuiet, NobodyIsThere, seen};
 use crate::objects::{Comer, enter_at, may_come, object_for};
 use crate::peers::{go, open_as, opened_at, who_at};
 use crate::tell::tell_line;
+use client_core::all::AllHeld;
 use client_core::client::OpenObject;
 use client_core::clients::ClientPlaces;
-use custody_core::all::AllHeld;
 use guest_core::answer::SubmitFault;
 use guest_core::guests::{EnterFault, Entered};
-use hosted_core::hosted::Hosted;
 use inside_core::tallies::Tallies;
 use keep_loop::Post;
+use live_core::hosted::Hosted;
 use path_tree::name::Name;
 use session_text::line::{AnyLine, LineRefusal, ReplyLine};
 use std::alloc::{AllocError, Global};

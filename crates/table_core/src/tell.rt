@@ -2,7 +2,7 @@
 
 ghost use Rattle.std.specs.Prelude.{◌≡◌, [], OnOk};
 ghost use Rattle.session_text.specs.Answers.{said_of, said_text};
-ghost use Rattle.post_core.specs.Posts.{Tells};
+ghost use Rattle.keep_loop.specs.Posts.{Tells};
 ghost use Rattle.client_core.specs.State.{peers_of, told_to};
 
 use client_core::clients::ClientPlaces;

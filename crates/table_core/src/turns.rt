@@ -26,9 +26,9 @@ use crate::peers::{
 use crate::table::{MOST_OWED, Table};
 use client_core::ask::{Ask, Sight, ask_of, cancel_of, inside_of};
 use guest_core::answer::SubmitFault;
-use hosted_core::hosted::Hosted;
 use inside_core::look::write_look;
 use keep_loop::{LineEnd, Note, Post, Served, Visible};
+use live_core::hosted::Hosted;
 use session_text::line::{LineRefusal, ReplyLine};
 use std::alloc::AllocError;
 

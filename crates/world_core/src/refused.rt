@@ -1,7 +1,7 @@
 //! Which lines are refused before the desk is asked.
 
 ghost use Rattle.std.specs.Prelude.{◌≡◌, ◌↔◌, IsTrue, MatchOption, ℕ, List};
-ghost use Rattle.board_core.specs.Answers.{IsGone as IsGoneIn};
+ghost use Rattle.desk_core.specs.Answers.{IsGone as IsGoneIn};
 ghost use Rattle.decl_core.specs.HoldForm.{is_one_of};
 ghost use Rattle.decl_core.specs.HoldMap.{holds_of};
 ghost use Rattle.word_core.specs.Said.{Said as ASaid};
@@ -9,9 +9,9 @@ ghost use Rattle.word_core.specs.ScriptView.{said_view};
 ghost use Rattle.world_core.specs.HoldDoes.{IsNew, IsNotHeld, Refuses, Asks, asked};
 
 use apply_core::fits::arguments_fit;
-use board_core::find::place_of;
 use decl_core::hold::Hold;
 use desk_core::desk::Desk;
+use desk_core::find::place_of;
 use guest_core::answer::KeyedFault;
 use guest_core::held::Holds;
 use path_tree::node::OpId;

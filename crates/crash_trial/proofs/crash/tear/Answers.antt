@@ -1,6 +1,6 @@
 use Rattle.std.proofs.Common.{List, ℕ, subst, sym}
-use Rattle.post_core.specs.Device.{IsTorn}
-use Rattle.post_core.proofs.Lines.{torn_new}
+use Rattle.keep_loop.specs.Device.{IsTorn}
+use Rattle.keep_loop.proofs.Lines.{torn_new}
 use Rattle.crash_trial.proofs.Kept.{torn_back}
 use Rattle.crash_trial.proofs.crash.tear.Goals.{then-place-file+then-not-is_there, else-place-file}
 use Rattle.crash_trial.proofs.crash.tear.Goals as goal

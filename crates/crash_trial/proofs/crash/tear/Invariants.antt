@@ -1,5 +1,5 @@
 use Rattle.std.proofs.Common.{◌≡◌}
-use Rattle.post_core.specs.Device.{IsTorn}
+use Rattle.keep_loop.specs.Device.{IsTorn}
 use Rattle.crash_trial.proofs.crash.tear.Given as goal
 
 abbrev pub invariant-loop-place : goal.invariant-loop-place

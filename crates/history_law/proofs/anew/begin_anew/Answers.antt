@@ -1,7 +1,7 @@
 use Rattle.std.proofs.Common.{◌≡◌, ◌⊎◌, inl, inr, ⊎_elim, ℕ, List}
-use Rattle.post_core.specs.Journal.{recovered, IsBetween}
+use Rattle.keep_loop.specs.Journal.{recovered, IsBetween}
 use Rattle.history_law.specs.CrashLaws.{IsLeft}
-use Rattle.post_core.proofs.Runs.{weaker}
+use Rattle.keep_loop.proofs.Runs.{weaker}
 use Rattle.history_law.proofs.anew.begin_anew.Goals as goal
 
 pub returns-in_err-went-clause-any_moment : goal.returns-in_err-went-clause-any_moment

@@ -1,8 +1,8 @@
 use Rattle.std.proofs.Common.{ℕ, List, ◌++◌}
-use Rattle.post_core.specs.Journal.{recovered, IsBetween}
-use Rattle.post_core.specs.Run.{added}
+use Rattle.keep_loop.specs.Journal.{recovered, IsBetween}
+use Rattle.keep_loop.specs.Run.{added}
 use Rattle.history_law.specs.CrashLaws.{IsLeft}
-use Rattle.post_core.proofs.Runs.{weaker}
+use Rattle.keep_loop.proofs.Runs.{weaker}
 use Rattle.history_law.proofs.keep.keep.Goals as goal
 
 pub returns : goal.returns

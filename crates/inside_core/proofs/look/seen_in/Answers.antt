@@ -1,7 +1,7 @@
 use Rattle.std.proofs.Common.{ap, sym, subst, arith, length}
 use Rattle.inside_core.specs.Looks.{ShowsAll}
 use Rattle.inside_core.proofs.Looking.{seen_more, length_more}
-use Rattle.custody_core.specs.Views.{custodies_of}
+use Rattle.client_core.specs.Views.{custodies_of}
 use Rattle.inside_core.proofs.look.seen_in.Goals as goal
 
 pub loop-at-init : goal.loop-at-init

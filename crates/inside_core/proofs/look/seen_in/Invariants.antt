@@ -1,6 +1,6 @@
 use Rattle.std.proofs.Common.{◌≡◌, length}
 use Rattle.inside_core.specs.Looks.{ShowsAll}
-use Rattle.custody_core.specs.Views.{custodies_of}
+use Rattle.client_core.specs.Views.{custodies_of}
 use Rattle.inside_core.proofs.look.seen_in.Given as goal
 
 abbrev pub invariant-loop-at : goal.invariant-loop-at

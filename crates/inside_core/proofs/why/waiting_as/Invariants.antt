@@ -1,7 +1,7 @@
 use Rattle.std.proofs.Common.{◌≢◌, ◌≤◌, take, length}
 use Rattle.word_core.specs.Events.{Called}
 use Rattle.live_core.specs.Hall.{Every}
-use Rattle.hosted_core.specs.Scene.{told_of}
+use Rattle.live_core.specs.Scene.{told_of}
 use Rattle.inside_core.proofs.why.waiting_as.Given as goal
 
 abbrev pub invariant-loop-place : goal.invariant-loop-place

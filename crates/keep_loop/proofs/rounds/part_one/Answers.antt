@@ -1,6 +1,6 @@
 use Rattle.keep_loop.specs.Epochs.{rules_of}
 use Rattle.std.proofs.Common.{refl, sym, true≢false}
-use Rattle.post_core.specs.declared.served.Note.TheVariants.{Leaves}
+use Rattle.keep_loop.specs.declared.served.Note.TheVariants.{Leaves}
 use Rattle.keep_loop.specs.Seen.Happened.{Noticed}
 use Rattle.keep_loop.proofs.Kept.{keeps_quiet, keeps_event, keeps_then, fails_then, fails_note, on_err}
 use Rattle.keep_loop.proofs.rounds.part_one.Goals as goal

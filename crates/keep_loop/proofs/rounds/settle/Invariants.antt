@@ -1,6 +1,6 @@
 use Rattle.keep_loop.specs.Epochs.{rules_of}
 use Rattle.std.proofs.Common.{◌≡◌, ◌<◌, ℕ, [], length}
-use Rattle.post_core.specs.Texts.{text_at}
+use Rattle.keep_loop.specs.Texts.{text_at}
 use Rattle.keep_loop.specs.Stands.{Keeps}
 use Rattle.keep_loop.proofs.rounds.settle.Given as goal
 

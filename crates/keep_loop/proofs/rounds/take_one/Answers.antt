@@ -1,6 +1,6 @@
 use Rattle.keep_loop.specs.Epochs.{rules_of}
 use Rattle.std.proofs.Common.{◌≤◌, subst, eqb-true}
-use Rattle.post_core.specs.declared.served.Note.TheVariants.{Joins}
+use Rattle.keep_loop.specs.declared.served.Note.TheVariants.{Joins}
 use Rattle.keep_loop.specs.Seen.Happened.{Noticed}
 use Rattle.keep_loop.proofs.Kept.{keeps_event, fails_note, on_err}
 use Rattle.keep_loop.proofs.rounds.take_one.Goals as goal

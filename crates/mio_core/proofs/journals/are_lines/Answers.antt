@@ -1,6 +1,6 @@
 use Rattle.std.proofs.Common.{◌≡◌, ◌≤◌, ◌∙◌, sym, subst, length, arith, eqb-true}
 use Rattle.std.proofs.lemmas.List.{take_all}
-use Rattle.post_core.specs.Journal.{AreLines}
+use Rattle.keep_loop.specs.Journal.{AreLines}
 use Rattle.mio_core.proofs.journals.are_lines.Goals as goal
 
 pub returns : goal.returns

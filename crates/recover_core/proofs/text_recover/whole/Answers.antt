@@ -1,6 +1,6 @@
 use Rattle.std.proofs.Common.{◌≡◌, sym, subst}
-use Rattle.post_core.specs.Journal.{whole}
-use Rattle.post_core.proofs.Lines.{recovered_lines}
+use Rattle.keep_loop.specs.Journal.{whole}
+use Rattle.keep_loop.proofs.Lines.{recovered_lines}
 use Rattle.recover_core.proofs.text_recover.whole.Goals as goal
 
 pub returns-clause-ended : goal.returns-clause-ended

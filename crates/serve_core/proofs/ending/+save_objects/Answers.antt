@@ -1,7 +1,7 @@
 use Rattle.std.proofs.Common.{◌≡◌, List, ◌∷◌, sym, subst}
 use Rattle.std.specs.Prelude.{OnOk}
 use Rattle.device_core.specs.Papers.{Papers}
-use Rattle.hosted_core.specs.Scene.{Scene}
+use Rattle.live_core.specs.Scene.{Scene}
 use Rattle.serve_core.specs.Ending.{ObjectsAreSaved, ObjectsMayBeSaved}
 use Rattle.serve_core.proofs.Saving.{on_ok, no_objects, no_objects_maybe, more_objects, more_objects_maybe}
 use Rattle.serve_core.proofs.ending.+save_objects.Goals as goal

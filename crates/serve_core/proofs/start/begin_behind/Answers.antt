@@ -1,4 +1,4 @@
-use Rattle.post_core.specs.Journal.{recovered}
+use Rattle.keep_loop.specs.Journal.{recovered}
 use Rattle.serve_core.proofs.Going.{begun, not_begun}
 use Rattle.serve_core.proofs.start.begin_behind.Goals as goal
 

@@ -3,7 +3,7 @@ use Rattle.decl_core.specs.HoldMap.{holds_of}
 use Rattle.inside_core.specs.Adds.{crowd_of}
 use Rattle.table_core.proofs.Placing.{at_place}
 use Rattle.table_core.proofs.Showing.{who_there}
-use Rattle.custody_core.specs.Views.{custodies_of}
+use Rattle.client_core.specs.Views.{custodies_of}
 use Rattle.table_core.proofs.looking.who_at.Goals as goal
 
 pub returns-in-Some : goal.returns-in-Some

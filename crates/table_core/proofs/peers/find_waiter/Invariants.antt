@@ -1,7 +1,7 @@
 use Rattle.std.proofs.Common.{ℕ, ◌<◌, List}
-use Rattle.hosted_core.specs.Scene.{Scene}
+use Rattle.live_core.specs.Scene.{Scene}
 use Rattle.client_core.specs.Asked.{Waits}
-use Rattle.custody_core.specs.Custody.{Custodies}
+use Rattle.client_core.specs.Custody.{Custodies}
 use Rattle.table_core.specs.Seen.{state_of}
 use Rattle.table_core.proofs.peers.find_waiter.Given as goal
 

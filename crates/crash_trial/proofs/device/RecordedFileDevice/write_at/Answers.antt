@@ -1,7 +1,7 @@
 use Rattle.std.proofs.Common.{◌≡◌, ℕ, List, Some, length, refl, ap, sym, ◌∙◌, subst, ◌+◌, ◌≤◌, rules}
 use Rattle.crash_trial.specs.declared.device.Happened.TheVariants.{Wrote}
 use Rattle.crash_trial.specs.Kept.{read_behind, MayLeave}
-use Rattle.post_core.specs.Device.{with_bytes, Writes}
+use Rattle.keep_loop.specs.Device.{with_bytes, Writes}
 use Rattle.crash_trial.proofs.Kept.{may_wrote, may_not_write, read_wrote, elapses_to}
 use Rattle.crash_trial.proofs.device.RecordedFileDevice.write_at.Goals as goal
 

@@ -1,5 +1,5 @@
 use Rattle.std.proofs.Common.{refl, subst}
-use Rattle.post_core.specs.Turns.Asked.{Changes}
+use Rattle.keep_loop.specs.Turns.Asked.{Changes}
 use Rattle.std.specs.Prelude.{[]}
 use Rattle.keep_loop.specs.declared.keep.Keep.{Keep}
 use Rattle.keep_loop.proofs.Stood.{stands_renewed, stands_stays}

@@ -1,7 +1,7 @@
 use Rattle.std.proofs.Common.{◌<◌, ◌++◌, ◌∷◌, ℕ, List, [], refl, sym, ◌∙◌, ap, subst, append_assoc}
 use Rattle.keep_loop.specs.Seen.Happened.{Came}
 use Rattle.keep_loop.specs.Stands.{Stands}
-use Rattle.post_core.proofs.Places.{here_of_hears}
+use Rattle.keep_loop.proofs.Places.{here_of_hears}
 use Rattle.keep_loop.proofs.Stood.{stands_deaf, stands_first}
 use Rattle.keep_loop.proofs.keep.Keep.heard.Goals as goal
 

@@ -1,6 +1,6 @@
 use Rattle.std.proofs.Common.{refl, false}
 use Rattle.keep_loop.specs.declared.keep.Keep.{Keep}
-use Rattle.post_core.proofs.Places.{tells_none}
+use Rattle.keep_loop.proofs.Places.{tells_none}
 use Rattle.keep_loop.proofs.Stood.{stands_same}
 use Rattle.keep_loop.proofs.keep.Keep.looks.Goals as goal
 

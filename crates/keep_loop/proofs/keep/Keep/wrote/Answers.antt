@@ -1,6 +1,6 @@
 use Rattle.std.proofs.Common.{refl, take, ◌∷◌}
 use Rattle.keep_loop.specs.declared.keep.Keep.{Keep}
-use Rattle.post_core.specs.Posts.{owed_to}
+use Rattle.keep_loop.specs.Posts.{owed_to}
 use Rattle.keep_loop.specs.Seen.Happened.{Wrote}
 use Rattle.keep_loop.proofs.Stood.{rests_same, rests_wrote}
 use Rattle.keep_loop.proofs.keep.Keep.wrote.Goals as goal

@@ -1,6 +1,6 @@
 use Rattle.std.proofs.Common.{◌≡◌, sym, subst, Some, slice_get}
 use Rattle.std.specs.Global.{Vec}
-use Rattle.hosted_core.specs.Scene.{Scene}
+use Rattle.live_core.specs.Scene.{Scene}
 use Rattle.table_core.specs.Seen.{seen}
 use Rattle.table_core.proofs.Submitting.{none_end, one_ends}
 use Rattle.table_core.proofs.table.Table.+all_ended.Goals as goal

@@ -1,8 +1,8 @@
 use Rattle.std.proofs.Common.{◌∙◌, ap, ℕ, List, ◌++◌, slice_get}
-use Rattle.hosted_core.specs.Scene.{Scene}
-use Rattle.custody_core.specs.Custody.{held_lines_in}
+use Rattle.live_core.specs.Scene.{Scene}
+use Rattle.client_core.specs.Custody.{held_lines_in}
 use Rattle.table_core.proofs.Settling.{begins_held}
-use Rattle.custody_core.specs.Views.{custodies_of}
+use Rattle.client_core.specs.Views.{custodies_of}
 use Rattle.table_core.proofs.table.Table.begin_held.Goals as goal
 
 pub returns : goal.returns

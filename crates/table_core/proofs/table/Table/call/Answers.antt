@@ -1,7 +1,7 @@
 use Rattle.session_text.specs.declared.line.ReplyLine.TheVariants as lines
 use Rattle.session_text.specs.declared.line.LineRefusal.TheVariants as refusals
 use Rattle.std.proofs.Common.{sym, subst, List, Option, ℕ}
-use Rattle.hosted_core.specs.Scene.{Scene}
+use Rattle.live_core.specs.Scene.{Scene}
 use Rattle.client_core.specs.Asked.{AnswersCall}
 use Rattle.table_core.specs.Brings.{Brings}
 use Rattle.table_core.specs.Objects.{HasOperation}

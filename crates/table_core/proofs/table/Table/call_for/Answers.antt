@@ -1,7 +1,7 @@
 use Rattle.std.proofs.Common.{sym, subst}
 use Rattle.client_core.specs.State.{State}
 use Rattle.table_core.specs.Parts.{IsOwedAt}
-use Rattle.custody_core.specs.Views.{custodies_of}
+use Rattle.client_core.specs.Views.{custodies_of}
 use Rattle.table_core.proofs.table.Table.call_for.Goals as goal
 
 pub make_owed-requires-clause-apart : goal.make_owed-requires-clause-apart

@@ -2,8 +2,8 @@ use Rattle.std.proofs.Common.{◌∙◌, ap, subst, List, slice_get}
 use Rattle.value_core.specs.declared.datum.Datum.{Datum}
 use Rattle.session_text.specs.declared.line.ReplyLine.TheVariants as lines
 use Rattle.session_text.specs.declared.line.LineRefusal.TheVariants as refusals
-use Rattle.hosted_core.specs.Keys.{Says}
-use Rattle.hosted_core.specs.Scene.{Scene}
+use Rattle.live_core.specs.Keys.{Says}
+use Rattle.live_core.specs.Scene.{Scene}
 use Rattle.table_core.specs.Seen.{seen}
 use Rattle.table_core.proofs.Submitting.{key_new, key_refused}
 use Rattle.table_core.proofs.table.Table.call_under.Goals as goal

@@ -1,7 +1,7 @@
 use Rattle.std.proofs.Common.{sym, subst, List, Some, slice_get, ◌≡◌}
 use Rattle.session_text.specs.declared.line.ReplyLine.TheVariants as lines
 use Rattle.session_text.specs.declared.line.LineRefusal.TheVariants as refusals
-use Rattle.hosted_core.specs.Scene.{Scene}
+use Rattle.live_core.specs.Scene.{Scene}
 use Rattle.table_core.specs.Seen.{seen}
 use Rattle.table_core.proofs.Cancelling.{cancel_refused, cancels_by}
 use Rattle.table_core.proofs.table.Table.cancel.Goals as goal

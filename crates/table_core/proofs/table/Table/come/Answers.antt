@@ -4,7 +4,7 @@ use Rattle.guest_core.specs.declared.guests.EnterFault.{EnterFault}
 use Rattle.client_core.specs.State.{peers_of}
 use Rattle.table_core.specs.Objects.{EntersAt}
 use Rattle.table_core.proofs.Entering.{comes_in}
-use Rattle.custody_core.specs.Views.{custodies_of}
+use Rattle.client_core.specs.Views.{custodies_of}
 use Rattle.table_core.proofs.table.Table.come.Goals as goal
 
 pub returns-in_ok-add-in-Some-Ok : goal.returns-in_ok-add-in-Some-Ok

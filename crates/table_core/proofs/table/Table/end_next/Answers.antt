@@ -1,7 +1,7 @@
 use Rattle.table_core.specs.Seen.{seen, state_of}
 use Rattle.table_core.proofs.Turning.{ends_none, ends_more, ends_last, same_ok}
 use Rattle.std.proofs.Common.{false, true}
-use Rattle.custody_core.specs.Views.{custodies_of}
+use Rattle.client_core.specs.Views.{custodies_of}
 use Rattle.table_core.proofs.table.Table.end_next.Goals as goal
 
 pub returns-in-None-clause-all : goal.returns-in-None-clause-all

@@ -1,8 +1,8 @@
 use Rattle.std.proofs.Common.{◌≡◌, ◌∙◌, ap, sym, subst, List, ℕ, Some, slice_get}
-use Rattle.hosted_core.specs.Scene.{Scene, told_of}
+use Rattle.live_core.specs.Scene.{Scene, told_of}
 use Rattle.session_text.specs.Lines.{ended_text}
 use Rattle.table_core.proofs.Submitting.{ends_nowhere_as}
-use Rattle.custody_core.specs.Views.{custodies_of}
+use Rattle.client_core.specs.Views.{custodies_of}
 use Rattle.table_core.proofs.table.Table.ended.Goals as goal
 
 pub returns-in-None-clause-brings : goal.returns-in-None-clause-brings

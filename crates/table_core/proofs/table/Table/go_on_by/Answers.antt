@@ -1,6 +1,6 @@
 use Rattle.table_core.specs.Seen.{seen, state_of}
 use Rattle.table_core.proofs.Turning.{goes_by}
-use Rattle.custody_core.specs.Views.{custodies_of}
+use Rattle.client_core.specs.Views.{custodies_of}
 use Rattle.table_core.proofs.table.Table.go_on_by.Goals as goal
 
 pub returns-in_ok-heed-in-Some : goal.returns-in_ok-heed-in-Some

@@ -1,6 +1,6 @@
 use Rattle.table_core.specs.Seen.{seen}
 use Rattle.table_core.proofs.Turning.{line_held, line_refused}
-use Rattle.custody_core.specs.Views.{custodies_of}
+use Rattle.client_core.specs.Views.{custodies_of}
 use Rattle.table_core.proofs.table.Table.hold.Goals as goal
 
 pub returns-in-Ok : goal.returns-in-Ok

@@ -1,5 +1,5 @@
 use Rattle.table_core.proofs.Settling.{leaves_held}
-use Rattle.custody_core.specs.Views.{custodies_of}
+use Rattle.client_core.specs.Views.{custodies_of}
 use Rattle.table_core.proofs.table.Table.leave_by.Goals as goal
 
 pub returns : goal.returns

@@ -2,7 +2,7 @@ use Rattle.std.proofs.Common.{subst, Option, ℕ}
 use Rattle.client_core.specs.State.{peers_of}
 use Rattle.table_core.specs.Objects.{CancelsAt}
 use Rattle.table_core.proofs.Cancelling.{lets_go_some}
-use Rattle.custody_core.specs.Views.{custodies_of}
+use Rattle.client_core.specs.Views.{custodies_of}
 use Rattle.table_core.proofs.table.Table.let_go.Goals as goal
 
 pub returns-in_ok-add-in-Some : goal.returns-in_ok-add-in-Some

@@ -1,5 +1,5 @@
 use Rattle.table_core.proofs.Settling.{free_left, free_noted}
-use Rattle.custody_core.specs.Views.{custodies_of}
+use Rattle.client_core.specs.Views.{custodies_of}
 use Rattle.table_core.proofs.table.Table.let_leave.Goals as goal
 
 pub returns : goal.returns

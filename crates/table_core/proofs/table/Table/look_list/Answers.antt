@@ -1,6 +1,6 @@
 use Rattle.std.proofs.Common.{subst, List}
 use Rattle.std.specs.Prelude.{IfOk}
-use Rattle.hosted_core.specs.Scene.{Scene}
+use Rattle.live_core.specs.Scene.{Scene}
 use Rattle.client_core.specs.ToldInside.{IsList}
 use Rattle.client_core.specs.People.{people_of}
 use Rattle.table_core.specs.Seen.{seen}

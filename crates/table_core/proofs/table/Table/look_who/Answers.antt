@@ -3,14 +3,14 @@ use Rattle.std.specs.Prelude.{Some, IfOk, slice_get}
 use Rattle.client_core.specs.declared.ask.Sight.TheVariants as insides
 use Rattle.session_text.specs.declared.line.ReplyLine.TheVariants as lines
 use Rattle.session_text.specs.declared.line.LineRefusal.TheVariants as refusals
-use Rattle.hosted_core.specs.Scene.{Scene}
-use Rattle.custody_core.specs.Custody.{holds_by, held_by}
+use Rattle.live_core.specs.Scene.{Scene}
+use Rattle.client_core.specs.Custody.{holds_by, held_by}
 use Rattle.client_core.specs.ToldInside.{IsWho}
 use Rattle.client_core.specs.People.{people_of}
 use Rattle.inside_core.specs.Adds.{crowd_of}
 use Rattle.table_core.specs.Seen.{seen}
 use Rattle.table_core.proofs.Showing.{look_refused, who_shown}
-use Rattle.custody_core.specs.Views.{custodies_of}
+use Rattle.client_core.specs.Views.{custodies_of}
 use Rattle.table_core.proofs.table.Table.look_who.Goals as goal
 
 pub returns-in_default : goal.returns-in_default

@@ -3,7 +3,7 @@ use Rattle.std.specs.Prelude.{Some, IfOk, slice_get}
 use Rattle.client_core.specs.declared.ask.Sight.TheVariants as insides
 use Rattle.session_text.specs.declared.line.ReplyLine.TheVariants as lines
 use Rattle.session_text.specs.declared.line.LineRefusal.TheVariants as refusals
-use Rattle.hosted_core.specs.Scene.{Scene}
+use Rattle.live_core.specs.Scene.{Scene}
 use Rattle.client_core.specs.ToldInside.{IsWhy}
 use Rattle.client_core.specs.People.{people_of}
 use Rattle.table_core.specs.Seen.{seen}

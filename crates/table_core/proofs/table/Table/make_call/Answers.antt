@@ -4,7 +4,7 @@ use Rattle.live_core.specs.declared.live.Taken.{Taken}
 use Rattle.client_core.specs.State.{peers_of}
 use Rattle.table_core.specs.Objects.{CallsAt}
 use Rattle.table_core.proofs.Submitting.{makes_at}
-use Rattle.custody_core.specs.Views.{custodies_of}
+use Rattle.client_core.specs.Views.{custodies_of}
 use Rattle.table_core.proofs.table.Table.make_call.Goals as goal
 
 pub returns-in_ok-add-in-Ok : goal.returns-in_ok-add-in-Ok

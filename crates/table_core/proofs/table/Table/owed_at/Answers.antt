@@ -1,6 +1,6 @@
 use Rattle.std.proofs.Common.{◌≡◌, ◌∙◌, ap, sym, List, slice_get}
 use Rattle.decl_core.specs.ObjectMap.{object_of}
-use Rattle.hosted_core.specs.Scene.{Scene}
+use Rattle.live_core.specs.Scene.{Scene}
 use Rattle.table_core.specs.Seen.{seen}
 use Rattle.table_core.proofs.Placing.{at_place}
 use Rattle.table_core.proofs.Settling.{owed_found}

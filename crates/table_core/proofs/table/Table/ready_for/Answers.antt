@@ -3,7 +3,7 @@ use Rattle.client_core.specs.State.{peers_of}
 use Rattle.table_core.specs.Seen.{seen, state_of}
 use Rattle.table_core.proofs.Entering.{objects_are}
 use Rattle.table_core.proofs.Submitting.{err_sits}
-use Rattle.custody_core.specs.Views.{custodies_of}
+use Rattle.client_core.specs.Views.{custodies_of}
 use Rattle.table_core.proofs.table.Table.ready_for.Goals as goal
 
 pub returns-in_err-room-clause-err : goal.returns-in_err-room-clause-err

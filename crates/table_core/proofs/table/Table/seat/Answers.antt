@@ -1,6 +1,6 @@
 use Rattle.std.proofs.Common.{arith}
 use Rattle.table_core.proofs.Submitting.{gets_number}
-use Rattle.custody_core.specs.Views.{custodies_of}
+use Rattle.client_core.specs.Views.{custodies_of}
 use Rattle.table_core.proofs.table.Table.seat.Goals as goal
 
 pub returns-clause-ok : goal.returns-clause-ok

@@ -1,13 +1,13 @@
 use Rattle.std.proofs.Common.{◌≡◌, ◌∙◌, ap, sym, subst, List, Some, slice_get}
 use Rattle.client_core.specs.declared.client.OpenObject.{OpenObject}
-use Rattle.hosted_core.specs.Scene.{Scene}
+use Rattle.live_core.specs.Scene.{Scene}
 use Rattle.live_core.specs.declared.call.Ran.{Ran}
 use Rattle.client_core.specs.State.{change, opening, peers_of}
 use Rattle.client_core.specs.Asked.{AllEnd}
 use Rattle.table_core.specs.Brings.{Brings}
 use Rattle.table_core.specs.Seen.{seen, state_of}
 use Rattle.table_core.proofs.Submitting.{taken_by}
-use Rattle.custody_core.specs.Views.{custodies_of}
+use Rattle.client_core.specs.Views.{custodies_of}
 use Rattle.table_core.proofs.table.Table.taken.Goals as goal
 
 pub returns-clause-brings : goal.returns-clause-brings

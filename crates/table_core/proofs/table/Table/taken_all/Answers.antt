@@ -1,5 +1,5 @@
 use Rattle.std.proofs.Common.{◌∙◌, ap, List, slice_get}
-use Rattle.hosted_core.specs.Scene.{Scene}
+use Rattle.live_core.specs.Scene.{Scene}
 use Rattle.table_core.specs.Seen.{seen}
 use Rattle.table_core.proofs.Settling.{tells_all, taken_same}
 use Rattle.table_core.proofs.table.Table.taken_all.Goals as goal

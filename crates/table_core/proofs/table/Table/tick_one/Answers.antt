@@ -1,6 +1,6 @@
 use Rattle.table_core.specs.Seen.{seen, state_of}
 use Rattle.table_core.proofs.Settling.{held_same, settles_more, settles_same, settles_seat}
-use Rattle.custody_core.specs.Views.{custodies_of}
+use Rattle.client_core.specs.Views.{custodies_of}
 use Rattle.table_core.proofs.table.Table.tick_one.Goals as goal
 
 pub returns-in_default-tick_seat : goal.returns-in_default-tick_seat

@@ -1,7 +1,7 @@
 use Rattle.std.proofs.Common.{refl}
 use Rattle.session_text.specs.Lines.{withdrawn_text}
 use Rattle.table_core.proofs.Submitting.{ends_nowhere_as}
-use Rattle.custody_core.specs.Views.{custodies_of}
+use Rattle.client_core.specs.Views.{custodies_of}
 use Rattle.table_core.proofs.table.Table.withdrawn.Goals as goal
 
 pub returns-in-None : goal.returns-in-None

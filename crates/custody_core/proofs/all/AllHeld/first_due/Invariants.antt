@@ -1,5 +1,0 @@
-use Rattle.custody_core.proofs.Becoming.{NoneBefore}
-use Rattle.custody_core.proofs.all.AllHeld.first_due.Given as goal
-
-abbrev pub invariant-loop-at : goal.invariant-loop-at
-invariant-loop-at l = NoneBefore l.second l.self l.at

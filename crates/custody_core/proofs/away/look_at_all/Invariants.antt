@@ -1,6 +1,0 @@
-use Rattle.custody_core.specs.Holding.{LooksAt}
-use Rattle.custody_core.proofs.Rows.{Moved}
-use Rattle.custody_core.proofs.away.look_at_all.Given as goal
-
-abbrev pub invariant-loop-place : goal.invariant-loop-place
-invariant-loop-place l = Moved (LooksAt l.hosted l.second) l.initial.rows.items l.rows.items l.place

@@ -1,8 +1,0 @@
-use Rattle.std.proofs.Common.{◌≡◌, ◌≢◌, ◌<◌, ℕ, Some}
-use Rattle.std.specs.Prelude.{slice_get}
-use Rattle.custody_core.specs.declared.holder.Holder.{Holder}
-use Rattle.custody_core.specs.declared.holder.WhenDue.TheVariants.{Now}
-use Rattle.custody_core.proofs.holder.first_now.Given as goal
-
-abbrev pub invariant-loop-place : goal.invariant-loop-place
-invariant-loop-place l = (k : ℕ) (g : Holder) → k < l.place → slice_get l.rows k ≡ Some g → g.when ≢ Now

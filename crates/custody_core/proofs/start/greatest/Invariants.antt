@@ -1,7 +1,0 @@
-use Rattle.std.proofs.Common.{take}
-use Rattle.std.specs.Prelude.{All}
-use Rattle.custody_core.specs.Start.{IsBelow}
-use Rattle.custody_core.proofs.start.greatest.Given as goal
-
-abbrev pub invariant-loop-place : goal.invariant-loop-place
-invariant-loop-place l = All (IsBelow l.hosted.guests l.most) (take l.place l.held)

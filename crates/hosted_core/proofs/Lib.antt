@@ -1,4 +1,0 @@
-pub mod Calling
-pub mod Following
-pub mod Keeping
-pub mod Writing

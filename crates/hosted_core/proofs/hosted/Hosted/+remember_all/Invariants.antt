@@ -1,5 +1,0 @@
-use Rattle.std.proofs.Common.{length}
-use Rattle.hosted_core.proofs.hosted.Hosted.+remember_all.Given as goal
-
-abbrev pub decreases-remember_all : goal.decreases-remember_all
-decreases-remember_all l = length l.all.now

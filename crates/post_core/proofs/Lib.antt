@@ -1,9 +1,0 @@
-pub mod Places
-pub mod Slots
-pub mod Begun
-pub mod Kept
-pub mod Lines
-pub mod Moments
-pub mod Quiet
-pub mod Replaced
-pub mod Runs

@@ -1,6 +1,0 @@
-use Rattle.std.proofs.Common.{refl}
-use Rattle.post_core.proofs.Slots.{restaged}
-use Rattle.post_core.proofs.post.set_stage.Goals as goal
-
-pub returns-clause-stage : goal.returns-clause-stage
-returns-clause-stage c = λ k j. restaged c.args.places.now.items c.args.at j c.index_mut.result.now _ k c.args.stage c.requires c.index_mut.ensures.value refl refl
