@@ -1,4 +1,3 @@
 pub mod Ends
 pub mod HeldRun
 pub mod Starts
-pub mod Untold

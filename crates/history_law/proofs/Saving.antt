@@ -1,6 +1,6 @@
 -- The trace that is saved is legal.
-use Rattle.serve_core.specs.Opening.{values_of}
-use Rattle.serve_core.proofs.Law.{opening_is_legal}
+use Rattle.keep_core.specs.Opening.{values_of}
+use Rattle.keep_core.proofs.Law.{opening_is_legal}
 use Rattle.history_law.proofs.Telling.{desk_text_is_legal}
 use Rattle.history_law.specs.SavedLaws.{SavedTraceIsLegal}
 use Rattle.history_law.proofs.Showing.{shown_opening}

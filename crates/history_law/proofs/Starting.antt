@@ -3,7 +3,7 @@ use Rattle.std.proofs.Common.{◌≤◌, ◌∙◌, sym, ap, subst}
 use Rattle.decl_core.specs.ObjectMap.{object_of}
 use Rattle.live_core.specs.Epochs.{told_behind}
 use Rattle.live_core.specs.Hall.{IsHeld}
-use Rattle.serve_core.specs.Behind.{ended_of}
+use Rattle.keep_core.specs.Behind.{ended_of}
 use Rattle.history_law.specs.Stands.{AreSeated}
 use Rattle.history_law.proofs.Beginning.{begun_stands, again_stands}
 use Rattle.history_law.proofs.Recovering.{recovered_are_seated}

@@ -15,7 +15,7 @@ use Rattle.recover_core.specs.Playing.{begun_by}
 use Rattle.recover_core.specs.Text.{IsRead}
 use Rattle.live_core.specs.Fronts.{AddsFirst, front_of}
 use Rattle.live_core.specs.Scene.{Scene}
-use Rattle.serve_core.specs.Behind.{BeginsBehind}
+use Rattle.keep_core.specs.Behind.{BeginsBehind}
 use Rattle.history_law.specs.Named.{IsNamed}
 use Rattle.history_law.specs.Stands.{Stands}
 use Rattle.history_law.specs.Year.{Epoch, epoch_of, AreEpochs, IsSound, all_ends, first_opening}

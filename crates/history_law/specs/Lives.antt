@@ -13,7 +13,7 @@ use Rattle.recover_core.specs.declared.recover.House.{House}
 use Rattle.recover_core.specs.declared.recover.Recovered.{Recovered}
 use Rattle.recover_core.specs.Text.{IsRead}
 use Rattle.live_core.specs.Scene.{Scene}
-use Rattle.serve_core.specs.Behind.{BeginsBehind}
+use Rattle.keep_core.specs.Behind.{BeginsBehind}
 use Rattle.history_law.specs.Year.{Epoch, Follows}
 use Rattle.history_law.specs.Read.{IsReadOf}
 

@@ -11,8 +11,8 @@ use Rattle.audit_core.specs.Steps.{Begun, Heard}
 use Rattle.recover_core.specs.declared.recover.House.{House}
 use Rattle.live_core.specs.Fronts.{AddsFirst, IsNextFront, TellsFront, front_of}
 use Rattle.live_core.specs.Scene.{Scene, next_base, next_epoch}
-use Rattle.serve_core.specs.Behind.{BeginsBehind}
-use Rattle.serve_core.specs.First.{BeginsFirst}
+use Rattle.keep_core.specs.Behind.{BeginsBehind}
+use Rattle.keep_core.specs.First.{BeginsFirst}
 use Rattle.history_law.specs.Named.{IsNamed}
 use Rattle.history_law.specs.Stands.{Stands}
 use Rattle.history_law.specs.LifeKeeps.{Keeps}

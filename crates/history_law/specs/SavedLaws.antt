@@ -6,8 +6,8 @@ use Rattle.device_core.specs.Device.{Assignment}
 use Rattle.page_core.specs.Opened.{ArePinned}
 use Rattle.desk_core.specs.Lists.{Every}
 use Rattle.office_core.specs.Slips.{IsTrueTold}
-use Rattle.serve_core.specs.ObjectEnds.{Ended, IsAtEnd, trace_of}
-use Rattle.serve_core.specs.Opening.{values_of}
+use Rattle.keep_core.specs.Ends.{Ended, IsAtEnd, trace_of}
+use Rattle.keep_core.specs.Opening.{values_of}
 use Rattle.audit_core.specs.Verdicts.{IsLegalTrace}
 
 -- Where an object was closed, each slip that its sessions left is true, and the pins at its opening were sealed with its

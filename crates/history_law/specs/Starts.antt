@@ -10,8 +10,8 @@ use Rattle.recover_core.specs.declared.recover.House.{House}
 use Rattle.recover_core.specs.Playing.{begun_by}
 use Rattle.live_core.specs.Fronts.{front_of, AddsFirst}
 use Rattle.live_core.specs.Scene.{Scene}
-use Rattle.serve_core.specs.First.{BeginsFirst}
-use Rattle.serve_core.specs.Behind.{BeginsBehind}
+use Rattle.keep_core.specs.First.{BeginsFirst}
+use Rattle.keep_core.specs.Behind.{BeginsBehind}
 use Rattle.history_law.specs.Stands.{Stands}
 
 -- An object of which there was no journal.

@@ -17,7 +17,7 @@ use Rattle.recover_core.specs.Playing.{begun_by}
 use Rattle.recover_core.specs.Text.{IsRead}
 use Rattle.live_core.specs.Fronts.{AddsFirst, front_of}
 use Rattle.live_core.specs.Scene.{Scene, next_base, next_epoch}
-use Rattle.serve_core.specs.First.{BeginsFirst}
+use Rattle.keep_core.specs.First.{BeginsFirst}
 use Rattle.history_law.specs.Named.{IsNamed}
 use Rattle.history_law.specs.WrittenRead.{Adds}
 use Rattle.history_law.specs.Stands.{Stands}

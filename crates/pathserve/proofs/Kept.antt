@@ -6,7 +6,7 @@ use Rattle.live_core.specs.Scene.{Scene}
 use Rattle.keep_loop.specs.Seen.{Happened}
 use Rattle.keep_loop.specs.Stands.{HasEnded}
 use Rattle.keep_loop.specs.declared.keep.LoopLimits.{LoopLimits}
-use Rattle.serve_core.specs.Ending.{ObjectsAreSaved}
+use Rattle.keep_core.specs.Ending.{ObjectsAreSaved}
 use Rattle.keep_loop.specs.Turns.{Gives}
 use Rattle.pathserve.specs.Kept.{IsKept}
 

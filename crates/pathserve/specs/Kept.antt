@@ -5,7 +5,7 @@ use Rattle.live_core.specs.Scene.{Scene}
 use Rattle.keep_loop.specs.Seen.{Happened}
 use Rattle.keep_loop.specs.Stands.{HasEnded}
 use Rattle.keep_loop.specs.declared.keep.LoopLimits.{LoopLimits}
-use Rattle.serve_core.specs.Ending.{ObjectsAreSaved}
+use Rattle.keep_core.specs.Ending.{ObjectsAreSaved}
 use Rattle.keep_loop.specs.Turns.{Gives}
 
 -- One history leads from what was served at first to what there is at last, and all its lines are stored; and under the names

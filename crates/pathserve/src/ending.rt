@@ -11,9 +11,9 @@ ghost use Rattle.pathserve.specs.Kept.{IsKept};
 
 use answer_core::answer::{ACCEPTED, REFUSED};
 use answer_core::failure::ToolFailure;
-use command_tool::ending::end_objects;
 use device_core::shelf::Shelf;
 use keep_loop::{Fault, LoopLimits, Outside, run};
+use keep_tool::ending::end_objects;
 use std::alloc::Global;
 use std::io::Write;
 use table_core::table::Table;

@@ -4,8 +4,8 @@ use Rattle.std.specs.Prelude.{IsTrue}
 use Rattle.std.proofs.lemmas.List.{append-nil, append_assoc, map-append}
 use Rattle.std.proofs.lemmas.Bool.{true≢false}
 use Rattle.value_core.specs.declared.machine.LinesFault.{LinesFault}
-use Rattle.serve_core.specs.declared.opening.ObjectOpening.{ObjectOpening}
-use Rattle.serve_core.specs.Opening.{values_of}
+use Rattle.keep_core.specs.declared.opening.ObjectOpening.{ObjectOpening}
+use Rattle.keep_core.specs.Opening.{values_of}
 use Rattle.device_core.specs.Device.{Assignment}
 use Rattle.device_core.specs.Papers.{Papers}
 use Rattle.decl_core.specs.declared.object.Object.{Object}
@@ -13,16 +13,16 @@ use Rattle.device_core.specs.declared.hand.Stamp.{Stamp}
 use Rattle.desk_core.specs.Lists.{Every}
 use Rattle.office_core.specs.Slips.{Told}
 use Rattle.office_core.specs.declared.client_seat.Seat.{Seat}
-use Rattle.serve_core.specs.Troubles.{first_of}
-use Rattle.serve_core.specs.Lines.{AreSaid}
-use Rattle.serve_core.specs.Kept.{AreStored, refused_by, stored_times, once}
-use Rattle.serve_core.specs.ObjectEnds.{Ended, IsAtEnd, IsOf, IsEnding, lines_of, refused_after, trace_of}
-use Rattle.serve_core.proofs.Telling.{nothing_said, said_then, first_none, second_none, first_first, closing_first}
-use Rattle.serve_core.proofs.Keeping.{first_nothing}
-use Rattle.serve_core.proofs.KeepEnding.{not_refused}
+use Rattle.keep_core.specs.Troubles.{first_of}
+use Rattle.keep_core.specs.Lines.{AreSaid}
+use Rattle.keep_core.specs.Kept.{AreStored, refused_by, stored_times, once}
+use Rattle.keep_core.specs.Ends.{Ended, IsAtEnd, IsOf, IsEnding, lines_of, refused_after, trace_of}
+use Rattle.keep_core.proofs.Telling.{nothing_said, said_then, first_none, second_none, first_first, closing_first}
+use Rattle.keep_core.proofs.Keeping.{first_nothing}
+use Rattle.keep_core.proofs.KeepEnding.{not_refused}
 use Rattle.serve_core.specs.Backed.{AreBacked}
 use Rattle.serve_core.specs.Closes.{names_of, openings_of, slips_of, AreBackedAll, lines_all, refused_all, AreStoredAll, AreTracedAll, IsWhole, AreEndings, Closes}
-use Rattle.serve_core.specs.Moments.{Moment}
+use Rattle.keep_core.specs.Moments.{Moment}
 
 every_one : {X : Type 0} (P : X → Type 0) (xs : List X) (y : X) → Every P xs → P y → Every P (xs ++ y ∷ [])
 every_one P [] y all one = (one, tt)

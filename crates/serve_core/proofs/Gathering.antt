@@ -6,9 +6,9 @@ use Rattle.std.proofs.lemmas.List.{map-append, length-map}
 use Rattle.value_core.specs.declared.machine.LinesFault.{LinesFault}
 use Rattle.value_core.specs.declared.machine.LinesFault.TheVariants.{Memory}
 use Rattle.office_core.specs.Slips.{Told}
-use Rattle.serve_core.specs.declared.trouble.Trouble.{Trouble}
-use Rattle.serve_core.specs.Troubles.{first_of, memory_in}
-use Rattle.serve_core.proofs.Telling.{first_first}
+use Rattle.keep_core.specs.declared.trouble.Trouble.{Trouble}
+use Rattle.keep_core.specs.Troubles.{first_of, memory_in}
+use Rattle.keep_core.proofs.Telling.{first_first}
 use Rattle.serve_core.specs.declared.listen.SessionLeavings.{SessionLeavings}
 use Rattle.serve_core.specs.declared.listen.SessionResult.{SessionResult}
 use Rattle.serve_core.specs.declared.listen.SessionResult.TheVariants.{Session, Fault}

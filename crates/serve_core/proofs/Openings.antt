@@ -7,10 +7,10 @@ use Rattle.device_core.specs.Device.{Assignment}
 use Rattle.device_core.specs.Papers.{Papers}
 use Rattle.page_core.specs.Opened.{AreLoaded}
 use Rattle.desk_core.specs.Lists.{Among}
-use Rattle.serve_core.specs.declared.opening.ObjectOpening.{ObjectOpening}
-use Rattle.serve_core.specs.declared.opened.NotOpened.{NotOpened}
-use Rattle.serve_core.specs.declared.opened.NotOpened.TheVariants.{Damaged, Fault}
-use Rattle.serve_core.specs.Opening.{IsNotOpened, IsSealed, values_of}
+use Rattle.keep_core.specs.declared.opening.ObjectOpening.{ObjectOpening}
+use Rattle.keep_core.specs.declared.open.NotOpened.{NotOpened}
+use Rattle.keep_core.specs.declared.open.NotOpened.TheVariants.{Damaged, Fault}
+use Rattle.keep_core.specs.Opening.{IsNotOpened, IsSealed, values_of}
 use Rattle.serve_core.specs.Opened.{AreLoadedAll, ArePinnedAll}
 use Rattle.serve_core.specs.Runs.{IsNotOpenedOf}
 

@@ -6,10 +6,10 @@ use Rattle.std.specs.List.{concat}
 use Rattle.std.specs.Io.KnownBytes.{Appends, Keeps}
 use Rattle.std.proofs.lemmas.Bool.{true≢false}
 use Rattle.std.proofs.lemmas.List.{length-map}
-use Rattle.serve_core.specs.declared.close.Closing.{Closing}
-use Rattle.serve_core.specs.declared.opened.NotOpened.{NotOpened}
-use Rattle.serve_core.specs.declared.opened.NotOpened.TheVariants.{Damaged, Fault}
-use Rattle.serve_core.specs.declared.opening.ObjectOpening.{ObjectOpening}
+use Rattle.keep_core.specs.declared.close.Closing.{Closing}
+use Rattle.keep_core.specs.declared.open.NotOpened.{NotOpened}
+use Rattle.keep_core.specs.declared.open.NotOpened.TheVariants.{Damaged, Fault}
+use Rattle.keep_core.specs.declared.opening.ObjectOpening.{ObjectOpening}
 use Rattle.value_core.specs.declared.machine.LinesFault.{LinesFault}
 use Rattle.value_core.specs.declared.machine.LinesFault.TheVariants.{Memory}
 use Rattle.device_core.specs.Device.{Assignment}
@@ -18,17 +18,17 @@ use Rattle.decl_core.specs.declared.object.Object.{Object}
 use Rattle.decl_core.specs.ObjectMap.{object_names}
 use Rattle.desk_core.specs.Lists.{Every}
 use Rattle.value_core.proofs.Known.{Appends-none}
-use Rattle.serve_core.specs.Lines.{AreSaid, damaged_lines, entries_line, entries_lines, refused_line}
-use Rattle.serve_core.specs.Kept.{refused_by}
-use Rattle.serve_core.specs.ObjectEnds.{Ended, IsAtEnd, kept_in, lines_of}
-use Rattle.serve_core.proofs.Law.{kept_is_history, opening_is_legal}
-use Rattle.serve_core.proofs.Telling.{nothing_said, said_then, said_as, second_none, met_not}
+use Rattle.keep_core.specs.Lines.{AreSaid, damaged_lines, entries_line, entries_lines, refused_line}
+use Rattle.keep_core.specs.Kept.{refused_by}
+use Rattle.keep_core.specs.Ends.{Ended, IsAtEnd, kept_in, lines_of}
+use Rattle.keep_core.proofs.Law.{kept_is_history, opening_is_legal}
+use Rattle.keep_core.proofs.Telling.{nothing_said, said_then, said_as, second_none, met_not}
 use Rattle.serve_core.specs.declared.serve.ServeEnd.{ServeEnd}
 use Rattle.serve_core.specs.declared.serve.ServeEnd.TheVariants.{Whole, Refused, Unopened}
 use Rattle.serve_core.specs.Ends.{IsEndOf}
 use Rattle.serve_core.specs.Backed.{AreBacked}
 use Rattle.serve_core.specs.Gathers.{none_of, IsGathered}
-use Rattle.serve_core.specs.Moments.{Moment}
+use Rattle.keep_core.specs.Moments.{Moment}
 use Rattle.serve_core.specs.Opened.{AreLoadedAll, ArePinnedAll}
 use Rattle.serve_core.specs.Closes.{openings_of, slips_of, AreBackedAll, IsFromOpening, IsLegalBy, lines_all, entries_all, refused_all, IsWhole}
 use Rattle.serve_core.specs.Runs.{listening_line, fault_of_end, GathersAndCloses, AreServed, AreNotServed, IsDamagedLine, IsFirstDamagedLine, IsNotOpenedOf, IsLineOf, IsUnservedBy, IsRunOf, IsRunIn, IsRefusedBy, IsEndBehind}

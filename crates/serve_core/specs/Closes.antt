@@ -9,14 +9,14 @@ use Rattle.desk_core.specs.Lists.{Every}
 use Rattle.desk_core.specs.Chain.{ShowContents, history_of}
 use Rattle.desk_core.specs.Sound.{kinds_of}
 use Rattle.office_core.specs.Slips.{Told, IsTrueTold}
-use Rattle.serve_core.specs.declared.opening.ObjectOpening.{ObjectOpening}
-use Rattle.serve_core.specs.Opening.{values_of}
-use Rattle.serve_core.specs.Troubles.{first_of}
-use Rattle.serve_core.specs.Lines.{AreSaid, IsOfClosing, entries_line}
-use Rattle.serve_core.specs.Kept.{AreStored, stored_times, once}
-use Rattle.serve_core.specs.ObjectEnds.{Ended, IsAtEnd, IsKept, lines_of, refused_after, trace_of}
+use Rattle.keep_core.specs.declared.opening.ObjectOpening.{ObjectOpening}
+use Rattle.keep_core.specs.Opening.{values_of}
+use Rattle.keep_core.specs.Troubles.{first_of}
+use Rattle.keep_core.specs.Lines.{AreSaid, IsOfClosing, entries_line}
+use Rattle.keep_core.specs.Kept.{AreStored, stored_times, once}
+use Rattle.keep_core.specs.Ends.{Ended, IsAtEnd, IsKept, lines_of, refused_after, trace_of}
 use Rattle.serve_core.specs.Backed.{AreBacked, AreBackedBy}
-use Rattle.serve_core.specs.Moments.{Moment}
+use Rattle.keep_core.specs.Moments.{Moment}
 
 -- the names of objects that have ended
 abbrev pub names_of : List Ended → List (List ℕ)

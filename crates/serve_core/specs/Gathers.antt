@@ -5,8 +5,8 @@ use Rattle.value_core.specs.declared.machine.LinesFault.TheVariants.{Memory}
 use Rattle.session_core.specs.declared.fault.SessionFault.{SessionFault}
 use Rattle.session_core.specs.declared.fault.SessionFault.TheVariants as session
 use Rattle.office_core.specs.Slips.{Told}
-use Rattle.serve_core.specs.declared.trouble.Trouble.{Trouble}
-use Rattle.serve_core.specs.Troubles.{first_of}
+use Rattle.keep_core.specs.declared.trouble.Trouble.{Trouble}
+use Rattle.keep_core.specs.Troubles.{first_of}
 use Rattle.serve_core.specs.declared.listen.SessionResult.{SessionResult}
 use Rattle.serve_core.specs.declared.listen.SessionResult.TheVariants.{Session, Fault}
 use Rattle.serve_core.specs.declared.gather.Gathered.{Gathered}

@@ -6,15 +6,3 @@ pub mod Closes
 pub mod Gathers
 pub mod Runs
 pub mod Tidies
-pub mod ObjectEnds
-pub mod Kept
-pub mod Laws
-pub mod Lines
-pub mod Marks
-pub mod Moments
-pub mod Opening
-pub mod Troubles
-pub mod First
-pub mod Saved
-pub mod Ending
-pub mod Behind

@@ -4,8 +4,8 @@ use Rattle.decl_core.specs.declared.object.Object.{Object}
 use Rattle.device_core.specs.Device.{Assignment}
 use Rattle.device_core.specs.Papers.{Papers}
 use Rattle.page_core.specs.Opened.{AreLoaded}
-use Rattle.serve_core.specs.declared.opening.ObjectOpening.{ObjectOpening}
-use Rattle.serve_core.specs.Opening.{IsSealed, values_of}
+use Rattle.keep_core.specs.declared.opening.ObjectOpening.{ObjectOpening}
+use Rattle.keep_core.specs.Opening.{IsSealed, values_of}
 
 -- object by object: the parts of each began with what the shelf has under their names
 abbrev pub AreLoadedAll : Papers → List Object → List ObjectOpening → Type 0

@@ -15,18 +15,18 @@ use Rattle.desk_core.specs.Lists.{Every, Among}
 use Rattle.office_core.specs.Slips.{Told}
 use Rattle.session_core.specs.declared.order.Named.{Named}
 use Rattle.check_core.specs.Judging.{IsServed, IsUnserved}
-use Rattle.serve_core.specs.declared.opened.NotOpened.{NotOpened}
-use Rattle.serve_core.specs.declared.opened.NotOpened.TheVariants.{Damaged, Fault}
-use Rattle.serve_core.specs.declared.opening.ObjectOpening.{ObjectOpening}
-use Rattle.serve_core.specs.declared.trouble.Trouble.{Trouble}
-use Rattle.serve_core.specs.Troubles.{first_of}
-use Rattle.serve_core.specs.Lines.{AreSaid, damaged_line}
-use Rattle.serve_core.specs.ObjectEnds.{Ended, IsAtEnd}
+use Rattle.keep_core.specs.declared.open.NotOpened.{NotOpened}
+use Rattle.keep_core.specs.declared.open.NotOpened.TheVariants.{Damaged, Fault}
+use Rattle.keep_core.specs.declared.opening.ObjectOpening.{ObjectOpening}
+use Rattle.keep_core.specs.declared.trouble.Trouble.{Trouble}
+use Rattle.keep_core.specs.Troubles.{first_of}
+use Rattle.keep_core.specs.Lines.{AreSaid, damaged_line}
+use Rattle.keep_core.specs.Ends.{Ended, IsAtEnd}
 use Rattle.serve_core.specs.declared.serve.ServeEnd.{ServeEnd}
 use Rattle.serve_core.specs.declared.serve.ServeEnd.TheVariants.{Whole, Refused, Unopened}
 use Rattle.serve_core.specs.Ends.{IsEndOf}
 use Rattle.serve_core.specs.Gathers.{none_of, IsGathered}
-use Rattle.serve_core.specs.Moments.{Moment, with_trouble}
+use Rattle.keep_core.specs.Moments.{Moment, with_trouble}
 use Rattle.serve_core.specs.Opened.{AreLoadedAll, ArePinnedAll}
 use Rattle.serve_core.specs.Closes.{names_of, openings_of, slips_of, lines_all, entries_all, refused_all, IsWhole}
 use Rattle.serve_core.specs.Closes.{AreStoredAll, AreTracedAll, IsFromOpening, IsLegalBy, Closes}

@@ -2,13 +2,13 @@
 
 ghost use Rattle.std.specs.Prelude.{◌≡◌, ◌++◌, [], ◌≤◌, All, OnOk, OnErr, IfOk};
 ghost use Rattle.std.specs.Vec.{vec_capacity};
-ghost use Rattle.serve_core.specs.Troubles.{first_of};
+ghost use Rattle.keep_core.specs.Troubles.{first_of};
 ghost use Rattle.serve_core.specs.Gathers.{noted_by, mixed_by, slips_in, put_in, none_of, Gathers, GathersAll};
 
 use crate::backed::{AllBacked, Backed};
 use crate::listen::{SessionLeavings, SessionResult};
-use crate::trouble::Trouble;
 use device_core::hand::Hand;
+use keep_core::trouble::Trouble;
 use office_core::seat::Seat;
 use session_core::fault::SessionFault;
 use session_core::order::Named;

@@ -2,29 +2,29 @@
 
 ghost use Rattle.std.specs.Prelude.{◌≡◌, ◌<◌, ◌∷◌, ℕ, List, [], Some, length};
 ghost use Rattle.std.specs.Vec.Iter.{into_iter_len, into_iter_steps};
-ghost use Rattle.serve_core.specs.Troubles.{fault_in};
-ghost use Rattle.serve_core.specs.Lines.{AreSaid};
+ghost use Rattle.keep_core.specs.Troubles.{fault_in};
+ghost use Rattle.keep_core.specs.Lines.{AreSaid};
 ghost use Rattle.serve_core.specs.Backed.{AreBacked};
 ghost use Rattle.serve_core.specs.Gathers.{slips_in, none_of, IsGathered};
 ghost use Rattle.serve_core.specs.Ends.{IsEndOf};
 ghost use Rattle.serve_core.specs.Closes.{Closes};
-ghost use Rattle.serve_core.specs.Moments.{moment_of};
+ghost use Rattle.keep_core.specs.Moments.{moment_of};
 ghost use Rattle.serve_core.specs.Runs.{named_in, listening_line, GathersAndCloses, IsRunIn};
 ghost use Rattle.serve_core.specs.Runs.{AreNotServed, IsLineOf};
 
-use crate::close::{Closing, ClosingObject};
 use crate::gate::Gate;
 use crate::gather::{Gathered, Gathering};
 use crate::listen::{SessionResult, serve_all};
 use crate::open::ServedObjects;
-use crate::opened::NotOpened;
-use crate::opening::ObjectOpening;
 use crate::serve::{ServeEnd, tell_refused};
-use crate::trouble::Trouble;
 use decl_core::analyse::Accepted;
 use device_core::ahead::Ends;
 use device_core::hand::Hand;
 use device_core::shelf::Shelf;
+use keep_core::close::{Closing, ClosingObject};
+use keep_core::open::NotOpened;
+use keep_core::opening::ObjectOpening;
+use keep_core::trouble::Trouble;
 use session_core::order::Named;
 use std::alloc::{AllocError, Global};
 use std::io::Write;

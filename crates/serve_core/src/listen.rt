@@ -5,10 +5,10 @@ ghost use Rattle.session_core.specs.Truth.{AreTrue};
 
 use crate::backed::Backed;
 use crate::gate::Door;
-use crate::trouble::fault_of;
 use crossbeam_channel::Receiver;
 use device_core::ahead::Ends;
 use device_core::hand::Hand;
+use keep_core::trouble::fault_of;
 use office_core::seat::Seat;
 use session_core::end::SessionEnd;
 use session_core::fault::SessionFault;

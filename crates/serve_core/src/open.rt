@@ -8,11 +8,11 @@ ghost use Rattle.serve_core.specs.Opened.{AreLoadedAll, ArePinnedAll};
 ghost use Rattle.serve_core.specs.Runs.{named_in, IsNotOpenedOf};
 
 use crate::host::Host;
-use crate::opened::{NotOpened, Opened};
-use crate::opening::ObjectOpening;
 use decl_core::analyse::Accepted;
 use device_core::hand::Hand;
 use device_core::shelf::Shelf;
+use keep_core::open::{NotOpened, Opened};
+use keep_core::opening::ObjectOpening;
 use session_core::order::Named;
 use value_core::LinesFault;
 

@@ -2,10 +2,10 @@
 
 use crate::make::{CELL, ZERO, offices};
 use device_core::memory::MemHand;
+use keep_core::trouble::Trouble;
 use serve_core::backed::Backed;
 use serve_core::gather::Gathering;
 use serve_core::listen::{SessionLeavings, SessionResult};
-use serve_core::trouble::Trouble;
 use session_core::fault::SessionFault;
 use std::alloc::Global;
 use std::process::Abort;

@@ -2,7 +2,7 @@ use Rattle.std.proofs.Common.{◌≡◌, length}
 use Rattle.std.specs.Vec.Iter.{into_iter_items, into_iter_len}
 use Rattle.serve_core.specs.Gathers.{slips_in}
 use Rattle.serve_core.specs.Runs.{named_in}
-use Rattle.serve_core.specs.Moments.{moment_of}
+use Rattle.keep_core.specs.Moments.{moment_of}
 use Rattle.serve_core.proofs.Closing.{due_of, ClosedSoFar}
 use Rattle.serve_core.proofs.host.close_all.Given as goal
 

@@ -1,5 +1,5 @@
 use Rattle.std.proofs.Common.{Ok, Err}
-use Rattle.serve_core.proofs.Telling.{write_told}
+use Rattle.keep_core.proofs.Telling.{write_told}
 use Rattle.serve_core.proofs.serve.tell_refused.Goals as goal
 
 pub returns-in-Ok-clause-by : goal.returns-in-Ok-clause-by

@@ -1,6 +1,6 @@
 use Rattle.std.proofs.Common.{sym, arith}
 use Rattle.std.proofs.lemmas.Bool.{false≢true}
-use Rattle.serve_core.proofs.Keeping.{on_ok, on_err}
+use Rattle.keep_core.proofs.Keeping.{on_ok, on_err}
 use Rattle.serve_core.proofs.Gathering.{put_past, put_set, keep_set}
 use Rattle.serve_core.proofs.gather.Gathering.put.Goals as goal
 

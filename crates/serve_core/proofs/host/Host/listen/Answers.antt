@@ -1,6 +1,6 @@
 use Rattle.std.proofs.Common.{[], Ok}
 use Rattle.value_core.specs.declared.machine.LinesFault.TheVariants.{Memory}
-use Rattle.serve_core.proofs.Telling.{line_told, write_told}
+use Rattle.keep_core.proofs.Telling.{line_told, write_told}
 use Rattle.serve_core.proofs.Running.{none_said}
 use Rattle.serve_core.specs.Runs.{listening_line}
 use Rattle.serve_core.proofs.host.Host.listen.Goals as goal

@@ -1,0 +1,12 @@
+pub mod Ends
+pub mod Kept
+pub mod Laws
+pub mod Lines
+pub mod Marks
+pub mod Moments
+pub mod Opening
+pub mod Troubles
+pub mod First
+pub mod Saved
+pub mod Ending
+pub mod Behind

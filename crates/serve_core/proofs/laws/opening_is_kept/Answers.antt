@@ -1,5 +1,0 @@
-use Rattle.serve_core.proofs.Law.{opening_is_kept}
-use Rattle.serve_core.proofs.laws.opening_is_kept.Goals as goal
-
-pub returns : goal.returns
-returns c = opening_is_kept

@@ -1,9 +1,0 @@
-use Rattle.std.proofs.Common.{◌≡◌, length}
-use Rattle.serve_core.specs.Marks.{marked}
-use Rattle.serve_core.proofs.marks.mark_all.Given as goal
-
-abbrev pub invariant-all : goal.invariant-all
-invariant-all l = marked l.row l.rest ≡ marked l.fn.row l.slips
-
-abbrev pub decreases-all : goal.decreases-all
-decreases-all l = length l.rest
