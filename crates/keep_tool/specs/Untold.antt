@@ -1,9 +1,11 @@
--- How the program ends that was to keep objects, where it could not read what was done before.
+-- How the program ends that was to keep objects, where it could not begin.
 use Rattle.std.specs.Prelude.{◌≡◌, ⊤}
 use Rattle.clap.specs.Values.{kind_of}
 use Rattle.clap.specs.declared.error.kind.ErrorKind.TheVariants as kinds
 use Rattle.answer_core.specs.declared.failure.ToolFailure.{ToolFailure}
 use Rattle.answer_core.specs.declared.failure.ToolFailure.TheVariants as failures
+use Rattle.command_line.specs.Watching.{IsWatched, Sorted}
+use Rattle.command_line.specs.declared.watching.Watching.{Watching}
 
 -- a want of memory, with status 4, or a mistake in a value of `--past`, with status 2
 abbrev pub IsUntold : ToolFailure → Type 0
@@ -11,3 +13,18 @@ IsUntold (failures.Usage error) = kind_of error ≡ kinds.ValueValidation
 IsUntold failures.ReadFault = ⊥
 IsUntold failures.WriteFault = ⊥
 IsUntold failures.Memory = ⊤
+
+-- a failure of a start: 2 for a mistake in a value of an option, 3 or 4 for a fault
+abbrev pub IsUnbegun : ToolFailure → Type 0
+IsUnbegun (failures.Usage error) = kind_of error ≡ kinds.ValueValidation
+IsUnbegun failures.ReadFault = ⊤
+IsUnbegun failures.WriteFault = ⊤
+IsUnbegun failures.Memory = ⊤
+
+-- a want of memory, or a mistake in an option that these words have
+abbrev pub IsUnwatched : Sorted → ToolFailure → Type 0
+IsUnwatched words (failures.Usage error) =
+    (kind_of error ≡ kinds.ValueValidation) × ((watching : Watching) → IsWatched words watching → ⊥)
+IsUnwatched words failures.ReadFault = ⊥
+IsUnwatched words failures.WriteFault = ⊥
+IsUnwatched words failures.Memory = ⊤

@@ -1,5 +1,8 @@
 //! What was done of objects before a first start.
 
+ghost use Rattle.std.specs.Prelude.{IfOk};
+ghost use Rattle.keep_tool.specs.Untold.{IsUnbegun};
+
 use crate::lines::object_line;
 use answer_core::failure::ToolFailure;
 use command_line::mistakes::past_error;
@@ -57,7 +60,9 @@ pub(crate) fn told_twice(
     alloc: Global,
     name: &str,
     past: &Past<'_>,
-) -> Result<ToolFailure, AllocError> {
+) -> Result<ToolFailure, AllocError>
+    ensures { IfOk result IsUnbegun }
+{
     let Past {
         object,
         operation,

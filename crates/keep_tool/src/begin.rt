@@ -1,5 +1,8 @@
 //! Objects of a server that stays, begun: behind their journals, or with their parts.
 
+ghost use Rattle.std.specs.Prelude.{IfErr};
+ghost use Rattle.keep_tool.specs.Untold.{IsUnbegun};
+
 use crate::before::{done_before, first_past, strangers, told_twice};
 use crate::custody::{AllRules, add_held, begin_held};
 use crate::ending::say;
@@ -67,7 +70,9 @@ struct StartPlace<'a, 'b> {
 }
 
 // The lines of a journal in a folder, which is made where it is missing.
-fn journal_lines(rt: &HostRuntime, folder: &str, name: &str) -> Result<Vec<u8>, ToolFailure> {
+fn journal_lines(rt: &HostRuntime, folder: &str, name: &str) -> Result<Vec<u8>, ToolFailure>
+    ensures { IfErr result IsUnbegun }
+{
     let mut file = FolderFile::open(*rt, folder, name)?;
     match lines_of(rt.alloc(), &mut file) {
         Ok(lines) => Ok(lines),
@@ -84,7 +89,9 @@ fn begin_one<E: Write>(
     rules: &Rules,
     shelf: &mut DirShelf<HostRuntime>,
     log: &mut Log<HostRuntime, E>,
-) -> Result<Begun, ToolFailure> {
+) -> Result<Begun, ToolFailure>
+    ensures { IfErr result IsUnbegun }
+{
     let alloc = place.rt.alloc();
     let lines = journal_lines(place.rt, place.folder, name)?;
     if lines.is_empty() {
@@ -108,7 +115,9 @@ fn begin_recovered<E: Write>(
     rules: &Rules,
     lines: &[u8],
     log: &mut Log<HostRuntime, E>,
-) -> Result<Begun, ToolFailure> {
+) -> Result<Begun, ToolFailure>
+    ensures { IfErr result IsUnbegun }
+{
     match begin_held(alloc, object, rules, lines)? {
         Ok((hosted, held)) => {
             log.recovered(name.as_bytes(), lines.len() as u64, count_lines(lines));
@@ -127,7 +136,9 @@ fn begin_new(
     name: &str,
     pasts: &[Past<'_>],
     shelf: &mut DirShelf<HostRuntime>,
-) -> Result<Begun, ToolFailure> {
+) -> Result<Begun, ToolFailure>
+    ensures { IfErr result IsUnbegun }
+{
     let done = match done_before(alloc, &object, name, pasts)? {
         Ok(done) => done,
         Err(line) => return Ok(Begun::Told(line)),
@@ -143,7 +154,9 @@ fn begin_new(
     }
 }
 
-fn name_of(alloc: Global, object: &Object) -> Result<String, ToolFailure> {
+fn name_of(alloc: Global, object: &Object) -> Result<String, ToolFailure>
+    ensures { IfErr result IsUnbegun }
+{
     match String::from_utf8(object.name.as_bytes().to_vec(alloc)?) {
         Ok(name) => Ok(name),
         Err(_) => Err(ToolFailure::ReadFault),
@@ -218,7 +231,9 @@ impl KeepStart {
         object: Object,
         shelf: &mut DirShelf<HostRuntime>,
         log: &mut Log<HostRuntime, E>,
-    ) -> Result<(), ToolFailure> {
+    ) -> Result<(), ToolFailure>
+        ensures { IfErr result IsUnbegun }
+    {
         let alloc = place.rt.alloc();
         let name = name_of(alloc, &object)?;
         let own = self.rules.next(alloc);
@@ -247,7 +262,9 @@ fn begin_each<E: Write>(
     accepted: Vec<Accepted>,
     start: &mut KeepStart,
     log: &mut Log<HostRuntime, E>,
-) -> Result<(), ToolFailure> {
+) -> Result<(), ToolFailure>
+    ensures { IfErr result IsUnbegun }
+{
     let mut shelf = DirShelf::new(*place.rt, place.folder)?;
     for one in accepted {
         start.begin(place, one.into_object(), &mut shelf, log)?;
@@ -261,7 +278,9 @@ fn begin_all<E: Write>(
     accepted: Vec<Accepted>,
     rules: Vec<Rules>,
     log: &mut Log<HostRuntime, E>,
-) -> Result<Result<KeptObjects, Vec<u8>>, ToolFailure> {
+) -> Result<Result<KeptObjects, Vec<u8>>, ToolFailure>
+    ensures { IfErr result IsUnbegun }
+{
     let alloc = place.rt.alloc();
     let unknown = strangers(alloc, &accepted, place.pasts)?;
     if !unknown.is_empty() {
@@ -324,7 +343,9 @@ fn begin_accepted<W: Write, E: Write, L: Write>(
     writer: &mut W,
     error: &mut E,
     log: &mut Log<HostRuntime, L>,
-) -> Result<Option<KeptObjects>, ToolFailure> {
+) -> Result<Option<KeptObjects>, ToolFailure>
+    ensures { IfErr result IsUnbegun }
+{
     let stuck = stuck_lines(place.rt.alloc(), &accepted)?;
     match begin_all(place, accepted, rules, log)? {
         Ok(kept) => {
@@ -356,7 +377,9 @@ pub fn begin_source<W: Write, E: Write, L: Write>(
     writer: &mut W,
     error: &mut E,
     log: &mut Log<HostRuntime, L>,
-) -> Result<Option<KeptObjects>, ToolFailure> {
+) -> Result<Option<KeptObjects>, ToolFailure>
+    ensures { IfErr result IsUnbegun }
+{
     let alloc = rt.alloc();
     match judge(alloc, source)? {
         JudgedSource::Ready(accepted) => {

@@ -1,5 +1,8 @@
 //! Where a server that stays listens.
 
+ghost use Rattle.std.specs.Prelude.{IfErr};
+ghost use Rattle.answer_core.specs.Status.{IsFault};
+
 use crate::ending::say;
 use answer_core::failure::ToolFailure;
 use answer_core::lack::{Lacking, Wanted};
@@ -15,7 +18,9 @@ use std::net::{Ipv4Addr, TcpListener};
 pub(crate) fn ears_at(
     rt: &HostRuntime,
     address: Address<'_>,
-) -> Result<(Ears, Option<Socket>), Lacking> {
+) -> Result<(Ears, Option<Socket>), Lacking>
+    ensures { IfErr result (λ lacking. IsFault lacking.failure) }
+{
     match address {
         Address::Port(port) => match port_at(rt, port) {
             Ok(listener) => Ok((Ears::Port(listener), None)),
@@ -53,7 +58,9 @@ pub(crate) fn tell_place<W: Write>(
     alloc: Global,
     asked: Keeping<'_>,
     writer: &mut W,
-) -> Result<(), ToolFailure> {
+) -> Result<(), ToolFailure>
+    ensures { IfErr result IsFault }
+{
     let place = place_text(alloc, asked)?;
     let line = format!(in alloc; "listening {place}\n")?;
     say(writer, line.as_bytes())

@@ -1,6 +1,7 @@
 //! How objects that were served end.
 
-ghost use Rattle.std.specs.Prelude.{OnOk};
+ghost use Rattle.std.specs.Prelude.{◌≡◌, IfErr, OnOk};
+ghost use Rattle.answer_core.specs.declared.failure.ToolFailure.TheVariants.{WriteFault};
 ghost use Rattle.device_core.specs.Papers.{Papers};
 ghost use Rattle.keep_core.specs.Ending.{ObjectsAreSaved};
 
@@ -14,7 +15,9 @@ use std::io::Write;
 use value_core::write_whole;
 
 // Writes a line whole.
-pub(crate) fn say<W: Write>(writer: &mut W, line: &[u8]) -> Result<(), ToolFailure> {
+pub(crate) fn say<W: Write>(writer: &mut W, line: &[u8]) -> Result<(), ToolFailure>
+    ensures { IfErr result (λ failure. failure ≡ WriteFault) }
+{
     match write_whole(writer, line) {
         Ok(()) => Ok(()),
         Err(_) => Err(ToolFailure::WriteFault),

@@ -1,5 +1,8 @@
 //! What is told of objects that are not begun with.
 
+ghost use Rattle.std.specs.Prelude.{IfErr};
+ghost use Rattle.keep_tool.specs.Untold.{IsUnbegun};
+
 use answer_core::failure::ToolFailure;
 use audit_core::verdict::AuditFault as TraceFault;
 use decl_core::object::Object;
@@ -65,7 +68,9 @@ pub(crate) fn told_line(
     object: &Object,
     name: &str,
     why: NotBegun,
-) -> Result<Vec<u8>, ToolFailure> {
+) -> Result<Vec<u8>, ToolFailure>
+    ensures { IfErr result IsUnbegun }
+{
     let line = match why {
         NotBegun::Refused(fault) => refused_line(alloc, name, fault)?,
         NotBegun::NoPast => object_line(alloc, name, b" past does not fit\n")?,

@@ -1,5 +1,10 @@
 //! What a server that stays needs: its source with its rules, its folder, and the place where clients connect.
 
+ghost use Rattle.std.specs.Prelude.{IfErr, IfOk};
+ghost use Rattle.answer_core.specs.Status.{IsFault};
+ghost use Rattle.command_line.specs.Watching.{IsWatched, sorted_of};
+ghost use Rattle.keep_tool.specs.Untold.{IsUnwatched};
+
 use crate::ears::ears_at;
 use answer_core::failure::ToolFailure;
 use answer_core::inputs::{lock_folder, source_at};
@@ -31,7 +36,10 @@ pub struct KeepNeeds {
 
 /// What the command line says of the log and the status of a server, and of clients that are gone. A failure is `Usage`
 /// where it says something else, or `Memory`.
-pub fn watching_of(alloc: Global, words: &Apart<'_>) -> Result<Watching, ToolFailure> {
+pub fn watching_of(alloc: Global, words: &Apart<'_>) -> Result<Watching, ToolFailure>
+    ensures ok { IfOk result (λ watching. IsWatched (sorted_of words.now) watching) }
+    ensures odd { IfErr result (IsUnwatched (sorted_of words.now)) }
+{
     match words.watching() {
         Ok(watching) => Ok(watching),
         Err(
@@ -45,7 +53,9 @@ pub fn watching_of(alloc: Global, words: &Apart<'_>) -> Result<Watching, ToolFai
 }
 
 // The source with its rules. Where it lacks the file, or the source has a fault, that is told.
-fn source_of(rt: &HostRuntime, asked: Keeping<'_>) -> Result<Ruled, ToolFailure> {
+fn source_of(rt: &HostRuntime, asked: Keeping<'_>) -> Result<Ruled, ToolFailure>
+    ensures { IfErr result IsFault }
+{
     let source = match source_at(rt, asked.file) {
         Ok(source) => source,
         Err(lacking) => return Err(told(rt, lacking, asked.file)),
@@ -57,7 +67,9 @@ fn source_of(rt: &HostRuntime, asked: Keeping<'_>) -> Result<Ruled, ToolFailure>
 /// told. Where the holds of the source have a fault that is told, and nothing is given.
 ///
 /// A failure is `ReadFault` where it lacks something, `WriteFault` where a line could not be written, or `Memory`.
-pub fn needs_of(rt: &HostRuntime, asked: Keeping<'_>) -> Result<Option<KeepNeeds>, ToolFailure> {
+pub fn needs_of(rt: &HostRuntime, asked: Keeping<'_>) -> Result<Option<KeepNeeds>, ToolFailure>
+    ensures { IfErr result IsFault }
+{
     let (source, rules) = match source_of(rt, asked)? {
         Ruled::By(source, rules) => (source, rules),
         Ruled::Told(_) => return Ok(None),

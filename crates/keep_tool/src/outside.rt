@@ -1,6 +1,7 @@
 //! What is outside of the objects of a server that stays.
 
-ghost use Rattle.std.specs.Prelude.{◌≡◌, None, Some};
+ghost use Rattle.std.specs.Prelude.{◌≡◌, IfErr, None, Some};
+ghost use Rattle.answer_core.specs.Status.{IsFault};
 ghost use Rattle.command_line.specs.declared.watching.LogForm.TheVariants.{None as NoLog, Text as TextLog, Json as JsonLog};
 ghost use Rattle.keep_log.specs.declared.line.LineForm.TheVariants.{Text, Json};
 
@@ -139,7 +140,9 @@ fn outside_of(
     watching: Watching,
     listener: ClientListener,
     start: u64,
-) -> Result<AllOutside, ToolFailure> {
+) -> Result<AllOutside, ToolFailure>
+    ensures { IfErr result IsFault }
+{
     let alloc = rt.alloc();
     let traces = u64::from(asked.traces).saturating_mul(MEGABYTE);
     let begun = Journals::begin(*rt, asked.folder, names, fronts, ROOM, traces);
@@ -171,7 +174,9 @@ pub fn begin_outside<W: Write, L: Write>(
     start: u64,
     writer: &mut W,
     log: &mut Log<HostRuntime, L>,
-) -> Result<AllOutside, ToolFailure> {
+) -> Result<AllOutside, ToolFailure>
+    ensures { IfErr result IsFault }
+{
     let alloc = rt.alloc();
     let outside = outside_of(rt, names, fronts, asked, watching, listener, start)?;
     tell_place(alloc, asked, writer)?;

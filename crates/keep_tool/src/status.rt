@@ -1,5 +1,9 @@
 //! The file of a status.
 
+ghost use Rattle.std.specs.Prelude.{◌≡◌, IfErr};
+ghost use Rattle.std.specs.IoError.{error_kind};
+ghost use Rattle.std.specs.declared.io.ErrorKind.TheVariants.{OutOfMemory};
+
 use keep_log::log::Log;
 use keep_log::sink::Sink;
 use std::fs::{self, File};
@@ -67,7 +71,9 @@ impl<E: Write + Drop> StatusFile<E> {
         rt: &HostRuntime,
         folder: &str,
         log: Log<HostRuntime, E>,
-    ) -> io::Result<StatusFile<E>> {
+    ) -> io::Result<StatusFile<E>>
+        ensures { IfErr result (λ error. error_kind error ≡ OutOfMemory) }
+    {
         Ok(StatusFile {
             rt: *rt,
             path: format!(in rt.alloc(); "{folder}/status.prom")?,
