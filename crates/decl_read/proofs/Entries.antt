@@ -5,18 +5,19 @@ use Rattle.path_tree.specs.Lexeme.{Lexeme, symbol, identifier}
 use Rattle.path_tree.specs.Reading.{symbol_at}
 use Rattle.path_tree.proofs.Found.{symbol_found}
 use Rattle.value_core.specs.declared.kind.Kind.{Kind}
-use Rattle.decl_read.specs.Reading.{Names, is_known}
+use Rattle.token_read.specs.Names.{Names, is_known}
 use Rattle.decl_core.specs.ObjectForm.{OperationForm}
-use Rattle.decl_read.specs.Series.{IsSeries, series_at}
-use Rattle.decl_read.specs.Statements.{IsStmts}
-use Rattle.decl_read.specs.Declarations.{IsParams, IsEntry, a_procedure, a_function, begins, is_parameter, names_before, names_within, names_in_function, with_params}
+use Rattle.token_read.specs.Series.{IsSeries, series_at}
+use Rattle.body_read.specs.Statements.{IsStmts}
+use Rattle.decl_parts.specs.Declarations.{IsParams, begins, with_params}
+use Rattle.decl_read.specs.Declarations.{IsEntry, a_procedure, a_function, is_parameter, names_before, names_within, names_in_function}
 use Rattle.decl_core.specs.ObjectForm.{operation_with}
 use Rattle.decl_read.specs.DeclarationReading.{new_operation_in, procedure_in, function_in, entry_by, entry_in}
-use Rattle.decl_read.proofs.Exact.{Exact, bind_some, read_is, series_exact}
-use Rattle.decl_read.proofs.Fronts.{name_front, provided_is, is_false, neither_is, below, is_below, along}
-use Rattle.decl_read.proofs.KindsExact.{elem_found, elem_read}
-use Rattle.decl_read.proofs.ParamsExact.{params_exact}
-use Rattle.decl_read.proofs.StatementsFound.{body_exact}
+use Rattle.token_read.proofs.Exact.{Exact, bind_some, read_is, series_exact}
+use Rattle.decl_parts.proofs.Fronts.{name_front, provided_is, is_false, neither_is, below, is_below, along}
+use Rattle.decl_parts.proofs.KindsExact.{elem_found, elem_read}
+use Rattle.decl_parts.proofs.ParamsExact.{params_exact}
+use Rattle.body_read.proofs.StatementsFound.{body_exact}
 
 module _ (most : ℕ) (constants : List (List ℕ × ℕ)) (parts : List (List ℕ × Kind)) where
   -- a new name, in front

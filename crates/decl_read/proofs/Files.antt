@@ -8,16 +8,17 @@ use Rattle.path_tree.proofs.Found.{symbol_found}
 use Rattle.decl_read.specs.declared.collect.Opening.TheVariants as openings
 use Rattle.decl_core.specs.declared.object.Object.{Object}
 use Rattle.decl_core.specs.ObjectMap.{object_of, objects_of, object_names}
-use Rattle.decl_read.specs.Reading.{is_among, name_at}
+use Rattle.token_read.specs.Names.{is_among, name_at}
 use Rattle.decl_core.specs.ObjectForm.{ObjectForm}
-use Rattle.decl_read.specs.Series.{IsSeries, series_at}
-use Rattle.decl_read.specs.Declarations.{IsEntry, IsObject, object, IsNextObject, next_object, IsFile, file, begins, entry_names}
+use Rattle.token_read.specs.Series.{IsSeries, series_at}
+use Rattle.decl_read.specs.Declarations.{IsEntry, IsObject, object, IsNextObject, next_object, IsFile, file, entry_names}
+use Rattle.decl_parts.specs.Declarations.{begins}
 use Rattle.decl_read.specs.DeclarationReading.{contents_in, next_object_in, end_at, file_in}
-use Rattle.decl_read.proofs.Exact.{Exact, bind_some, read_is, series_exact}
-use Rattle.decl_read.proofs.Fronts.{name_front, provided_is, is_false, along}
-use Rattle.decl_read.proofs.ConstantsExact.{constants_exact}
-use Rattle.decl_read.proofs.PathItems.{paths_exact}
-use Rattle.decl_read.proofs.PartsExact.{parts_exact}
+use Rattle.token_read.proofs.Exact.{Exact, bind_some, read_is, series_exact}
+use Rattle.decl_parts.proofs.Fronts.{name_front, provided_is, is_false, along}
+use Rattle.decl_parts.proofs.ConstantsExact.{constants_exact}
+use Rattle.decl_parts.proofs.PathItems.{paths_exact}
+use Rattle.decl_parts.proofs.PartsExact.{parts_exact}
 use Rattle.decl_read.proofs.Entries.{entries_exact}
 use Rattle.decl_read.proofs.Lengths.{behind_exact}
 

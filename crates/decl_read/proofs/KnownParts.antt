@@ -12,11 +12,12 @@ use Rattle.decl_core.specs.ObjectForm.{OperationForm, operation_with}
 use Rattle.decl_core.specs.ObjectMap.{parts_of, operations_of}
 use Rattle.decl_core.specs.PartKinds.{AreKindsOf, EachKindsOf}
 use Rattle.decl_core.proofs.KnownKinds.{kinds_known}
-use Rattle.decl_read.specs.Declarations.{IsEntry, a_procedure, a_function, begins}
+use Rattle.decl_read.specs.Declarations.{IsEntry, a_procedure, a_function}
+use Rattle.decl_parts.specs.Declarations.{begins}
 use Rattle.decl_read.specs.DeclarationReading.{entry_in}
-use Rattle.decl_read.specs.Series.{series_at}
+use Rattle.token_read.specs.Series.{series_at}
 use Rattle.decl_read.proofs.Entries.{entries_exact}
-use Rattle.decl_read.proofs.Limits.{series_keeps}
+use Rattle.decl_parts.proofs.Limits.{series_keeps}
 
 -- each of these operations knows kinds of these parts
 abbrev Knows : List (List ℕ × Kind) → List OperationForm → Type 0

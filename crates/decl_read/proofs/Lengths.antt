@@ -7,14 +7,14 @@ use Rattle.path_tree.specs.declared.token.Symbol.TheVariants as symbols
 use Rattle.path_tree.specs.Lexeme.{Lexeme, lexemes, lexeme_of}
 use Rattle.path_tree.specs.Reading.{symbol_at}
 use Rattle.path_tree.proofs.Found.{symbol_found}
-use Rattle.decl_read.specs.Reader.{Reader}
-use Rattle.decl_read.specs.Reading.{name_at}
-use Rattle.decl_read.specs.Declarations.{IsConsts, begins}
-use Rattle.decl_read.specs.DeclarationReading.{consts_in}
-use Rattle.decl_read.specs.Series.{IsSeries, series_at}
-use Rattle.decl_read.proofs.Exact.{Exact}
-use Rattle.decl_read.proofs.ConstantsExact.{constants_exact}
-use Rattle.decl_read.proofs.Fronts.{name_front}
+use Rattle.token_read.specs.Reader.{Reader}
+use Rattle.token_read.specs.Names.{name_at}
+use Rattle.decl_parts.specs.Declarations.{IsConsts, begins}
+use Rattle.decl_parts.specs.DeclarationReading.{consts_in}
+use Rattle.token_read.specs.Series.{IsSeries, series_at}
+use Rattle.token_read.proofs.Exact.{Exact}
+use Rattle.decl_parts.proofs.ConstantsExact.{constants_exact}
+use Rattle.decl_parts.proofs.Fronts.{name_front}
 
 pub lexemes_long : (tokens : List Token) → length (lexemes tokens) ≡ length tokens
 lexemes_long tokens = length-map tokens (λ (t : Token). lexeme_of t.kind)

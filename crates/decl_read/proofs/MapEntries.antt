@@ -5,7 +5,7 @@ use Rattle.std.specs.Map.{keys_of, values_of, lookup}
 use Rattle.indexmap.specs.IndexMap.{IndexMap, keys, insert_entry}
 use Rattle.indexmap.proofs.CallerLemmas.{insert_entry-new}
 use Rattle.decl_core.specs.declared.object.Object.{Object}
-use Rattle.decl_read.specs.Reading.{is_among}
+use Rattle.token_read.specs.Names.{is_among}
 use Rattle.decl_core.specs.ObjectMap.{AreNamed, object_names}
 
 module _ {X : Type 0} (bytes : List ℕ) where

@@ -8,11 +8,12 @@ use Rattle.path_tree.specs.Lexeme.{Lexeme, symbol, end_mark}
 use Rattle.path_tree.specs.Reading.{symbol_at}
 use Rattle.path_tree.proofs.Found.{symbol_found}
 use Rattle.value_core.specs.declared.kind.Kind.{Kind}
-use Rattle.decl_read.specs.Reading.{Names}
+use Rattle.token_read.specs.Names.{Names}
 use Rattle.decl_core.specs.ObjectForm.{OperationForm, ObjectForm}
-use Rattle.decl_read.specs.Series.{IsSeries, no_more, and_another}
-use Rattle.decl_read.specs.Declarations.{begins, IsConsts, IsPathItem, a_path, IsVar, with_params, names_within, names_in_function, IsEntry, a_procedure, a_function, IsObject, object, IsNextObject, next_object, IsFile, file}
-use Rattle.decl_read.specs.Scopes.{operation_names}
+use Rattle.token_read.specs.Series.{IsSeries, no_more, and_another}
+use Rattle.decl_parts.specs.Declarations.{begins, IsConsts, IsPathItem, a_path, IsVar, with_params}
+use Rattle.decl_read.specs.Declarations.{names_within, names_in_function, IsEntry, a_procedure, a_function, IsObject, object, IsNextObject, next_object, IsFile, file}
+use Rattle.token_read.specs.Scopes.{operation_names}
 use Rattle.decl_core.specs.ObjectForm.{operation_with}
 use Rattle.decl_read.specs.ObjectLaws.{IsObjectByOperations, object_by, IsNextByOperations, next_by, IsFileByOperations, IsPathOver, EachOver, EachNamed}
 use Rattle.decl_read.proofs.SkippedTexts.{names_in}

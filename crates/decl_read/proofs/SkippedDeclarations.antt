@@ -6,9 +6,9 @@ use Rattle.path_tree.specs.Path.{Path}
 use Rattle.path_tree.specs.Lexeme.{Lexeme, symbol}
 use Rattle.value_core.specs.declared.kind.Elem.{Elem}
 use Rattle.value_core.specs.declared.kind.Kind.{Kind}
-use Rattle.decl_read.specs.Reading.{Names}
-use Rattle.decl_read.specs.Series.{IsSeries, no_more, and_another}
-use Rattle.decl_read.specs.Declarations.{begins, begins_name, IsConstant, constant, IsConsts, consts, IsPathItem, a_path, IsSize, by_number, by_constant, IsElem, integer, text, IsKind, an_array, a_queue, a_table, IsNames, last_name, name_and, names_of_parts, with_params, IsPartGroup, part_group, IsVar, var, IsGroup, group, IsNextGroup, next_group, IsParams, no_params, some_params}
+use Rattle.token_read.specs.Names.{Names}
+use Rattle.token_read.specs.Series.{IsSeries, no_more, and_another}
+use Rattle.decl_parts.specs.Declarations.{begins, begins_name, IsConstant, constant, IsConsts, consts, IsPathItem, a_path, IsSize, by_number, by_constant, IsElem, integer, text, IsKind, an_array, a_queue, a_table, IsNames, last_name, name_and, names_of_parts, with_params, IsPartGroup, part_group, IsVar, var, IsGroup, group, IsNextGroup, next_group, IsParams, no_params, some_params}
 use Rattle.decl_read.proofs.SkippedTexts.{names_in, list_skipped}
 
 -- Where each item declares what it adds, a series does.

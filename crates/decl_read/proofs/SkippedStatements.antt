@@ -5,8 +5,8 @@ use Rattle.path_tree.specs.declared.token.Symbol.TheVariants as symbols
 use Rattle.path_tree.specs.Lexeme.{Lexeme, symbol}
 use Rattle.decl_core.specs.declared.stmt.Relation.{Relation}
 use Rattle.decl_core.specs.Form.{Condition, Statement, Statements, an_integer, a_text}
-use Rattle.decl_read.specs.Reading.{Names}
-use Rattle.decl_read.specs.Statements.{IsRelation, equal, differ, less, less_equal, greater, greater_equal, IsCond, comparison, a_has, a_not, IsStmt, no_statement, a_block, an_element, a_result, an_append, a_take, a_store, an_erase, an_if, an_if_else, a_refuse, IsStmts, last, and_more}
+use Rattle.token_read.specs.Names.{Names}
+use Rattle.body_read.specs.Statements.{IsRelation, equal, differ, less, less_equal, greater, greater_equal, IsCond, comparison, a_has, a_not, IsStmt, no_statement, a_block, an_element, a_result, an_append, a_take, a_store, an_erase, an_if, an_if_else, a_refuse, IsStmts, last, and_more}
 use Rattle.decl_read.proofs.SkippedTexts.{names_in, expr_before}
 
 relation_skipped : (s : Symbol) (r : Relation) (rest : List Lexeme) → IsRelation s r → names_in (symbol s ∷ rest) ≡ names_in rest

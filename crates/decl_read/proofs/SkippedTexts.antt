@@ -5,8 +5,8 @@ use Rattle.path_tree.specs.Lexeme.{Lexeme, symbol}
 use Rattle.path_tree.specs.Grammar.{Limit, a_number as number_limit, a_constant, ListText, last_seq, seq_and, SeqText, last_item, item_and, ItemText, operation, limited, in_burst, in_group, limit_lexeme, list_lexemes, seq_lexemes, item_lexemes}
 use Rattle.decl_read.specs.declared.collect.Opening.TheVariants as openings
 use Rattle.decl_core.specs.Form.{Form}
-use Rattle.decl_read.specs.Reading.{Names}
-use Rattle.decl_read.specs.Grammar.{ExprText, terms, MoreText, no_more, and_more, TermText, a_number, a_string, a_name, an_element, a_first, a_lookup, a_count, in_parens, sign_symbol, expr_lexemes, more_lexemes, term_lexemes, IsExprBefore}
+use Rattle.token_read.specs.Names.{Names}
+use Rattle.body_read.specs.Grammar.{ExprText, terms, MoreText, no_more, and_more, TermText, a_number, a_string, a_name, an_element, a_first, a_lookup, a_count, in_parens, sign_symbol, expr_lexemes, more_lexemes, term_lexemes, IsExprBefore}
 use Rattle.decl_read.specs.Declarations.{entry_names}
 
 -- the names of the entries that stand in these lexemes, up to the next object

@@ -9,10 +9,10 @@ use Rattle.path_tree.specs.Lexeme.{lexemes, lexeme_of}
 use Rattle.path_tree.specs.Tokens.{Placed, placed_tokens, AreTokens}
 use Rattle.decl_read.specs.declared.fault.DeclFault.{DeclFault}
 use Rattle.decl_read.specs.declared.fault.DeclFault.TheVariants as faults
-use Rattle.decl_read.specs.declared.text_fault.TextFault.{TextFault}
-use Rattle.decl_read.specs.declared.text_fault.TextFault.TheVariants as text_faults
+use Rattle.token_read.specs.declared.text_fault.TextFault.{TextFault}
+use Rattle.token_read.specs.declared.text_fault.TextFault.TheVariants as text_faults
 use Rattle.std.specs.Prelude.{Result, Ok, Err}
-use Rattle.decl_read.specs.Reader.{Fails}
+use Rattle.token_read.specs.Reader.{Fails}
 use Rattle.decl_core.specs.ObjectForm.{ObjectForm}
 use Rattle.decl_read.specs.Sources.{AreObjectsOf, lex_fault_told, text_fault_told}
 use Rattle.decl_read.specs.Declarations.{IsFile}

@@ -4,12 +4,3 @@ pub mod DeclarationReading
 pub mod Sources
 pub mod ObjectLaws
 pub mod Views
-pub mod Reader
-pub mod Reading
-pub mod Grammar
-pub mod Series
-pub mod Statements
-pub mod StatementReading
-pub mod DeclaredTypes
-pub mod Scopes
-pub mod Starts

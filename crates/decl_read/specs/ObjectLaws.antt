@@ -5,11 +5,12 @@ use Rattle.path_tree.specs.Path.{Path}
 use Rattle.path_tree.specs.Lexeme.{Lexeme, symbol, identifier, end_mark}
 use Rattle.path_tree.specs.Grammar.{IsPathAt}
 use Rattle.value_core.specs.declared.kind.Kind.{Kind}
-use Rattle.decl_read.specs.Reading.{is_among}
-use Rattle.decl_read.specs.Series.{IsSeries}
+use Rattle.token_read.specs.Names.{is_among}
+use Rattle.token_read.specs.Series.{IsSeries}
 use Rattle.decl_core.specs.ObjectForm.{OperationForm, ObjectForm}
-use Rattle.decl_read.specs.Declarations.{begins, IsConsts, IsPathItem, IsVar, IsEntry, IsFile}
-use Rattle.decl_read.specs.Scopes.{operation_names}
+use Rattle.decl_parts.specs.Declarations.{begins, IsConsts, IsPathItem, IsVar}
+use Rattle.decl_read.specs.Declarations.{IsEntry, IsFile}
+use Rattle.token_read.specs.Scopes.{operation_names}
 
 -- An object of the grammar, but that its paths may use the names of its operations.
 pub data IsObjectByOperations : List Lexeme → ObjectForm → List Lexeme → Type 0 where

@@ -11,8 +11,8 @@ use Rattle.decl_core.specs.ObjectForm.{ObjectForm}
 use Rattle.decl_core.specs.ObjectMap.{object_of, objects_of}
 use Rattle.decl_read.specs.declared.fault.DeclFault.{DeclFault}
 use Rattle.decl_read.specs.declared.fault.DeclFault.TheVariants as faults
-use Rattle.decl_read.specs.declared.text_fault.TextFault.{TextFault}
-use Rattle.decl_read.specs.declared.text_fault.TextFault.TheVariants as text_faults
+use Rattle.token_read.specs.declared.text_fault.TextFault.{TextFault}
+use Rattle.token_read.specs.declared.text_fault.TextFault.TheVariants as text_faults
 use Rattle.decl_read.specs.Declarations.{IsFile}
 
 -- what was read, and what stands behind

@@ -2,7 +2,7 @@
 
 ghost use Rattle.std.specs.Prelude.{◌≡◌, [], ◌∷◌, ◌++◌, IfOk, false};
 ghost use Rattle.std.specs.Map.{values_of};
-ghost use Rattle.decl_read.specs.Reading.{is_among};
+ghost use Rattle.token_read.specs.Names.{is_among};
 ghost use Rattle.decl_core.specs.ObjectMap.{AreNamed, object_names};
 
 use decl_core::object::Object;

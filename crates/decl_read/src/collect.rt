@@ -2,14 +2,14 @@
 
 ghost use Rattle.std.specs.Prelude.{◌≡◌, ◌++◌, Some};
 ghost use Rattle.path_tree.specs.Lexeme.{lexeme_of, lexemes};
-ghost use Rattle.decl_read.specs.Reader.{Gives};
+ghost use Rattle.token_read.specs.Reader.{Gives};
 ghost use Rattle.decl_read.specs.Declarations.{entry_names, is_entry, is_object_word, opening_after, name_behind};
 ghost use Rattle.decl_read.specs.declared.collect.Opening.TheVariants.{Nothing};
 
-use crate::text_fault::TextFault;
 use path_tree::name::Name;
 use path_tree::token::{Symbol, Token, TokenKind, is_same_symbol};
 use std::alloc::Global;
+use token_read::text_fault::TextFault;
 
 /// What stands directly before a token.
 #[derive(Clone, Copy)]

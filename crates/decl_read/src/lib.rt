@@ -1,28 +1,13 @@
-//! The reader of objects: the grammar of declarations and of bodies, and the objects that a source has by it.
+//! The reader of objects: the grammar of operations, of objects and of files, and the objects that a source has by it.
 //!
-//! `read::read_objects` reads a source. Of an operation `block::body` reads the statements, `terms` the expressions and
-//! `condition` the conditions, resolved by the names that are declared around them. `scope::Scope` is what they are read
-//! with, `text_fault::TextFault` why they were not read, and `fault` what is said of that.
+//! `read::read_objects` reads a source, and `fault` is what is said of it where it has no objects. Of an object
+//! `decl_parts` reads what is declared before its operations, and of an operation `body_read` reads the statements.
 #![tactic(auto)]
 
-pub mod block;
 mod catalog;
 mod collect;
-mod condition;
-mod constants;
 mod entry;
 pub mod fault;
-pub mod front;
-mod group;
-mod kind_text;
-mod kinds;
 pub mod laws;
-pub mod lookup;
 mod objects;
-mod params;
-mod parts;
-mod paths;
 pub mod read;
-pub mod scope;
-pub mod terms;
-pub mod text_fault;

@@ -3,27 +3,26 @@
 ghost use Rattle.std.specs.Prelude.{◌≡◌, ◌≤◌, length};
 ghost use Rattle.path_tree.specs.Lexeme.{lexemes};
 ghost use Rattle.path_tree.specs.declared.token.Symbol.TheVariants.{Object as ObjectWord};
-ghost use Rattle.decl_read.specs.Reader.{Gives};
-ghost use Rattle.decl_read.specs.Series.{series_at};
-ghost use Rattle.decl_read.specs.Declarations.{begins as begins_with};
+ghost use Rattle.token_read.specs.Reader.{Gives};
+ghost use Rattle.token_read.specs.Series.{series_at};
+ghost use Rattle.decl_parts.specs.Declarations.{begins as begins_with};
 ghost use Rattle.decl_read.specs.DeclarationReading.{contents_in, end_at, file_in, next_object_in};
 ghost use Rattle.decl_read.specs.Sources.{object_read, objects_read};
 ghost use Rattle.decl_core.specs.ObjectMap.{objects_of};
 
 use crate::catalog::Catalog;
 use crate::collect::operation_names;
-use crate::constants::constants;
 use crate::entry::entries;
-use crate::front::{after, behind, name, start_of};
-use crate::group::begins;
-use crate::parts::parts;
-use crate::paths::paths;
-use crate::terms::TextRead;
-use crate::text_fault::TextFault;
 use decl_core::object::Object;
+use decl_parts::constants::constants;
+use decl_parts::group::begins;
+use decl_parts::parts::parts;
+use decl_parts::paths::paths;
 use path_tree::name::Name;
 use path_tree::token::{Symbol, Token, TokenKind};
 use std::alloc::Global;
+use token_read::front::{after, behind, name, start_of};
+use token_read::text_fault::{TextFault, TextRead};
 
 /// The most objects of a source.
 pub const MOST_OBJECTS: u8 = 16;

@@ -12,13 +12,13 @@ ghost use Rattle.decl_read.specs.Sources.{AreObjectsOf, lex_fault_told, text_fau
 
 use crate::fault::DeclFault;
 use crate::objects::file;
-use crate::text_fault::TextFault;
 use decl_core::object::Object;
 use indexmap::IndexMap;
 use path_tree::lex::fault::LexFault;
 use path_tree::lex::lex;
 use path_tree::name::Name;
 use std::alloc::Global;
+use token_read::text_fault::TextFault;
 
 /// What the reader of objects tells where a source has no tokens.
 fn told(fault: LexFault) -> DeclFault

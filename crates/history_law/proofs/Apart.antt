@@ -5,7 +5,7 @@ use Rattle.std.proofs.lemmas.Bool.Decides.{eqb_tells}
 use Rattle.std.proofs.lemmas.Option.{same_Some}
 use Rattle.path_tree.specs.Known.{next}
 use Rattle.path_tree.specs.Lexeme.{Lexeme}
-use Rattle.decl_read.specs.Series.{IsSeries, no_more, and_another}
+use Rattle.token_read.specs.Series.{IsSeries, no_more, and_another}
 use Rattle.decl_core.specs.ObjectForm.{OperationForm}
 use Rattle.decl_core.specs.HoldForm.{HoldForm, EveryForm, is_one_of, named_in, ending_in}
 use Rattle.guest_core.specs.Held.{hold_ended}

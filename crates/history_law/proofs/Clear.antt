@@ -8,11 +8,11 @@ use Rattle.path_tree.specs.Lexeme.{Lexeme, symbol, number, identifier, string, e
 use Rattle.value_core.specs.declared.kind.Elem.{Elem}
 use Rattle.value_core.specs.declared.kind.Kind.{Kind}
 use Rattle.decl_core.specs.Form.{Form, Condition, Statement, Statements, an_integer, a_text}
-use Rattle.decl_read.specs.Grammar.{IsExprBefore, expr_lexemes}
-use Rattle.decl_read.specs.Reading.{Names}
-use Rattle.decl_read.specs.Series.{IsSeries, no_more, and_another}
-use Rattle.decl_read.specs.Statements.{IsCond, comparison, a_has, a_not, IsStmt, no_statement, a_block, an_element, a_result, an_append, a_take, a_store, an_erase, an_if, an_if_else, a_refuse, IsStmts, last, and_more}
-use Rattle.decl_read.specs.Declarations.{begins, begins_name, IsConstant, constant, IsConsts, consts, IsPathItem, a_path, IsKind, an_array, a_queue, a_table, IsNames, last_name, name_and, each_with, names_of_parts, with_params, IsPartGroup, part_group, IsVar, var, IsGroup, group, IsNextGroup, next_group, IsParams, no_params, some_params}
+use Rattle.body_read.specs.Grammar.{IsExprBefore, expr_lexemes}
+use Rattle.token_read.specs.Names.{Names}
+use Rattle.token_read.specs.Series.{IsSeries, no_more, and_another}
+use Rattle.body_read.specs.Statements.{IsCond, comparison, a_has, a_not, IsStmt, no_statement, a_block, an_element, a_result, an_append, a_take, a_store, an_erase, an_if, an_if_else, a_refuse, IsStmts, last, and_more}
+use Rattle.decl_parts.specs.Declarations.{begins, begins_name, IsConstant, constant, IsConsts, consts, IsPathItem, a_path, IsKind, an_array, a_queue, a_table, IsNames, last_name, name_and, each_with, names_of_parts, with_params, IsPartGroup, part_group, IsVar, var, IsGroup, group, IsNextGroup, next_group, IsParams, no_params, some_params}
 
 -- it holds of each item
 abbrev pub Each : {X : Type 0} → (X → Type 0) → List X → Type 0

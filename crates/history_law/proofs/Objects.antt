@@ -12,10 +12,11 @@ use Rattle.path_tree.proofs.Spelling.{lower_name}
 use Rattle.path_tree.proofs.Words.{word_identifier}
 use Rattle.value_core.specs.declared.kind.Kind.{Kind}
 use Rattle.decl_core.specs.ObjectForm.{OperationForm, ObjectForm, operation_with}
-use Rattle.decl_read.specs.Reading.{Names, found_in, is_among, is_known}
-use Rattle.decl_read.specs.Series.{IsSeries}
-use Rattle.decl_read.specs.Scopes.{operation_names}
-use Rattle.decl_read.specs.Declarations.{begins, IsPathItem, names_before, with_params, names_within, names_in_function, IsEntry, a_procedure, a_function, IsObject, object, IsNextObject, next_object, IsConsts, IsVar, IsFile, file}
+use Rattle.token_read.specs.Names.{Names, found_in, is_among, is_known}
+use Rattle.token_read.specs.Series.{IsSeries}
+use Rattle.token_read.specs.Scopes.{operation_names}
+use Rattle.decl_parts.specs.Declarations.{begins, IsPathItem, with_params, IsConsts, IsVar}
+use Rattle.decl_read.specs.Declarations.{names_before, names_within, names_in_function, IsEntry, a_procedure, a_function, IsObject, object, IsNextObject, next_object, IsFile, file}
 use Rattle.history_law.specs.Named.{IsNamed, ReadAreNamed}
 use Rattle.history_law.proofs.Clear.{Each, Clear, IsClear, HasName, each_push, all_each, series_clear, consts_clear, path_clear, var_clear, params_clear, stmts_clear}
 use Rattle.history_law.proofs.Placed.{AreFirst, first_push}

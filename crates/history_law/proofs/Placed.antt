@@ -3,7 +3,7 @@ use Rattle.std.proofs.Common.{◌≡◌, ◌⊎◌, inl, inr, ℕ, zero, suc, �
 use Rattle.std.specs.Prelude.{bytes_eq, if◌then◌else◌, slice_index_or, ◌||◌}
 use Rattle.std.proofs.lemmas.Slice.Eq.{bytes_eq-Decides}
 use Rattle.path_tree.specs.Known.{place_of, next}
-use Rattle.decl_read.specs.Reading.{is_among}
+use Rattle.token_read.specs.Names.{is_among}
 
 -- each name is the first of its bytes
 abbrev pub AreFirst : List (List ℕ) → Type 0

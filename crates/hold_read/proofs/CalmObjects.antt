@@ -6,10 +6,11 @@ use Rattle.path_tree.specs.Path.{Path}
 use Rattle.path_tree.specs.Lexeme.{Lexeme, symbol, number, identifier}
 use Rattle.value_core.specs.declared.kind.Elem.{Elem}
 use Rattle.value_core.specs.declared.kind.Kind.{Kind}
-use Rattle.decl_read.specs.Reading.{Names}
-use Rattle.decl_read.specs.Series.{IsSeries, no_more, and_another}
+use Rattle.token_read.specs.Names.{Names}
+use Rattle.token_read.specs.Series.{IsSeries, no_more, and_another}
 use Rattle.decl_core.specs.ObjectForm.{OperationForm, ObjectForm}
-use Rattle.decl_read.specs.Declarations.{begins, begins_name, IsConstant, constant, IsConsts, consts, IsPathItem, a_path, IsSize, by_number, by_constant, IsElem, integer, text, IsKind, an_array, a_queue, a_table, IsNames, last_name, name_and, names_of_parts, with_params, names_within, names_in_function, IsPartGroup, part_group, IsVar, var, IsGroup, group, IsNextGroup, next_group, IsParams, no_params, some_params, IsEntry, a_procedure, a_function, IsObject, object}
+use Rattle.decl_parts.specs.Declarations.{begins, begins_name, IsConstant, constant, IsConsts, consts, IsPathItem, a_path, IsSize, by_number, by_constant, IsElem, integer, text, IsKind, an_array, a_queue, a_table, IsNames, last_name, name_and, names_of_parts, with_params, IsPartGroup, part_group, IsVar, var, IsGroup, group, IsNextGroup, next_group, IsParams, no_params, some_params}
+use Rattle.decl_read.specs.Declarations.{names_within, names_in_function, IsEntry, a_procedure, a_function, IsObject, object}
 use Rattle.hold_read.proofs.CalmTexts.{seen, IsPlain, name_seen, list_seen, stmts_seen}
 
 -- what is seen through each item is seen through a series

@@ -7,10 +7,11 @@ use Rattle.path_tree.specs.Lexeme.{Lexeme, symbol, identifier}
 use Rattle.path_tree.specs.Grammar.{Limit, a_number as number_limit, a_constant, ListText, last_seq, seq_and, SeqText, last_item, item_and, ItemText, operation, limited, in_burst, in_group, limit_lexeme, list_lexemes, seq_lexemes, item_lexemes}
 use Rattle.decl_core.specs.declared.stmt.Relation.{Relation}
 use Rattle.decl_core.specs.Form.{Form, Condition, Statement, Statements, an_integer, a_text}
-use Rattle.decl_read.specs.Reading.{Names}
-use Rattle.decl_read.specs.Grammar.{ExprText, terms, MoreText, no_more, and_more as and_term, TermText, a_number, a_string, a_name, an_element as element_term, a_first, a_lookup, a_count, in_parens, sign_symbol, expr_lexemes, more_lexemes, term_lexemes, IsExprBefore}
-use Rattle.decl_read.specs.Statements.{IsRelation, equal, differ, less, less_equal, greater, greater_equal, IsCond, comparison, a_has, a_not, IsStmt, no_statement, a_block, an_element, a_result, an_append, a_take, a_store, an_erase, an_if, an_if_else, a_refuse, IsStmts, last, and_more}
-use Rattle.decl_read.specs.Declarations.{begins_name, is_object_word}
+use Rattle.token_read.specs.Names.{Names}
+use Rattle.body_read.specs.Grammar.{ExprText, terms, MoreText, no_more, and_more as and_term, TermText, a_number, a_string, a_name, an_element as element_term, a_first, a_lookup, a_count, in_parens, sign_symbol, expr_lexemes, more_lexemes, term_lexemes, IsExprBefore}
+use Rattle.body_read.specs.Statements.{IsRelation, equal, differ, less, less_equal, greater, greater_equal, IsCond, comparison, a_has, a_not, IsStmt, no_statement, a_block, an_element, a_result, an_append, a_take, a_store, an_erase, an_if, an_if_else, a_refuse, IsStmts, last, and_more}
+use Rattle.decl_parts.specs.Declarations.{begins_name}
+use Rattle.decl_read.specs.Declarations.{is_object_word}
 use Rattle.hold_read.specs.Sections.{begins_number, begins_rules, name_behind, number_behind}
 
 -- holds begin nowhere in these lexemes

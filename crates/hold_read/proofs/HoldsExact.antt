@@ -8,21 +8,21 @@ use Rattle.path_tree.specs.Lexeme.{Lexeme, symbol, number as number_lexeme, iden
 use Rattle.path_tree.specs.Reading.{symbol_at}
 use Rattle.path_tree.specs.Known.{place_of, next}
 use Rattle.path_tree.proofs.Found.{symbol_found}
-use Rattle.decl_read.specs.Reading.{name_at}
-use Rattle.decl_read.specs.Scopes.{operation_names}
-use Rattle.decl_read.specs.Series.{IsSeries, series_at}
-use Rattle.decl_read.proofs.Exact.{Exact, bind_some, read_is, series_exact}
+use Rattle.token_read.specs.Names.{name_at}
+use Rattle.token_read.specs.Scopes.{operation_names}
+use Rattle.token_read.specs.Series.{IsSeries, series_at}
+use Rattle.token_read.proofs.Exact.{Exact, bind_some, read_is, series_exact}
 use Rattle.decl_core.specs.ObjectForm.{OperationForm}
 use Rattle.decl_core.specs.HoldForm.{signatures_of, signature_of}
 use Rattle.decl_core.specs.HoldForm.{HoldForm, EveryForm, Signature, MayEnd, IsEvery, is_one_of, named_in, ending_in, called_in}
 use Rattle.hold_read.specs.declared.words.HoldKeyword.{HoldKeyword}
 use Rattle.hold_read.specs.declared.words.HoldKeyword.TheVariants as words
 use Rattle.hold_read.specs.Words.{word, word_text, word_at, begins_word}
-use Rattle.decl_read.specs.Declarations.{begins}
+use Rattle.decl_parts.specs.Declarations.{begins}
 use Rattle.hold_read.specs.Holds.{IsOperation, is_taken, IsUndo, undo, IsNextUndo, next_undo, IsUndos, undos, IsLoose, strict, loose, IsHoldItem, a_hold, IsEveryItem, an_every}
-use Rattle.decl_read.specs.DeclarationReading.{provided, number_at}
+use Rattle.decl_parts.specs.DeclarationReading.{provided, number_at}
 use Rattle.hold_read.specs.HoldReading.{operation_at, may_end, undo_in, next_undo_in, undos_in, loose_by, loose_in, hold_in, seconds_of, is_bare, every_in}
-use Rattle.decl_read.proofs.Fronts.{name_front, number_front, provided_is, is_false, neither_is, both_are, at_most, is_at_most, along}
+use Rattle.decl_parts.proofs.Fronts.{name_front, number_front, provided_is, is_false, neither_is, both_are, at_most, is_at_most, along}
 use Rattle.hold_read.proofs.HoldsFit.{end_found, end_read, bare_found, bare_read}
 
 chosen : (b : Bool) (x y : List ℕ) (ws rest : List Lexeme) → (b ≡ true → x ≡ y) → cond b (Some ws) None ≡ Some rest → identifier x ∷ ws ≡ identifier y ∷ rest

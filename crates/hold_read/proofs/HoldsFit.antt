@@ -8,7 +8,7 @@ use Rattle.decl_core.specs.ObjectForm.{OperationForm}
 use Rattle.decl_core.specs.HoldForm.{signatures_of, signature_of}
 use Rattle.decl_core.specs.HoldForm.{Signature, signature, reply_sorts, Fits, MayEnd}
 use Rattle.hold_read.specs.HoldReading.{same_elem, is_one_sort, takes_held, takes_none, replies_none, may_end_by, is_bare_by}
-use Rattle.decl_read.proofs.Fronts.{both_are}
+use Rattle.decl_parts.proofs.Fronts.{both_are}
 
 elem_same : (a b : Elem) → same_elem a b ≡ true → a ≡ b
 elem_same elem.Integer elem.Integer h = refl

@@ -7,9 +7,10 @@ use Rattle.path_tree.specs.Lexeme.{Lexeme, symbol, end_mark}
 use Rattle.path_tree.specs.Tokens.{Placed, AreTokens, end_at}
 use Rattle.path_tree.proofs.Gaps.{gap_le}
 use Rattle.path_tree.proofs.TokenLists.{tokens_few, one_list}
-use Rattle.decl_read.specs.Series.{IsSeries, no_more, and_another}
+use Rattle.token_read.specs.Series.{IsSeries, no_more, and_another}
 use Rattle.decl_core.specs.ObjectForm.{ObjectForm}
-use Rattle.decl_read.specs.Declarations.{begins, is_object_word, IsNextObject, next_object, IsFile, file}
+use Rattle.decl_parts.specs.Declarations.{begins}
+use Rattle.decl_read.specs.Declarations.{is_object_word, IsNextObject, next_object, IsFile, file}
 use Rattle.decl_read.specs.Sources.{AreObjectsOf}
 use Rattle.decl_read.specs.DeclarationReading.{file_in}
 use Rattle.decl_read.proofs.Files.{file_read}

@@ -7,9 +7,9 @@ use Rattle.decl_core.specs.declared.object.Object.{Object}
 use Rattle.decl_core.specs.ObjectForm.{ObjectForm}
 use Rattle.decl_core.specs.ObjectMap.{objects_of}
 use Rattle.std.specs.Prelude.{Result, Ok, Err, IfOk, MatchResult}
-use Rattle.decl_read.specs.declared.text_fault.TextFault.{TextFault}
-use Rattle.decl_read.specs.declared.text_fault.TextFault.TheVariants as text_faults
-use Rattle.decl_read.specs.Reader.{Fails}
+use Rattle.token_read.specs.declared.text_fault.TextFault.{TextFault}
+use Rattle.token_read.specs.declared.text_fault.TextFault.TheVariants as text_faults
+use Rattle.token_read.specs.Reader.{Fails}
 use Rattle.decl_read.specs.declared.fault.DeclFault.{DeclFault}
 use Rattle.decl_read.specs.declared.fault.DeclFault.TheVariants as faults
 use Rattle.decl_read.specs.Sources.{AreObjectsOf, text_fault_told}

@@ -6,11 +6,11 @@ use Rattle.path_tree.specs.Lexeme.{Lexeme, symbol}
 use Rattle.path_tree.specs.Reading.{symbol_at}
 use Rattle.path_tree.specs.Tokens.{Placed}
 use Rattle.path_tree.proofs.Found.{symbol_found}
-use Rattle.decl_read.specs.Series.{IsSeries, series_at}
-use Rattle.decl_read.proofs.Exact.{Exact, bind_some}
+use Rattle.token_read.specs.Series.{IsSeries, series_at}
+use Rattle.token_read.proofs.Exact.{Exact, bind_some}
 use Rattle.decl_core.specs.ObjectForm.{OperationForm, ObjectForm}
 use Rattle.decl_read.specs.Declarations.{is_object_word}
-use Rattle.decl_read.proofs.Fronts.{provided_is}
+use Rattle.decl_parts.proofs.Fronts.{provided_is}
 use Rattle.decl_read.proofs.Sources.{one_of_some}
 use Rattle.decl_core.specs.HoldForm.{RulesForm, rules_with, no_rules}
 use Rattle.hold_read.specs.declared.words.HoldKeyword.TheVariants as words

@@ -3,7 +3,7 @@ use Rattle.std.specs.Prelude.{◌≡◌, ℕ, ◌≤◌, List, [], ◌∷◌, �
 use Rattle.path_tree.specs.Tokens.{Placed, AreTokens}
 use Rattle.decl_core.specs.ObjectForm.{ObjectForm}
 use Rattle.decl_read.specs.Sources.{AreObjectsOf}
-use Rattle.decl_read.specs.Reader.{◌>>=◌}
+use Rattle.token_read.specs.Reader.{◌>>=◌}
 use Rattle.decl_core.specs.HoldForm.{RulesForm, no_rules}
 use Rattle.hold_read.specs.Sections.{lexemes_in, behind_object, rules_at, cut_by}
 use Rattle.hold_read.specs.Holds.{IsRules}

@@ -7,13 +7,13 @@ use Rattle.path_tree.specs.Reading.{symbol_at}
 use Rattle.path_tree.specs.Known.{place_of}
 use Rattle.value_core.specs.declared.kind.Elem.{Elem}
 use Rattle.value_core.specs.declared.kind.Elem.TheVariants as elem
-use Rattle.decl_read.specs.Reader.{◌>>=◌, Reader}
-use Rattle.decl_read.specs.Reading.{name_at}
-use Rattle.decl_read.specs.Scopes.{operation_names}
-use Rattle.decl_read.specs.Series.{series_at}
+use Rattle.token_read.specs.Reader.{◌>>=◌, Reader}
+use Rattle.token_read.specs.Names.{name_at}
+use Rattle.token_read.specs.Scopes.{operation_names}
+use Rattle.token_read.specs.Series.{series_at}
 use Rattle.decl_core.specs.ObjectForm.{OperationForm}
-use Rattle.decl_read.specs.Declarations.{begins}
-use Rattle.decl_read.specs.DeclarationReading.{provided, number_at}
+use Rattle.decl_parts.specs.Declarations.{begins}
+use Rattle.decl_parts.specs.DeclarationReading.{provided, number_at}
 use Rattle.decl_core.specs.HoldForm.{HoldForm, EveryForm, RulesForm, rules_with, Signature, signature_of, is_one_of}
 use Rattle.decl_core.specs.HoldForm.{named_in, ending_in, called_in}
 use Rattle.hold_read.specs.declared.words.HoldKeyword.TheVariants as words

@@ -3,12 +3,13 @@ use Rattle.std.specs.Prelude.{◌≡◌, ℕ, ◌≤◌, Bool, true, false, ◌=
 use Rattle.path_tree.specs.declared.token.Symbol.TheVariants as symbols
 use Rattle.path_tree.specs.Lexeme.{Lexeme, symbol, number, identifier, string, end_mark, same_symbol}
 use Rattle.path_tree.specs.Known.{place_of}
-use Rattle.decl_read.specs.Scopes.{operation_names}
-use Rattle.decl_read.specs.Series.{IsSeries}
+use Rattle.token_read.specs.Scopes.{operation_names}
+use Rattle.token_read.specs.Series.{IsSeries}
 use Rattle.decl_core.specs.ObjectForm.{OperationForm}
 use Rattle.decl_core.specs.HoldForm.{HoldForm, EveryForm, RulesForm, rules_with, MayEnd, IsEvery, is_one_of, named_in}
 use Rattle.decl_core.specs.HoldForm.{called_in, signatures_of}
-use Rattle.decl_read.specs.Declarations.{begins, is_object_word}
+use Rattle.decl_parts.specs.Declarations.{begins}
+use Rattle.decl_read.specs.Declarations.{is_object_word}
 use Rattle.hold_read.specs.declared.words.HoldKeyword.TheVariants as words
 use Rattle.hold_read.specs.Words.{word, word_at, begins_word}
 

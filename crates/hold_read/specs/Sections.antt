@@ -5,7 +5,8 @@ use Rattle.path_tree.specs.declared.token.Symbol.{Symbol}
 use Rattle.path_tree.specs.declared.token.Symbol.TheVariants as symbols
 use Rattle.path_tree.specs.Lexeme.{Lexeme, symbol, number, identifier, string, end_mark, same_symbol}
 use Rattle.path_tree.specs.Tokens.{Placed}
-use Rattle.decl_read.specs.Declarations.{begins_name, is_object_word}
+use Rattle.decl_parts.specs.Declarations.{begins_name}
+use Rattle.decl_read.specs.Declarations.{is_object_word}
 use Rattle.hold_read.specs.declared.words.HoldKeyword.TheVariants as words
 use Rattle.hold_read.specs.Words.{word_at}
 

@@ -2,8 +2,8 @@
 
 ghost use Rattle.std.specs.Prelude.{◌≡◌, ◌≤◌, ◌||◌, IfOk, length};
 ghost use Rattle.path_tree.specs.Lexeme.{lexemes};
-ghost use Rattle.decl_read.specs.Reader.{Gives};
-ghost use Rattle.decl_read.specs.Series.{series_at};
+ghost use Rattle.token_read.specs.Reader.{Gives};
+ghost use Rattle.token_read.specs.Series.{series_at};
 ghost use Rattle.decl_core.specs.HoldForm.{is_one_of as is_one, called_in, ending_in};
 ghost use Rattle.decl_core.specs.HoldMap.{everies_of, holds_of};
 ghost use Rattle.decl_core.specs.ObjectMap.{operations_of};
@@ -12,19 +12,18 @@ ghost use Rattle.hold_read.specs.declared.words.HoldKeyword.TheVariants.{Every a
 ghost use Rattle.hold_read.specs.HoldReading.{seconds_of, is_bare as is_bare_in, every_in};
 ghost use Rattle.hold_read.specs.HoldReading.{replies_none as replies_none_of};
 ghost use Rattle.hold_read.specs.Views.{everies_read};
-ghost use Rattle.decl_read.specs.DeclarationReading.{number_at};
+ghost use Rattle.decl_parts.specs.DeclarationReading.{number_at};
 
 use crate::holds::{is_one_of, operation, takes_none};
 use crate::words::{HoldKeyword, begins_word, behind_word};
 use decl_core::hold::{Every, Hold};
 use decl_core::object::Operation;
-use decl_read::front::{behind, start_of};
-use decl_read::terms::TextRead;
-use decl_read::text_fault::TextFault;
 use path_tree::node::OpId;
 use path_tree::token::{Symbol, Token, TokenKind};
 use std::alloc::Global;
 use std::sync::Arc;
+use token_read::front::{behind, start_of};
+use token_read::text_fault::{TextFault, TextRead};
 use value_core::kind::Elem;
 
 /// The most seconds between two calls: a day.

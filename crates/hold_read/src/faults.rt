@@ -6,10 +6,10 @@ use crate::words::{HoldKeyword, begins_word};
 use decl_core::object::Object;
 use decl_read::fault::DeclFault;
 use decl_read::read::read_objects;
-use decl_read::text_fault::TextFault;
 use path_tree::name::Name;
 use path_tree::token::{Symbol, Token, TokenKind, is_same_symbol};
 use std::alloc::{AllocError, Global};
+use token_read::text_fault::TextFault;
 
 // Of the objects of a source that ends behind the operations of one, that one; `None` where it does not end there.
 fn last_object(alloc: Global, cut: &[u8], at: usize) -> Result<Option<Object>, AllocError> {

@@ -4,14 +4,14 @@ ghost use Rattle.std.specs.Prelude.{◌≡◌, ◌≤◌, ◌<◌, ◌||◌, ◌
 ghost use Rattle.path_tree.specs.declared.token.Symbol.TheVariants.{Comma};
 ghost use Rattle.path_tree.specs.Lexeme.{lexemes};
 ghost use Rattle.path_tree.specs.Known.{place_of as place_of_name};
-ghost use Rattle.decl_read.specs.Reader.{Gives};
-ghost use Rattle.decl_read.specs.Scopes.{operation_names};
-ghost use Rattle.decl_read.specs.Series.{series_at};
+ghost use Rattle.token_read.specs.Reader.{Gives};
+ghost use Rattle.token_read.specs.Scopes.{operation_names};
+ghost use Rattle.token_read.specs.Series.{series_at};
 ghost use Rattle.decl_core.specs.HoldForm.{is_one_of as is_one, named_in};
 ghost use Rattle.decl_core.specs.HoldMap.{holds_of};
 ghost use Rattle.decl_core.specs.HoldForm.{signature_of};
 ghost use Rattle.decl_core.specs.ObjectMap.{operation_of, operations_of, params_of};
-ghost use Rattle.decl_read.specs.Declarations.{begins as begins_with};
+ghost use Rattle.decl_parts.specs.Declarations.{begins as begins_with};
 ghost use Rattle.hold_read.specs.Holds.{is_taken as is_taken_in};
 ghost use Rattle.hold_read.specs.Words.{begins_word as a_word_begins};
 ghost use Rattle.hold_read.specs.declared.words.HoldKeyword.TheVariants.{Hold as HoldWord};
@@ -24,13 +24,12 @@ ghost use Rattle.hold_read.specs.Views.{holds_read, numbers_read};
 use crate::words::{HoldKeyword, after_word, begins_word, behind_word};
 use decl_core::hold::Hold;
 use decl_core::object::{Operation, Param};
-use decl_read::front::{after, behind, name, start_of};
-use decl_read::terms::TextRead;
-use decl_read::text_fault::TextFault;
 use path_tree::node::OpId;
 use path_tree::token::{Symbol, Token};
 use std::alloc::Global;
 use std::sync::Arc;
+use token_read::front::{after, behind, name, start_of};
+use token_read::text_fault::{TextFault, TextRead};
 use value_core::kind::Elem;
 
 /// Whether a symbol stands in front.

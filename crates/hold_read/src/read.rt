@@ -21,13 +21,13 @@ use decl_core::hold::Rules;
 use decl_core::object::Object;
 use decl_read::fault::DeclFault;
 use decl_read::read::read_objects;
-use decl_read::text_fault::TextFault;
 use indexmap::IndexMap;
 use path_tree::lex::fault::LexFault;
 use path_tree::lex::lex;
 use path_tree::name::Name;
 use path_tree::token::Token;
 use std::alloc::{AllocError, Global};
+use token_read::text_fault::TextFault;
 
 /// The objects of a source, and what each says of clients that are gone and of time, in order.
 #[derive(Drop)]

@@ -4,7 +4,7 @@ ghost use Rattle.std.specs.Prelude.{◌≡◌, ◌≤◌, length};
 ghost use Rattle.path_tree.specs.Lexeme.{lexeme_of, lexemes};
 ghost use Rattle.path_tree.specs.Tokens.{placed_tokens};
 ghost use Rattle.decl_core.specs.ObjectMap.{object_of, objects_of, operations_of};
-ghost use Rattle.decl_read.specs.Reader.{Gives};
+ghost use Rattle.token_read.specs.Reader.{Gives};
 ghost use Rattle.decl_core.specs.HoldMap.{all_rules_of, rules_of};
 ghost use Rattle.hold_read.specs.Holds.{ends_object as an_object_ends, is_end_mark as is_end_mark_in};
 ghost use Rattle.hold_read.specs.HoldReading.{rules_in};
@@ -16,11 +16,11 @@ use crate::holds::holds;
 use crate::sections::{behind_object, opens_object, rules_at};
 use decl_core::hold::Rules;
 use decl_core::object::{Object, Operation};
-use decl_read::front::{behind, start_of};
-use decl_read::text_fault::TextFault;
 use path_tree::token::{Symbol, Token, TokenKind};
 use std::alloc::Global;
 use std::sync::Arc;
+use token_read::front::{behind, start_of};
+use token_read::text_fault::TextFault;
 
 /// The most holds of an object.
 pub const MOST_HOLDS: u8 = 16;

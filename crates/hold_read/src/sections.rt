@@ -3,7 +3,8 @@
 ghost use Rattle.std.specs.Prelude.{◌≡◌, ◌||◌, Some, None, MatchOption};
 ghost use Rattle.path_tree.specs.Lexeme.{lexeme_of, lexemes};
 ghost use Rattle.path_tree.specs.Tokens.{placed_tokens};
-ghost use Rattle.decl_read.specs.Declarations.{begins_name as a_name_begins, is_object_word};
+ghost use Rattle.decl_parts.specs.Declarations.{begins_name as a_name_begins};
+ghost use Rattle.decl_read.specs.Declarations.{is_object_word};
 ghost use Rattle.hold_read.specs.Sections.{begins_number as a_number_begins, name_behind, number_behind};
 ghost use Rattle.hold_read.specs.Sections.{begins_rules as rules_begin, behind_object as behind_object_in, lexemes_in};
 ghost use Rattle.hold_read.specs.Sections.{rules_at as rules_at_in, is_of_rules as is_of_rules_in, begin_of as begin_in};

@@ -2,13 +2,13 @@
 
 ghost use Rattle.std.specs.Prelude.{◌≡◌, Some, None, MatchOption, bytes_eq};
 ghost use Rattle.path_tree.specs.Lexeme.{lexemes};
-ghost use Rattle.decl_read.specs.Reader.{Gives};
+ghost use Rattle.token_read.specs.Reader.{Gives};
 ghost use Rattle.hold_read.specs.Words.{word_text, word_at, begins_word as begins_with};
 
-use decl_read::front::start_of;
-use decl_read::text_fault::TextFault;
 use path_tree::name::Name;
 use path_tree::token::{Token, TokenKind};
+use token_read::front::start_of;
+use token_read::text_fault::TextFault;
 
 /// A word that is one in its place alone.
 #[derive(Clone, Copy)]

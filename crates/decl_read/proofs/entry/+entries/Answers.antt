@@ -3,11 +3,11 @@ use Rattle.std.proofs.lemmas.Result.{err_from_is_err_and}
 use Rattle.path_tree.specs.declared.token.Symbol.TheVariants.{Entry}
 use Rattle.path_tree.specs.Known.{constants_of}
 use Rattle.path_tree.specs.Lexeme.{lexemes}
-use Rattle.decl_read.specs.Declarations.{begins}
+use Rattle.decl_parts.specs.Declarations.{begins}
 use Rattle.decl_read.specs.DeclarationReading.{entry_in}
 use Rattle.decl_read.specs.Views.{operations_read}
 use Rattle.decl_core.specs.ObjectMap.{operations_of, parts_of}
-use Rattle.decl_read.proofs.Steps.{series_ends, none_left, item_fails, item_read}
+use Rattle.token_read.proofs.Steps.{series_ends, none_left, item_fails, item_read}
 use Rattle.decl_read.proofs.entry.+entries.Goals as goal
 
 pub returns-then-not-begins : goal.returns-then-not-begins

@@ -1,10 +1,10 @@
 use Rattle.std.proofs.Common.{◌∷◌, None, ap}
 use Rattle.path_tree.specs.Lexeme.{lexemes}
 use Rattle.path_tree.specs.Known.{constants_of}
-use Rattle.decl_read.specs.Reading.{Names}
-use Rattle.decl_read.specs.Scopes.{operation_names}
+use Rattle.token_read.specs.Names.{Names}
+use Rattle.token_read.specs.Scopes.{operation_names}
 use Rattle.decl_core.specs.ObjectMap.{operations_of, params_of, parts_of}
-use Rattle.decl_read.proofs.Operations.{body_typed}
+use Rattle.body_read.proofs.Operations.{body_typed}
 use Rattle.decl_read.proofs.entry.procedure.Goals as goal
 
 pub with_operation-requires-clause-typed : goal.with_operation-requires-clause-typed

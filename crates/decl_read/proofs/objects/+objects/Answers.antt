@@ -2,11 +2,11 @@ use Rattle.std.proofs.Common.{◌≡◌, true, false, arith}
 use Rattle.std.proofs.lemmas.Result.{err_from_is_err_and}
 use Rattle.path_tree.specs.declared.token.Symbol.TheVariants.{Object}
 use Rattle.path_tree.specs.Lexeme.{lexemes}
-use Rattle.decl_read.specs.Declarations.{begins}
+use Rattle.decl_parts.specs.Declarations.{begins}
 use Rattle.decl_read.specs.DeclarationReading.{next_object_in}
 use Rattle.decl_read.specs.Sources.{objects_read}
 use Rattle.decl_core.specs.ObjectMap.{objects_of}
-use Rattle.decl_read.proofs.Steps.{series_ends, none_left, item_fails, item_read}
+use Rattle.token_read.proofs.Steps.{series_ends, none_left, item_fails, item_read}
 use Rattle.decl_read.proofs.Files.{behind_object}
 use Rattle.decl_read.proofs.objects.+objects.Goals as goal
 

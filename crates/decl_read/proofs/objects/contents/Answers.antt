@@ -1,6 +1,7 @@
 use Rattle.std.proofs.Common.{arith}
 use Rattle.decl_read.proofs.Lengths.{behind_constants}
-use Rattle.decl_read.proofs.Limits.{paths_few, operations_few}
+use Rattle.decl_parts.proofs.Limits.{paths_few}
+use Rattle.decl_read.proofs.Limits.{operations_few}
 use Rattle.decl_read.proofs.KnownParts.{operations_know}
 use Rattle.decl_read.proofs.NameCounts.{names_few}
 use Rattle.decl_read.proofs.objects.contents.Goals as goal

@@ -1,7 +1,7 @@
 use Rattle.std.proofs.Common.{◌≡◌, true, false, sym, ap, ◌∙◌, arith}
 use Rattle.path_tree.specs.Lexeme.{lexemes}
 use Rattle.decl_core.specs.ObjectMap.{object_of, objects_of, object_names}
-use Rattle.decl_read.specs.Reading.{is_among}
+use Rattle.token_read.specs.Names.{is_among}
 use Rattle.decl_read.proofs.Files.{contents_named, next_taken, next_given, objects_pushed, names_of_forms}
 use Rattle.path_tree.specs.declared.token.Symbol.TheVariants.{Object, Semicolon}
 use Rattle.decl_read.proofs.Lengths.{behind_symbol, behind_name}

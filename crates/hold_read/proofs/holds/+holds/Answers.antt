@@ -7,7 +7,7 @@ use Rattle.hold_read.specs.Words.{begins_word}
 use Rattle.hold_read.specs.HoldReading.{hold_in}
 use Rattle.hold_read.specs.Views.{holds_read}
 use Rattle.path_tree.specs.Lexeme.{lexemes}
-use Rattle.decl_read.proofs.Steps.{series_ends, series_over, item_fails, item_read}
+use Rattle.token_read.proofs.Steps.{series_ends, series_over, item_fails, item_read}
 use Rattle.hold_read.proofs.holds.+holds.Goals as goal
 
 pub returns-then-not-begins_word : goal.returns-then-not-begins_word

@@ -3,11 +3,11 @@ use Rattle.std.proofs.lemmas.Result.{err_from_is_err_and}
 use Rattle.path_tree.specs.declared.token.Symbol.TheVariants.{Comma}
 use Rattle.decl_core.specs.HoldMap.{holds_of}
 use Rattle.decl_core.specs.ObjectMap.{operations_of}
-use Rattle.decl_read.specs.Declarations.{begins}
+use Rattle.decl_parts.specs.Declarations.{begins}
 use Rattle.hold_read.specs.HoldReading.{next_undo_in}
 use Rattle.hold_read.specs.Views.{numbers_read}
 use Rattle.path_tree.specs.Lexeme.{lexemes}
-use Rattle.decl_read.proofs.Steps.{series_ends, series_over, item_fails, item_read}
+use Rattle.token_read.proofs.Steps.{series_ends, series_over, item_fails, item_read}
 use Rattle.hold_read.proofs.holds.+more_undos.Goals as goal
 
 pub returns-then-not-begins : goal.returns-then-not-begins

@@ -1,0 +1,12 @@
+pub mod Literals
+pub mod Sums
+pub mod Again
+pub mod Found
+pub mod Conditions
+pub mod StatementSteps
+pub mod StatementsRead
+pub mod StatementsFound
+pub mod Refusals
+pub mod Typing
+pub mod Naming
+pub mod Operations

@@ -1,0 +1,9 @@
+pub mod PathItems
+pub mod NameSteps
+pub mod Fronts
+pub mod ConstantsExact
+pub mod KindsExact
+pub mod NamesExact
+pub mod PartsExact
+pub mod ParamsExact
+pub mod Limits

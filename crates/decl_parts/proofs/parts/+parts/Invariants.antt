@@ -1,0 +1,4 @@
+use Rattle.decl_parts.proofs.parts.+parts.Given as goal
+
+abbrev pub decreases-parts : goal.decreases-parts
+decreases-parts l = l.left

@@ -1,4 +1,0 @@
-use Rattle.decl_read.proofs.constants.+constants.Given as goal
-
-abbrev pub decreases-constants : goal.decreases-constants
-decreases-constants l = l.left

@@ -1,5 +1,0 @@
-use Rattle.std.proofs.Common.{length}
-use Rattle.decl_read.proofs.lookup.+is_operation.Given as goal
-
-abbrev pub decreases-is_operation : goal.decreases-is_operation
-decreases-is_operation l = length l.operations.now

@@ -1,4 +1,0 @@
-use Rattle.decl_read.proofs.params.+more_groups.Given as goal
-
-abbrev pub decreases-more_groups : goal.decreases-more_groups
-decreases-more_groups l = l.left

@@ -1,4 +1,0 @@
-use Rattle.decl_read.proofs.parts.+parts.Given as goal
-
-abbrev pub decreases-parts : goal.decreases-parts
-decreases-parts l = l.left

@@ -1,9 +1,0 @@
-use Rattle.std.proofs.Common.{◌≡◌, ◌+◌, ◌++◌, length}
-use Rattle.decl_read.specs.Declarations.{each_with}
-use Rattle.decl_core.specs.ObjectMap.{parts_of}
-use Rattle.decl_read.proofs.parts.with_parts.Given as goal
-
-abbrev pub invariant-loop-name : goal.invariant-loop-name
-invariant-loop-name l =
-    (parts_of l.all.items ≡ parts_of l.fn.before.items ++ each_with l.kind l.yielded)
-    × (length l.all.items ≡ length l.fn.before.items + length l.yielded)

@@ -1,4 +1,0 @@
-use Rattle.decl_read.proofs.paths.+paths.Given as goal
-
-abbrev pub decreases-paths : goal.decreases-paths
-decreases-paths l = l.left
