@@ -36,7 +36,7 @@ pub struct AllHeld {
 impl Model for AllHeld {
     ghost use Rattle.std.specs.Prelude.{List};
     ghost use Rattle.client_core.specs.Holding.{Holding as AHolding};
-    ghost use Rattle.custody_core.specs.contracts.holding.Holding as holding;
+    ghost use Rattle.client_core.specs.contracts.holding.Holding as holding;
     ghost use Rattle.client_core.specs.Views.{all_of};
     ghost use Rattle.std.specs.Coded.{codes};
 

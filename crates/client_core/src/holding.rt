@@ -61,8 +61,8 @@ pub struct Holding {
 impl Model for Holding {
     ghost use Rattle.client_core.specs.Holding.{Holding as AHolding};
     ghost use Rattle.client_core.specs.GoneViews.{holding_of, CallsEach};
-    ghost use Rattle.custody_core.specs.contracts.holder.Holder as g;
-    ghost use Rattle.custody_core.specs.contracts.ticking.Ticking as t;
+    ghost use Rattle.client_core.specs.contracts.holder.Holder as g;
+    ghost use Rattle.client_core.specs.contracts.ticking.Ticking as t;
     ghost use Rattle.std.specs.Coded.{codes};
 
     ghost Value = { AHolding };

@@ -10,9 +10,9 @@ use Rattle.decl_core.specs.contracts.object.Object as object
 use Rattle.decl_core.specs.contracts.analyse.Accepted as accepted
 use Rattle.page_core.specs.contracts.ticket.Ticket as ticket
 use Rattle.page_core.specs.contracts.outcome.Outcome as outcome
-use Rattle.board_core.specs.contracts.call.Call as call
-use Rattle.board_core.specs.contracts.entry.Entry as entry
-use Rattle.board_core.specs.contracts.receipt.Receipt as receipt
+use Rattle.desk_core.specs.contracts.call.Call as call
+use Rattle.desk_core.specs.contracts.entry.Entry as entry
+use Rattle.desk_core.specs.contracts.receipt.Receipt as receipt
 
 -- the trees of operations and of paths
 ruleset trees = (sendable, crosses, expression.crosses, condition.crosses, statement.crosses, members.crosses)

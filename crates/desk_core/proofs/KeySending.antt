@@ -1,7 +1,7 @@
 -- An index may be handed to another thread and shared between threads.
 use denote.Param.Send.{IsSend, IsSync, sendable}
 use Rattle.std.proofs.Crossing.{crosses}
-use Rattle.board_core.specs.contracts.index.Index as index
+use Rattle.desk_core.specs.contracts.index.Index as index
 
 pub index_send : IsSend index.the_row
 index_send = search (sendable, crosses) depth 40 fits 20000

@@ -2,9 +2,9 @@
 use denote.Param.Send.{IsSend, IsSync, sendable}
 use Rattle.std.proofs.Crossing.{crosses}
 use Rattle.desk_core.proofs.BoardSending.{operation_send, operation_sync, call_send, call_sync}
-use Rattle.board_core.specs.contracts.open_call.Waiting as waiting
-use Rattle.board_core.specs.contracts.open_call.Running as running
-use Rattle.board_core.specs.contracts.queue.WaitingQueue as queue
+use Rattle.desk_core.specs.contracts.open_call.Waiting as waiting
+use Rattle.desk_core.specs.contracts.open_call.Running as running
+use Rattle.desk_core.specs.contracts.queue.WaitingQueue as queue
 
 ruleset calls = (sendable, crosses, operation_send, operation_sync, call_send, call_sync)
 
