@@ -7,8 +7,8 @@ ghost use Rattle.live_core.specs.Hall.{Every};
 ghost use Rattle.value_core.specs.Contents.{IsContents};
 ghost use Rattle.live_core.specs.Calls.{RepliesDatum};
 
+use crate::call::Ran;
 use apply_core::reply::Reply;
-use live_core::call::Ran;
 use value_core::datum::Datum;
 use value_core::value::Value;
 

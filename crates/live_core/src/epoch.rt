@@ -15,18 +15,18 @@ ghost use Rattle.live_core.specs.Fits.{CallFits, GuestFits, RunFits};
 ghost use Rattle.live_core.specs.Scene.{told_of, next_base, next_epoch};
 ghost use Rattle.live_core.specs.HostedSteps.{IsFollowed, BeginsBy};
 
+use crate::call::LiveCall;
 use crate::data::{are_contents, are_data, is_data};
+use crate::hall::MOST_NUMBERS;
 use crate::hosted::Hosted;
+use crate::past::{PastRun, runs_of};
 use crate::runs::are_runs;
+use crate::write::{
+    push_base, push_carried, push_client, push_kept, push_object, push_past, push_source,
+};
 use decl_core::object::Object;
 use guest_core::guest::Guest;
 use guest_core::kept::RememberedCall;
-use live_core::call::LiveCall;
-use live_core::hall::MOST_NUMBERS;
-use live_core::past::{PastRun, runs_of};
-use live_core::write::{
-    push_base, push_carried, push_client, push_kept, push_object, push_past, push_source,
-};
 use path_count::finder::short_past;
 use path_count::past::{PastEvent, counters_behind};
 use path_tree::node::OpId;

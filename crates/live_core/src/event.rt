@@ -5,8 +5,8 @@ ghost use Rattle.decl_core.specs.ObjectMap.{object_of};
 ghost use Rattle.word_core.specs.Words.{line_of};
 ghost use Rattle.live_core.specs.HostedLines.{cancel_words, name_words};
 
+use crate::call::LiveCall;
 use decl_core::object::Object;
-use live_core::call::LiveCall;
 use path_tree::name::Name;
 use std::alloc::AllocError;
 use word_core::event::name_of;

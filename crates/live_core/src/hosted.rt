@@ -14,7 +14,9 @@ ghost use Rattle.guest_core.specs.Keys.{asks};
 ghost use Rattle.live_core.specs.Keys.{WaitsAs, SaysWaits, SaysKept, SaysKey, Says};
 ghost use Rattle.live_core.specs.Scene.{is_given, told_of, with_guests};
 
+use crate::call::LiveCall;
 use crate::calls::most_of;
+use crate::live::Live;
 use crate::size::{MOST_NAME, most_told};
 use apply_core::fits::arguments_fit;
 use apply_core::reply::Reply;
@@ -22,8 +24,6 @@ use decl_core::object::Object;
 use guest_core::answer::{Cancelled, KeyedFault};
 use guest_core::guests::Guests;
 use guest_core::keys::Judged;
-use live_core::call::LiveCall;
-use live_core::live::Live;
 use path_count::past::PastEvent;
 use path_tree::name::Name;
 use path_tree::node::OpId;
@@ -61,7 +61,7 @@ pub struct HostedStart {
     pub past: Vec<PastEvent>,
     /// Which epoch it is, from 1.
     pub epoch: u64,
-    /// What the declaration of the object gives (`live_core::source`).
+    /// What the declaration of the object gives (`source`).
     pub source: u64,
     /// What is added to the number of a call where it is told.
     pub base: u64,

@@ -4,7 +4,7 @@ ghost use Rattle.std.specs.Prelude.{IsTrue};
 ghost use Rattle.live_core.specs.Front.{Every};
 ghost use Rattle.live_core.specs.Fits.{RunFits};
 
-use live_core::past::PastRun;
+use crate::past::PastRun;
 
 /// The most calls of which one line tells.
 const MOST_CALLS: u32 = 65_536;

@@ -3,11 +3,11 @@
 ghost use Rattle.std.specs.Prelude.{IfOk, IfSome};
 ghost use Rattle.live_core.specs.Again.{BeginsAgain};
 
+use crate::call::Limits;
 use crate::hosted::{Hosted, HostedStart};
+use crate::live::Live;
 use decl_core::object::Object;
 use guest_core::guests::Guests;
-use live_core::call::Limits;
-use live_core::live::Live;
 use path_count::counters::Counters;
 use path_count::finder::short_past;
 use path_count::past::PastEvent;
