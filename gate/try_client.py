@@ -13,7 +13,8 @@ what came of it, at once; up to the end of its input:
                                 or without one where that is `-`: `opened`, or how it failed
   call MS OP ARG ..             calls; where MS is not 0, the call is cancelled that still waits after MS milliseconds:
                                 how it ended
-  ahead K                       the next K lines are `call 0 ..`, which are sent ahead: K lines, how each ended
+  ahead K                       the next K lines are `call 0 ..`: once the last one is read all are sent ahead; K lines,
+                                how each ended
   close                         quits: `closed`
 
 ARG is an integer or a text, as a server reads them. How a call ended is one of
