@@ -157,7 +157,10 @@ class Stage:
         elif step.form == "port is taken":
             self.taken.append(socket.create_server(("127.0.0.1", self.port)))
         elif step.form == "folder is removed":
-            shutil.rmtree(self.place)
+            # In one step, since the server may just make a file there; so it may once more while the rest goes.
+            away = self.place.rename(self.place.with_name("removed"))
+            while away.exists():
+                shutil.rmtree(away, ignore_errors=True)
         elif step.form == "file holds":
             name, _, held = step.texts[0].split(" ")
             with open(self.place / name, "r+b") as it:
