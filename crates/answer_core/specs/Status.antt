@@ -16,8 +16,6 @@ use Rattle.check_core.specs.declared.report.CheckFault.{CheckFault}
 use Rattle.check_core.specs.declared.report.CheckFault.TheVariants as check_faults
 use Rattle.check_core.specs.declared.report.CheckEnd.{CheckEnd}
 use Rattle.check_core.specs.declared.report.CheckEnd.TheVariants as check_ends
-use Rattle.world_core.specs.declared.script.ScriptEnd.{ScriptEnd}
-use Rattle.world_core.specs.declared.script.ScriptEnd.TheVariants as script_ends
 
 -- `paths`: 0 where each line was answered, 1 where one ended the run
 abbrev pub paths_status : LinesEnd → ℕ
@@ -32,11 +30,6 @@ check_status check_ends.Faulty = 1
 -- `check --stuck`: 1 also where an operation is lost
 abbrev pub stuck_status : CheckEnd → Bool → ℕ
 stuck_status end lost = if lost then 1 else check_status end
-
--- `run`, where there is an object to run on: 0 where each line was answered, 1 where a bad line ended the script
-abbrev pub script_status : ScriptEnd → ℕ
-script_status script_ends.Whole = 0
-script_status (script_ends.BadLine line) = 1
 
 -- a failure: 2 usage, 3 a read or write fault, 4 memory
 abbrev pub status_of : ToolFailure → ℕ

@@ -3,7 +3,7 @@ use Rattle.std.specs.Prelude.{◌≡◌, ◌++◌, ℕ, ⊤, List, Option, codes
 use Rattle.std.specs.Io.KnownBytes.{Appends}
 use Rattle.decl_core.specs.HoldForm.{RulesForm}
 use Rattle.decl_core.specs.ObjectForm.{ObjectForm}
-use Rattle.hold_read.specs.HeldSources.{AreHeldObjectsOf, SayNothing}
+use Rattle.decl_read.specs.HeldSources.{AreHeldObjectsOf, SayNothing}
 use Rattle.answer_core.specs.declared.sources.WithoutHolds.{WithoutHolds}
 use Rattle.answer_core.specs.declared.sources.WithoutHolds.TheVariants as plains
 use Rattle.answer_core.specs.declared.sources.Ruled.{Ruled}

@@ -7,12 +7,8 @@ ghost use Rattle.answer_core.specs.declared.explanation.Telling.TheVariants.{Not
 
 use crate::answer::REFUSED;
 use crate::failure::ToolFailure;
-use check_core::head::named_object;
-use explain_core::explain::explain;
-use explain_core::stuck_explain::explain_stuck;
-use explain_trace::script::explain_script;
-use explain_trace::trace::explain_trace;
-use note_core::files::Files;
+use note_core::explain::explain;
+use note_core::stuck_explain::explain_stuck;
 use std::alloc::{AllocError, Global};
 use std::io::Write;
 use value_core::write_whole;
@@ -28,8 +24,8 @@ pub enum Telling {
     Nothing,
 }
 
-// Writes a text, or nothing where memory for it was refused.
-fn push_text<E: Write>(text: Result<Vec<u8>, AllocError>, error: &mut E) {
+/// Writes a text, or nothing where memory for it was refused.
+pub fn push_text<E: Write>(text: Result<Vec<u8>, AllocError>, error: &mut E) {
     if let Ok(text) = text {
         let _ = write_whole(error, &text);
     }
@@ -57,10 +53,10 @@ fn push_hint<E: Write>(text: Result<Vec<u8>, AllocError>, error: &mut E)
     }
 }
 
-// Writes why a source of a file is refused, as far as that is to be told. Where memory for the text is refused nothing
-// is written, and where a write fails a front of it.
+/// Writes why a source of a file is refused, as far as that is to be told. Where memory for the text is refused nothing
+/// is written, and where a write fails a front of it.
 #[tactic(auto, using(crate::proofs::Hints::no_hint))]
-fn push_explanation<E: Write>(
+pub fn push_explanation<E: Write>(
     alloc: Global,
     telling: Telling,
     file: &str,
@@ -140,131 +136,6 @@ pub fn explained_stuck<E: Write>(
 {
     if matches!(&ended, Ok(REFUSED)) {
         push_stuck(alloc, telling, file, source, error);
-    }
-    ended
-}
-
-/// Hands on what a script ended with, which no explanation changes. Where it refused something `error` gets first, as
-/// far as that is to be told, why the object is refused that this head names, or the fault of the source; where it
-/// names none, nothing. Want of memory, and a write that fails, end the explanation alone.
-#[tactic(auto, using(crate::proofs::Hints::no_hint))]
-pub fn explained_script<E: Write>(
-    alloc: Global,
-    ended: Result<u8, ToolFailure>,
-    telling: Telling,
-    file: &str,
-    source: &[u8],
-    head: &[u8],
-    error: &mut E,
-) -> Result<u8, ToolFailure>
-    ensures same { result ≡ ended }
-    ensures unasked { telling ≡ Nothing → Keeps (E.contents error.old) (E.contents error.new) }
-    ensures hint { telling ≡ Hint → IsHinted (E.contents error.old) (E.contents error.new) }
-{
-    match named_object(alloc, head) {
-        Ok(Some(name)) => explained(
-            alloc,
-            ended,
-            telling,
-            file,
-            source,
-            Some(name.as_bytes()),
-            error,
-        ),
-        _ => ended,
-    }
-}
-
-// Writes what is wrong with lines of a script that came to its end, or to a bad line.
-fn push_script<E: Write>(
-    alloc: Global,
-    ended: &Result<u8, ToolFailure>,
-    files: Files<'_>,
-    source: &[u8],
-    text: Option<&[u8]>,
-    error: &mut E,
-) {
-    let Some(script) = text else {
-        return;
-    };
-    if ended.is_ok() {
-        push_text(explain_script(alloc, files, source, script), error);
-    }
-}
-
-/// Hands on what a script ended with, which no explanation changes. Where all is to be told, and what was read of the
-/// script is given, `error` gets first what is wrong with the line that ended it, if one did, and with calls that its
-/// object does not take. Want of memory, and a write that fails, end the explanation alone.
-pub fn explained_run<E: Write>(
-    alloc: Global,
-    ended: Result<u8, ToolFailure>,
-    telling: Telling,
-    files: Files<'_>,
-    source: &[u8],
-    text: Option<&[u8]>,
-    error: &mut E,
-) -> Result<u8, ToolFailure>
-    ensures same { result ≡ ended }
-    ensures unasked { telling ≡ Nothing → Keeps (E.contents error.old) (E.contents error.new) }
-    ensures hint { telling ≡ Hint → Keeps (E.contents error.old) (E.contents error.new) }
-{
-    match telling {
-        Telling::Whole => push_script(alloc, &ended, files, source, text, error),
-        Telling::Hint | Telling::Nothing => {}
-    }
-    ended
-}
-
-// Writes why the object of a trace is refused, and else, where all is to be told, what is wrong with the trace.
-#[tactic(auto, using(crate::proofs::Hints::no_hint))]
-fn push_trace<E: Write>(
-    alloc: Global,
-    telling: Telling,
-    files: Files<'_>,
-    source: &[u8],
-    text: &[u8],
-    error: &mut E,
-)
-    ensures unasked { telling ≡ Nothing → Keeps (E.contents error.old) (E.contents error.new) }
-    ensures hint { telling ≡ Hint → IsHinted (E.contents error.old) (E.contents error.new) }
-{
-    if let Ok(Some(name)) = named_object(alloc, text) {
-        push_explanation(
-            alloc,
-            telling,
-            files.source,
-            source,
-            Some(name.as_bytes()),
-            error,
-        );
-    }
-    match telling {
-        Telling::Whole => push_text(explain_trace(alloc, files, source, text), error),
-        Telling::Hint | Telling::Nothing => {}
-    }
-}
-
-/// Hands on what an audit ended with, which no explanation changes. Where it refused something, and the first bytes of
-/// the trace are given, `error` gets first, as far as that is to be told, why the trace's object is refused, and what
-/// is wrong with its first faulty line. Want of memory, and a write that fails, end the explanation alone.
-#[tactic(auto, using(crate::proofs::Hints::no_hint))]
-pub fn explained_audit<E: Write>(
-    alloc: Global,
-    ended: Result<u8, ToolFailure>,
-    telling: Telling,
-    files: Files<'_>,
-    source: &[u8],
-    text: Option<&[u8]>,
-    error: &mut E,
-) -> Result<u8, ToolFailure>
-    ensures same { result ≡ ended }
-    ensures unasked { telling ≡ Nothing → Keeps (E.contents error.old) (E.contents error.new) }
-    ensures hint { telling ≡ Hint → IsHinted (E.contents error.old) (E.contents error.new) }
-{
-    if let Some(trace) = text {
-        if matches!(&ended, Ok(REFUSED)) {
-            push_trace(alloc, telling, files, source, trace, error);
-        }
     }
     ended
 }

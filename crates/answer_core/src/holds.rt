@@ -12,7 +12,7 @@ use crate::failure::ToolFailure;
 use crate::said::written;
 use check_core::report::push_source_fault;
 use decl_read::fault::DeclFault;
-use hold_read::read::Held;
+use decl_read::held_read::Held;
 use note_core::rules::explain_held;
 use std::alloc::{AllocError, Global};
 use std::io::Write;

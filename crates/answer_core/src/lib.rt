@@ -15,18 +15,12 @@
 #![tactic(auto)]
 
 pub mod answer;
-pub mod attempt;
-pub mod audit;
 pub mod explanation;
 pub mod failure;
-pub mod files;
-pub mod folder_audit;
 pub mod holds;
 pub mod inputs;
 pub mod lack;
-pub mod laws;
 pub mod said;
-pub mod script;
 pub mod socket;
 pub mod source;
 pub mod sources;

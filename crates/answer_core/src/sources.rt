@@ -9,7 +9,7 @@ use crate::failure::ToolFailure;
 use crate::holds::{refuse_faulty, refuse_held};
 use decl_core::hold::Rules;
 use decl_read::fault::DeclFault;
-use hold_read::read::{Look, look_at};
+use decl_read::held_read::{Look, look_at};
 use std::io;
 
 /// What to do with a source whose objects have holds, for a command that takes them as objects without.

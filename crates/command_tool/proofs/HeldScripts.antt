@@ -12,8 +12,9 @@ use Rattle.decl_core.specs.HoldForm.{HoldForm}
 use Rattle.world_core.specs.HoldRun.{IsHeldScript, IsHeldFront}
 use Rattle.world_core.specs.declared.script.ScriptEnd.{ScriptEnd}
 use Rattle.answer_core.specs.declared.failure.ToolFailure.{ToolFailure}
-use Rattle.answer_core.specs.Status.{script_status, IsFault}
-use Rattle.answer_core.proofs.Scripts.{of_rest, with_rest}
+use Rattle.answer_core.specs.Status.{IsFault}
+use Rattle.command_tool.specs.ScriptRun.{script_status}
+use Rattle.command_tool.proofs.Scripts.{of_rest, with_rest}
 use Rattle.command_tool.specs.HeldRun.{IsHeldRun, IsHeldRunFront, told, ran, nothing, told_front, ran_front}
 
 -- there is an object to run on

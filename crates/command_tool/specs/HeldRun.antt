@@ -6,7 +6,7 @@ use Rattle.decl_core.specs.ObjectMap.{object_of}
 use Rattle.check_core.specs.Opening.{IsReady, IsTold}
 use Rattle.world_core.specs.HoldRun.{IsHeldScript, IsHeldFront}
 use Rattle.world_core.specs.declared.script.ScriptEnd.{ScriptEnd}
-use Rattle.answer_core.specs.Status.{script_status}
+use Rattle.command_tool.specs.ScriptRun.{script_status}
 
 -- the exit status, and all that is written, by the source without the holds
 pub data IsHeldRun (source text : List ℕ) : ℕ → List ℕ → Type 0 where

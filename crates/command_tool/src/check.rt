@@ -14,7 +14,7 @@ use answer_core::source::read_source;
 use answer_core::sources::{WithoutHolds, without_holds};
 use answer_core::stuck::check_stuck;
 use command_line::request::Explain;
-use hold_read::read::{Look, look_at};
+use decl_read::held_read::{Look, look_at};
 use note_core::kept::CopyingReader;
 use note_core::pairs::explain_pairs;
 use std::io;

@@ -11,11 +11,18 @@
 
 pub mod attempt;
 pub mod audit;
+pub mod audit_answer;
 pub mod check;
+pub mod files;
+pub mod folder_audit;
 pub mod gates;
 mod holds;
 pub mod kept;
+pub mod laws;
 pub mod paths;
+pub mod run_explanation;
 pub mod script;
+pub mod script_answer;
 pub mod serve;
 pub mod start;
+pub mod try_answer;

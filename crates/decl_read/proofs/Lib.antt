@@ -10,3 +10,11 @@ pub mod SkippedTexts
 pub mod SkippedStatements
 pub mod SkippedDeclarations
 pub mod OperationNames
+pub mod CalmObjects
+pub mod CalmTexts
+pub mod HoldSteps
+pub mod HoldsExact
+pub mod HoldsFit
+pub mod OldSources
+pub mod Reading
+pub mod Ruled

@@ -4,3 +4,10 @@ pub mod DeclarationReading
 pub mod Sources
 pub mod ObjectLaws
 pub mod Views
+pub mod HeldSources
+pub mod HoldReading
+pub mod Holds
+pub mod OldSources
+pub mod Sections
+pub mod HeldViews
+pub mod Words

@@ -6,8 +6,17 @@
 
 mod catalog;
 mod collect;
+mod cut;
 mod entry;
+mod everies;
 pub mod fault;
+mod faults;
+pub mod held_laws;
+pub mod held_read;
+mod holds;
 pub mod laws;
 mod objects;
 pub mod read;
+pub mod rules;
+mod sections;
+mod words;

@@ -2,12 +2,12 @@
 use Rattle.std.proofs.Common.{◌≡◌, ℕ, inl, inr, Bool, true, false, ◌||◌, ◌==◌, List, [], ◌∷◌, refl, sym, ◌∙◌, ap}
 use Rattle.std.specs.List.{list_any}
 use Rattle.std.proofs.lemmas.Bool.{eq-eqb}
-use Rattle.desk_core.specs.Lists.{Among}
-use Rattle.desk_core.specs.Calls.{WaitingCall, RunningCall}
-use Rattle.desk_core.specs.Board.{Board}
-use Rattle.desk_core.specs.Answers.{is_busy}
-use Rattle.desk_core.specs.Sound.{IsOpen}
-use Rattle.desk_core.proofs.Traces.{true_false}
+use Rattle.page_core.specs.Lists.{Among}
+use Rattle.page_core.specs.ObjectCalls.{WaitingCall, RunningCall}
+use Rattle.board_core.specs.Board.{Board}
+use Rattle.board_core.specs.Answers.{is_busy}
+use Rattle.board_core.specs.Sound.{IsOpen}
+use Rattle.page_core.proofs.Lists.{true_false}
 
 or_first : (a b : Bool) → a || b ≡ false → a ≡ false
 or_first true b h = h

@@ -7,10 +7,10 @@ use Rattle.value_core.specs.declared.datum.Datum.{Datum}
 use Rattle.value_core.specs.Datum.{elem_of}
 use Rattle.decl_core.specs.declared.object.Operation.{Operation}
 use Rattle.apply_core.specs.Fits.{ArgumentsFit}
-use Rattle.desk_core.specs.Lists.{Every}
-use Rattle.desk_core.specs.Calls.{AcceptedCall}
-use Rattle.desk_core.specs.Board.{Board, call_at}
-use Rattle.desk_core.specs.Sound.{IsSound, IsMadeOf}
+use Rattle.page_core.specs.Lists.{Every}
+use Rattle.page_core.specs.ObjectCalls.{AcceptedCall}
+use Rattle.board_core.specs.Board.{Board, call_at}
+use Rattle.board_core.specs.Sound.{IsSound, IsMadeOf}
 
 module _ {X : Type 0} (P : X → Type 0) where
   next_so : (xs : List X) (k : ℕ) → Every P (take k xs) → ((x : X) → slice_get xs k ≡ Some x → P x) → Every P (take (suc k) xs)

@@ -3,11 +3,11 @@ use Rattle.std.proofs.Common.{◌≡◌, ◌∙◌, ℕ, List, [], ◌∷◌, So
 use Rattle.std.specs.Prelude.{slice_get, unwrap_or, take}
 use Rattle.decl_core.specs.declared.object.Object.{Object}
 use Rattle.decl_core.specs.declared.object.Operation.{Operation}
-use Rattle.desk_core.specs.Lists.{Every}
-use Rattle.desk_core.specs.Board.{bodies}
-use Rattle.desk_core.specs.Sound.{IsFirstNamed}
-use Rattle.desk_core.specs.Answers.{HasName, IsNamedAt}
-use Rattle.desk_core.proofs.Lists.{Every-map}
+use Rattle.page_core.specs.Lists.{Every}
+use Rattle.board_core.specs.Board.{bodies}
+use Rattle.board_core.specs.Sound.{IsFirstNamed}
+use Rattle.board_core.specs.Answers.{HasName, IsNamedAt}
+use Rattle.page_core.proofs.Lists.{Every-map}
 
 -- none before an operation that is the first to have a name that was asked for has the operation's own name
 first_named : (o : Object) (place : ℕ) (operation : Operation) (name : List ℕ) → IsNamedAt o place operation name → IsFirstNamed o place operation

@@ -5,13 +5,13 @@ use Rattle.std.specs.List.{list_any}
 use Rattle.std.proofs.Math.ListN.{length-set}
 use Rattle.std.proofs.lemmas.Bool.{eq-eqb}
 use Rattle.std.proofs.lemmas.Bool.Decides.{eqb_tells}
-use Rattle.desk_core.specs.Lists.{Every}
-use Rattle.desk_core.specs.Calls.{Noted}
-use Rattle.desk_core.proofs.Lists.{Every-map, Every-snoc}
-use Rattle.desk_core.specs.Board.{Board}
-use Rattle.desk_core.specs.Sound.{IsSound, IsNoted}
-use Rattle.desk_core.proofs.Sound.{call_number}
-use Rattle.desk_core.proofs.Items.{get_more, get_set, get_front, get_last}
+use Rattle.page_core.specs.Lists.{Every}
+use Rattle.page_core.specs.ObjectCalls.{Noted}
+use Rattle.page_core.proofs.Lists.{Every-map, Every-snoc}
+use Rattle.board_core.specs.Board.{Board}
+use Rattle.board_core.specs.Sound.{IsSound, IsNoted}
+use Rattle.board_core.proofs.Sound.{call_number}
+use Rattle.board_core.proofs.Items.{get_more, get_set, get_front, get_last}
 use Rattle.desk_core.specs.Kept.{IsPlaceOf, ArePlaces}
 
 none_at : (k place : ℕ) → slice_get [] k ≡ Some place → ⊥

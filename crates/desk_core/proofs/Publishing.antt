@@ -9,8 +9,8 @@ use Rattle.std.proofs.lemmas.Option.{unwrap_or-slice_get, slice_get_past}
 use Rattle.device_core.specs.declared.hand.Stamp.{Stamp}
 use Rattle.page_core.specs.PartPins.{PartPin, pin_at, count_pages}
 use Rattle.page_core.proofs.Renewing.{set_same, set_other}
-use Rattle.desk_core.specs.Board.{published}
-use Rattle.desk_core.proofs.Published.{length-published, published_there, published_elsewhere}
+use Rattle.board_core.specs.Board.{published}
+use Rattle.board_core.proofs.Published.{length-published, published_there, published_elsewhere}
 use Rattle.desk_core.specs.Publishing.{ArePageLists, with_pin}
 
 -- lists of the same items are the same

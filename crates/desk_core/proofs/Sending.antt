@@ -1,9 +1,9 @@
 -- A desk may be handed to another thread and shared between threads.
 use denote.Param.Send.{IsSend, IsSync, sendable}
 use Rattle.std.proofs.Crossing.{crosses}
-use Rattle.desk_core.proofs.BoardSending.{accepted_send, accepted_sync, call_send, call_sync, entry_send, entry_sync}
-use Rattle.desk_core.proofs.KeySending.{index_send, index_sync}
-use Rattle.desk_core.proofs.QueueSending.{queue_send, queue_sync, running_send, running_sync}
+use Rattle.page_core.proofs.CallSending.{accepted_send, accepted_sync, call_send, call_sync, entry_send, entry_sync}
+use Rattle.board_core.proofs.KeySending.{index_send, index_sync}
+use Rattle.queue_core.proofs.QueueSending.{queue_send, queue_sync, running_send, running_sync}
 use Rattle.desk_core.specs.contracts.desk.Desk as desk
 
 pub desk_send : IsSend desk.the_row

@@ -1,8 +1,8 @@
 -- Sessions that are there.
 use Rattle.std.proofs.Common.{ℕ, ◌<◌, ◌≤◌, inl, inr, arith}
 use Rattle.std.proofs.lemmas.Bool.{cases_lt}
-use Rattle.desk_core.specs.Board.{Board}
-use Rattle.desk_core.specs.Answers.{IsGone}
+use Rattle.board_core.specs.Board.{Board}
+use Rattle.board_core.specs.Answers.{IsGone}
 
 -- a session that is there has a number from 1 to 1,024
 pub session_there : (b : Board) (session : ℕ) → (IsGone b session → ⊥) → (0 < session) × (session ≤ 1024)

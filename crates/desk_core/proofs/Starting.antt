@@ -10,11 +10,11 @@ use Rattle.value_core.proofs.Listing.{none_within}
 use Rattle.decl_core.specs.declared.object.Operation.{Operation}
 use Rattle.decl_core.specs.ObjectMap.{object_of}
 use Rattle.decl_core.specs.ObjectMap.{operations_of}
-use Rattle.desk_core.specs.Lists.{Every, EachPair, Among}
-use Rattle.desk_core.specs.Calls.{WaitingCall, RunningCall}
-use Rattle.desk_core.specs.Board.{Board, paths_of, past_of, IsNext, Rests, started, read_pins}
-use Rattle.desk_core.specs.Starts.{CanStart, IsFirst}
-use Rattle.desk_core.specs.Sound.{IsSound, IsMadeOf, IsWaitingIn, IsRunningIn, IsPinned, HasItsPins, kinds_of}
+use Rattle.page_core.specs.Lists.{Every, EachPair, Among}
+use Rattle.page_core.specs.ObjectCalls.{WaitingCall, RunningCall, read_pins}
+use Rattle.board_core.specs.Board.{Board, paths_of, past_of, IsNext, Rests, started}
+use Rattle.queue_core.specs.Starts.{CanStart, IsFirst}
+use Rattle.board_core.specs.Sound.{IsSound, IsMadeOf, IsWaitingIn, IsRunningIn, IsPinned, HasItsPins, kinds_of}
 use Rattle.decl_core.specs.declared.object.Part.{Part}
 use Rattle.decl_core.specs.Bodies.{body_of}
 use Rattle.decl_core.specs.Footprint.{reads_of}
@@ -26,10 +26,9 @@ use Rattle.device_core.specs.declared.hand.Stamp.{Stamp}
 use Rattle.page_core.specs.PartPins.{PartPin, pin_at, pins_in, put_if}
 use Rattle.apply_core.proofs.HeldReads.{reads_held}
 use Rattle.page_core.specs.CallPins.{HasPins}
-use Rattle.desk_core.proofs.Kept.{kept_at}
-use Rattle.desk_core.proofs.Lists.{Every-map, Every-at, Every-among, among_at, filter_one, filter_less, eqb_same}
-use Rattle.desk_core.proofs.Sound.{made_at}
-use Rattle.desk_core.proofs.Traces.{true_false}
+use Rattle.board_core.proofs.Kept.{kept_at}
+use Rattle.page_core.proofs.Lists.{Every-map, Every-at, Every-among, among_at, filter_one, filter_less, eqb_same, true_false}
+use Rattle.board_core.proofs.Sound.{made_at}
 
 -- each one stands before this place, or has no smaller number than the one there
 split_at : (xs : List WaitingCall) (k : ℕ) (w x : WaitingCall) → EachPair (λ x y. x.number < y.number) xs → slice_get xs k ≡ Some w → Among x xs → Among x (take k xs) ⊎ (w.number ≤ x.number)

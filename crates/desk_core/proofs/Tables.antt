@@ -3,13 +3,13 @@ use Rattle.std.proofs.Common.{◌≡◌, ℕ, ◌+◌, Bool, true, false, not, �
 use Rattle.std.specs.List.{filter}
 use Rattle.std.specs.Prelude.{replicate, slice_set, ◌-◌}
 use Rattle.decl_core.specs.declared.object.Object.{Object}
-use Rattle.desk_core.specs.declared.event.TraceEvent.{TraceEvent}
-use Rattle.desk_core.specs.declared.event.TraceEvent.TheVariants.{Start, End}
-use Rattle.desk_core.specs.Calls.{AcceptedCall, WaitingCall, RunningCall, Noted}
+use Rattle.board_core.specs.declared.event.TraceEvent.{TraceEvent}
+use Rattle.board_core.specs.declared.event.TraceEvent.TheVariants.{Start, End}
+use Rattle.page_core.specs.ObjectCalls.{AcceptedCall, WaitingCall, RunningCall, Noted, read_pins}
 use Rattle.device_core.specs.declared.hand.Stamp.{Stamp}
 use Rattle.page_core.specs.Outcomes.{if_done}
-use Rattle.desk_core.specs.Keys.{resumed}
-use Rattle.desk_core.specs.Board.{Board, most_sessions, opened, joined, dismissed, released, taken_at, marked, started, ended, published, read_pins}
+use Rattle.board_core.specs.Keys.{resumed}
+use Rattle.board_core.specs.Board.{Board, most_sessions, opened, joined, dismissed, released, taken_at, marked, started, ended, published}
 
 pub started_is : (b : Board) (w : WaitingCall) (trace : List TraceEvent) (waiting : List WaitingCall) (running : List RunningCall)
     → trace ≡ b.trace ++ Start w.number ∷ [] → waiting ≡ filter (λ x. not (x.number == w.number)) b.waiting

@@ -6,7 +6,7 @@ use Rattle.value_core.specs.Contents.{Contents}
 use Rattle.decl_core.specs.ObjectForm.{ObjectForm}
 use Rattle.word_core.specs.Words.{line_of}
 use Rattle.word_core.specs.Text.{TraceLine, event_words, front_words, lines_of, trace_text}
-use Rattle.desk_core.specs.Calls.{AcceptedCall, Noted}
+use Rattle.page_core.specs.ObjectCalls.{AcceptedCall, Noted}
 use Rattle.desk_core.specs.declared.marks.Mark.{Mark}
 use Rattle.desk_core.specs.Kept.{event_of, events_of}
 use Rattle.desk_core.specs.Told.{line_told}

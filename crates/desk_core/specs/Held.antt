@@ -5,8 +5,8 @@ use Rattle.decl_core.specs.ObjectMap.{object_of}
 use Rattle.apply_core.specs.declared.reply.Reply.{Reply}
 use Rattle.apply_core.specs.declared.reply.Reply.TheVariants.{Done, Refused, Failed}
 use Rattle.word_core.specs.TraceLaws.{HasNames}
-use Rattle.desk_core.specs.Lists.{Every}
-use Rattle.desk_core.specs.Board.{Board}
+use Rattle.page_core.specs.Lists.{Every}
+use Rattle.board_core.specs.Board.{Board}
 
 -- what a function replied is an integer below 2^32, or a text that is short enough
 abbrev pub TellsDatum : Reply → Type 0

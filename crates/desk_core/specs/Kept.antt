@@ -3,13 +3,13 @@ use Rattle.std.specs.Prelude.{◌≡◌, ◌≢◌, ℕ, zero, suc, ◌+◌, ◌
 use Rattle.std.specs.Prelude.{None, vec_capacity}
 use Rattle.std.specs.Arc.{arc_value}
 use Rattle.path_count.specs.Stands.{StandsFor}
-use Rattle.desk_core.specs.declared.event.TraceEvent.{TraceEvent}
-use Rattle.desk_core.specs.declared.event.TraceEvent.TheVariants.{Start, End}
-use Rattle.desk_core.specs.Lists.{Every}
-use Rattle.desk_core.specs.Calls.{Noted}
-use Rattle.desk_core.specs.Board.{Board, paths_of, past_of}
-use Rattle.desk_core.specs.Sound.{IsSound}
-use Rattle.desk_core.specs.Index.{AreIndexed}
+use Rattle.board_core.specs.declared.event.TraceEvent.{TraceEvent}
+use Rattle.board_core.specs.declared.event.TraceEvent.TheVariants.{Start, End}
+use Rattle.page_core.specs.Lists.{Every}
+use Rattle.page_core.specs.ObjectCalls.{Noted}
+use Rattle.board_core.specs.Board.{Board, paths_of, past_of}
+use Rattle.board_core.specs.Sound.{IsSound}
+use Rattle.board_core.specs.Index.{AreIndexed}
 use Rattle.desk_core.specs.declared.marks.Mark.{Mark}
 use Rattle.desk_core.specs.declared.marks.Mark.TheVariants as marks
 use Rattle.desk_core.specs.declared.roster.Roster.TheInside.{Inside}

@@ -3,23 +3,23 @@
 ghost use Rattle.std.specs.Prelude.{◌≡◌, ◌+◌, ◌<◌, ◌≤◌, ◌⊎◌, ◌↔◌, length, IfOk, IfErr, OnOk, IfSome, IfNone, IsTrue};
 ghost use Rattle.std.specs.Prelude.{true, false, Some, None, slice_get};
 ghost use Rattle.std.specs.Arc.{arc_value};
-ghost use Rattle.desk_core.specs.Calls.{AcceptedCall};
-ghost use Rattle.desk_core.specs.Board.{opened, joined, released, marked, call_at, Rests};
-ghost use Rattle.desk_core.specs.Started.{Settles};
-ghost use Rattle.desk_core.specs.Keys.{next_key, resumed};
-ghost use Rattle.desk_core.specs.Keyed.{Finds, SubmitsKeyed};
-ghost use Rattle.desk_core.specs.Sound.{IsSound};
+ghost use Rattle.page_core.specs.ObjectCalls.{AcceptedCall};
+ghost use Rattle.board_core.specs.Board.{opened, joined, released, marked, call_at, Rests};
+ghost use Rattle.board_core.specs.Started.{Settles};
+ghost use Rattle.board_core.specs.Keys.{next_key, resumed};
+ghost use Rattle.board_core.specs.Keyed.{Finds, SubmitsKeyed};
+ghost use Rattle.board_core.specs.Sound.{IsSound};
 ghost use Rattle.decl_core.specs.ObjectMap.{object_of};
 ghost use Rattle.word_core.specs.Text.{trace_text as text_of};
 ghost use Rattle.desk_core.specs.Told.{lines_told};
-ghost use Rattle.desk_core.specs.Answers.{IsGone, IsTaken, IsRefused, Cancels, Collects, Finishes, IsStranger};
-ghost use Rattle.desk_core.specs.Answers.{receipt_by, waits_in, runs_in, runs_by};
+ghost use Rattle.board_core.specs.Answers.{IsGone, IsTaken, IsRefused, Cancels, Collects, Finishes, IsStranger};
+ghost use Rattle.board_core.specs.Answers.{receipt_by, waits_in, runs_in, runs_by};
 
-use crate::answer::{Collected, EarlierCall, Finished, Keyed, Stranger};
-use crate::call::Call;
-use crate::entry::Entry;
-use crate::event::TraceEvent;
-use crate::receipt::Receipt;
+use board_core::answer::{Collected, EarlierCall, Finished, Keyed, Stranger};
+use page_core::call::Call;
+use page_core::entry::Entry;
+use board_core::event::TraceEvent;
+use board_core::receipt::Receipt;
 use crate::roster::{MOST_SESSIONS, Roster};
 use decl_core::analyse::Accepted;
 use guest_core::answer::{Cancelled, KeyedFault, SubmitFault};
@@ -40,7 +40,7 @@ pub struct Desk {
 }
 
 impl Model for Desk {
-    ghost use Rattle.desk_core.specs.Board.{Board, Rests};
+    ghost use Rattle.board_core.specs.Board.{Board, Rests};
     ghost use Rattle.decl_core.specs.contracts.object.Object as o;
     ghost use Rattle.decl_core.specs.contracts.object.Operation as e;
     ghost use Rattle.std.specs.Coded.{codes};

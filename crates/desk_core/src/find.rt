@@ -4,14 +4,14 @@ ghost use Rattle.std.specs.Prelude.{◌≡◌, ◌↔◌, ◌⊎◌, ◌<◌, Is
 ghost use Rattle.std.specs.List.{list_any};
 ghost use Rattle.decl_core.specs.declared.object.Operation.{Operation as AnOperation};
 ghost use Rattle.page_core.specs.Outcomes.{outcome_call, IsFresh};
-ghost use Rattle.desk_core.specs.Lists.{Every};
-ghost use Rattle.desk_core.specs.Calls.{RunningCall};
-ghost use Rattle.desk_core.specs.Board.{bodies};
-ghost use Rattle.desk_core.specs.Outcomes.{IsOf};
-ghost use Rattle.desk_core.specs.Answers.{HasName, IsNamedAt};
+ghost use Rattle.page_core.specs.Lists.{Every};
+ghost use Rattle.page_core.specs.ObjectCalls.{RunningCall};
+ghost use Rattle.board_core.specs.Board.{bodies};
+ghost use Rattle.board_core.specs.Outcomes.{IsOf};
+ghost use Rattle.board_core.specs.Answers.{HasName, IsNamedAt};
 
-use crate::call::Call;
-use crate::open_call::{Running, Waiting};
+use page_core::call::Call;
+use queue_core::open_call::{Running, Waiting};
 use decl_core::object::{Object, Operation};
 use decl_core::same::same_declaration;
 use page_core::outcome::Outcome;

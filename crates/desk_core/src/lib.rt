@@ -22,22 +22,9 @@
 //! the laws of calls under keys.
 #![tactic(auto)]
 
-pub mod answer;
-pub mod ask_laws;
-pub mod call;
 pub mod desk;
-pub mod entry;
-pub mod event;
 pub mod find;
 pub mod held;
-pub mod index;
-pub mod key_laws;
-pub mod laws;
 mod marks;
-pub mod open_call;
-pub mod pick;
-pub mod queue;
-pub mod receipt;
 mod roster;
 mod text;
-pub mod uncalled;

@@ -1,12 +1,12 @@
 //! What happened, in few bytes: an end is told by the place of its entry.
 
 ghost use Rattle.std.specs.Prelude.{◌≡◌, ◌<◌, ◌++◌, ◌∷◌, [], length, vec_capacity};
-ghost use Rattle.desk_core.specs.declared.event.TraceEvent.TheVariants.{End as Ended};
+ghost use Rattle.board_core.specs.declared.event.TraceEvent.TheVariants.{End as Ended};
 ghost use Rattle.desk_core.specs.declared.marks.Mark.TheVariants.{Start, End};
 ghost use Rattle.desk_core.specs.Kept.{IsMarkIn, event_of as told_by};
 
-use crate::entry::Entry;
-use crate::event::TraceEvent;
+use page_core::entry::Entry;
+use board_core::event::TraceEvent;
 
 /// What happened to a call.
 #[derive(Clone, Copy, Debug, PartialEq, Eq)]

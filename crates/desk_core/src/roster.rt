@@ -11,37 +11,37 @@ ghost use Rattle.apply_core.specs.Fits.{ArgumentsFit};
 ghost use Rattle.page_core.specs.CallPins.{HasPins, call_of};
 ghost use Rattle.page_core.specs.CallPins.{AreSized};
 ghost use Rattle.page_core.specs.Tickets.{ticket_call};
-ghost use Rattle.desk_core.specs.Lists.{Every};
-ghost use Rattle.desk_core.specs.Calls.{AcceptedCall, WaitingCall, RunningCall};
+ghost use Rattle.page_core.specs.Lists.{Every};
+ghost use Rattle.page_core.specs.ObjectCalls.{AcceptedCall, WaitingCall, RunningCall, read_pins};
 ghost use Rattle.decl_core.specs.Bodies.{body_of};
 ghost use Rattle.decl_core.specs.Touched.{Writes};
 ghost use Rattle.page_core.specs.PartPins.{pin_at};
 ghost use Rattle.page_core.specs.Outcomes.{outcome_call, if_done, IsFresh};
-ghost use Rattle.desk_core.specs.Board.{Board, bodies, call_at, opened, joined, dismissed, released, taken_at, marked};
-ghost use Rattle.desk_core.specs.Board.{started, ended, entry_of, published, read_pins, IsNext, Rests, Admits};
-ghost use Rattle.desk_core.specs.Keys.{next_key, resumed};
-ghost use Rattle.desk_core.specs.Keyed.{IsStateOf, Finds};
-ghost use Rattle.desk_core.specs.Answers.{HasName, IsGone, is_busy, waits_in, runs_in, runs_by, ended_in, IsLeft};
-ghost use Rattle.desk_core.specs.Answers.{NoneIsLeft, IsTaken, IsRefused, IsStranger};
-ghost use Rattle.desk_core.specs.Free.{IsNeeded, Picks};
-ghost use Rattle.desk_core.specs.Outcomes.{IsOf};
+ghost use Rattle.board_core.specs.Board.{Board, bodies, call_at, opened, joined, dismissed, released, taken_at, marked};
+ghost use Rattle.board_core.specs.Board.{started, ended, entry_of, published, IsNext, Rests, Admits};
+ghost use Rattle.board_core.specs.Keys.{next_key, resumed};
+ghost use Rattle.board_core.specs.Keyed.{IsStateOf, Finds};
+ghost use Rattle.board_core.specs.Answers.{HasName, IsGone, is_busy, waits_in, runs_in, runs_by, ended_in, IsLeft};
+ghost use Rattle.board_core.specs.Answers.{NoneIsLeft, IsTaken, IsRefused, IsStranger};
+ghost use Rattle.board_core.specs.Free.{IsNeeded, Picks};
+ghost use Rattle.board_core.specs.Outcomes.{IsOf};
 ghost use Rattle.desk_core.specs.Publishing.{ArePageLists, with_pin};
 ghost use Rattle.word_core.specs.Text.{trace_text as text_of};
 ghost use Rattle.desk_core.specs.Told.{lines_told};
-ghost use Rattle.desk_core.specs.Sound.{IsSound, IsFirstNamed};
+ghost use Rattle.board_core.specs.Sound.{IsSound, IsFirstNamed};
 
-use crate::answer::{CallState, EarlierCall};
-use crate::call::Call;
-use crate::entry::Entry;
-use crate::event::TraceEvent;
+use board_core::answer::{CallState, EarlierCall};
+use page_core::call::Call;
+use page_core::entry::Entry;
+use board_core::event::TraceEvent;
 use crate::find::{
     is_same_call, place_of, place_of_left, place_to_end, runs, runs_for, waits, waits_for,
 };
-use crate::index::Index;
+use board_core::index::Index;
 use crate::marks::{Mark, event_of, note, note_end, note_start};
-use crate::open_call::{NewCall, Running, Waiting};
-use crate::pick::pick;
-use crate::queue::WaitingQueue;
+use queue_core::open_call::{NewCall, Running, Waiting};
+use board_core::pick::pick;
+use queue_core::queue::WaitingQueue;
 use crate::text::{call_of, push_marks};
 use apply_core::fits::arguments_fit;
 use apply_core::reply::Reply;
@@ -91,7 +91,7 @@ pub(crate) struct Roster {
 }
 
 impl Model for Roster {
-    ghost use Rattle.desk_core.specs.Board.{Board};
+    ghost use Rattle.board_core.specs.Board.{Board};
     ghost use Rattle.decl_core.specs.contracts.object.Object as o;
     ghost use Rattle.decl_core.specs.contracts.object.Operation as e;
     ghost use Rattle.std.specs.Coded.{codes};

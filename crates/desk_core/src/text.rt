@@ -3,16 +3,16 @@
 ghost use Rattle.std.specs.Prelude.{◌≡◌, ◌++◌, OnOk, IfSome, IfNone, Some, None, map, length};
 ghost use Rattle.std.specs.Arc.{arc_value};
 ghost use Rattle.decl_core.specs.ObjectMap.{object_of};
-ghost use Rattle.desk_core.specs.Lists.{Every};
-ghost use Rattle.desk_core.specs.Board.{call_at};
+ghost use Rattle.page_core.specs.Lists.{Every};
+ghost use Rattle.board_core.specs.Board.{call_at};
 ghost use Rattle.word_core.specs.Words.{line_of};
 ghost use Rattle.word_core.specs.Text.{event_words, lines_of};
 ghost use Rattle.desk_core.specs.Kept.{IsMarkIn, events_of, event_of as event_told};
 ghost use Rattle.desk_core.specs.Told.{line_told};
 
-use crate::call::Call;
-use crate::entry::Entry;
-use crate::event::TraceEvent;
+use page_core::call::Call;
+use page_core::entry::Entry;
+use board_core::event::TraceEvent;
 use crate::marks::{Mark, event_of};
 use decl_core::object::Object;
 use std::alloc::{AllocError, Global};

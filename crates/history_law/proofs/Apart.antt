@@ -9,14 +9,14 @@ use Rattle.token_read.specs.Series.{IsSeries, no_more, and_another}
 use Rattle.decl_core.specs.ObjectForm.{OperationForm}
 use Rattle.decl_core.specs.HoldForm.{HoldForm, EveryForm, is_one_of, named_in, ending_in}
 use Rattle.guest_core.specs.Held.{hold_ended}
-use Rattle.hold_read.specs.Holds.{IsUndo, IsNextUndo, IsUndos, IsHoldItem, IsEveryItem}
-use Rattle.hold_read.specs.Holds.IsUndo.{undo}
-use Rattle.hold_read.specs.Holds.IsNextUndo.{next_undo}
-use Rattle.hold_read.specs.Holds.IsUndos.{undos}
-use Rattle.hold_read.specs.Holds.IsHoldItem.{a_hold}
-use Rattle.hold_read.specs.Holds.IsEveryItem.{an_every}
-use Rattle.hold_read.specs.Holds.IsRules.{rules as are_rules}
-use Rattle.hold_read.proofs.HoldSteps.{named_step, ending_step}
+use Rattle.decl_read.specs.Holds.{IsUndo, IsNextUndo, IsUndos, IsHoldItem, IsEveryItem}
+use Rattle.decl_read.specs.Holds.IsUndo.{undo}
+use Rattle.decl_read.specs.Holds.IsNextUndo.{next_undo}
+use Rattle.decl_read.specs.Holds.IsUndos.{undos}
+use Rattle.decl_read.specs.Holds.IsHoldItem.{a_hold}
+use Rattle.decl_read.specs.Holds.IsEveryItem.{an_every}
+use Rattle.decl_read.specs.Holds.IsRules.{rules as are_rules}
+use Rattle.decl_read.proofs.HoldSteps.{named_step, ending_step}
 use Rattle.history_law.specs.Keeps.{ReadAreApart}
 
 or_parts : (a b : Bool) → (a || b) ≡ false → (a ≡ false) × (b ≡ false)

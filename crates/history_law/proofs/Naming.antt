@@ -8,7 +8,7 @@ use Rattle.path_tree.specs.Known.{place_of, next}
 use Rattle.decl_core.specs.declared.object.Operation.{Operation}
 use Rattle.decl_core.specs.ObjectForm.{OperationForm}
 use Rattle.decl_core.specs.ObjectMap.{operation_of, operations_of}
-use Rattle.desk_core.specs.Lists.{Every}
+use Rattle.page_core.specs.Lists.{Every}
 use Rattle.audit_core.specs.Operations.{operation_names}
 
 decided_false : (b : Bool) (P : Type 0) → Decides b P → (P → ⊥) → b ≡ false

@@ -4,7 +4,7 @@ use Rattle.value_core.specs.Contents.{Contents, IsContents, kind_of}
 use Rattle.decl_core.specs.declared.object.Object.{Object}
 use Rattle.decl_core.specs.declared.object.Part.{Part}
 use Rattle.decl_core.specs.ObjectMap.{object_of, parts_of}
-use Rattle.desk_core.specs.Sound.{kinds_of}
+use Rattle.board_core.specs.Sound.{kinds_of}
 use Rattle.audit_core.specs.Laws.{AreOpening}
 
 -- the opening values of an object are its opening, where they are of its parts' kinds

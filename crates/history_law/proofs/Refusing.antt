@@ -18,9 +18,9 @@ use Rattle.apply_core.specs.declared.reply.Reply.{Reply}
 use Rattle.apply_core.specs.declared.reply.Reply.TheVariants.{Done, Refused, Failed}
 use Rattle.apply_core.specs.History.{IsReplyOn, left_by, IsLegal}
 use Rattle.word_core.specs.TraceLaws.{IsReply}
-use Rattle.desk_core.specs.Lists.{Every}
-use Rattle.desk_core.specs.Calls.{Noted}
-use Rattle.desk_core.specs.Chain.{history_of}
+use Rattle.page_core.specs.Lists.{Every}
+use Rattle.page_core.specs.ObjectCalls.{Noted}
+use Rattle.board_core.specs.Chain.{history_of}
 use Rattle.desk_core.specs.Held.{TellsDatum}
 
 -- what is refused is refused by a word

@@ -3,9 +3,9 @@ use Rattle.std.proofs.Common.{◌≡◌, inl, inr, Bool, true, false, ◌&&◌, 
 use Rattle.std.specs.Prelude.{if◌then◌else◌}
 use Rattle.std.proofs.lemmas.Bool.Decides.{nat_tests}
 use Rattle.path_tree.specs.Trace.{Call, Event, Start, End, IsTrace, IsAmong, without, running_calls}
-use Rattle.desk_core.proofs.Traces.{fresh_runs}
-use Rattle.desk_core.specs.Calls.{AcceptedCall}
-use Rattle.desk_core.specs.Board.{call_at}
+use Rattle.board_core.proofs.Traces.{fresh_runs}
+use Rattle.page_core.specs.ObjectCalls.{AcceptedCall}
+use Rattle.board_core.specs.Board.{call_at}
 use Rattle.desk_core.specs.Told.{called_of}
 use Rattle.word_core.specs.Events.{Called, Happened, began, ended, call_of, trace_of, IsRunning}
 

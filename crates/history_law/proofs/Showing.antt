@@ -8,8 +8,8 @@ use Rattle.decl_core.specs.declared.object.Object.{Object}
 use Rattle.decl_core.specs.ObjectMap.{object_of}
 use Rattle.device_core.specs.declared.hand.Stamp.{Stamp}
 use Rattle.device_core.specs.Device.{Assignment}
-use Rattle.desk_core.specs.Chain.{ShowContents}
-use Rattle.desk_core.specs.Sound.{kinds_of}
+use Rattle.board_core.specs.Chain.{ShowContents}
+use Rattle.board_core.specs.Sound.{kinds_of}
 use Rattle.audit_core.specs.Laws.{AreOpening}
 use Rattle.history_law.proofs.Opening.{are_opening}
 

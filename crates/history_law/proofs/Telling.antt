@@ -17,13 +17,13 @@ use Rattle.word_core.specs.Events.{Happened, began, ended, event_of, trace_of, f
 use Rattle.word_core.specs.Text.{call_ended, trace_text, told_of, operation_name}
 use Rattle.word_core.specs.TraceLaws.{IsReply}
 use Rattle.word_core.proofs.Growing.{body_is_same}
-use Rattle.desk_core.specs.declared.event.TraceEvent.{TraceEvent}
-use Rattle.desk_core.specs.declared.event.TraceEvent.TheVariants.{Start, End}
-use Rattle.desk_core.specs.Lists.{Every}
-use Rattle.desk_core.specs.Calls.{AcceptedCall, Noted}
-use Rattle.desk_core.specs.Board.{Board, call_at, path_event, path_trace, operation_place}
-use Rattle.desk_core.specs.Sound.{IsNumbered, IsMadeOf, IsNoted, event_number, ends_of}
-use Rattle.desk_core.specs.Chain as chain
+use Rattle.board_core.specs.declared.event.TraceEvent.{TraceEvent}
+use Rattle.board_core.specs.declared.event.TraceEvent.TheVariants.{Start, End}
+use Rattle.page_core.specs.Lists.{Every}
+use Rattle.page_core.specs.ObjectCalls.{AcceptedCall, Noted}
+use Rattle.board_core.specs.Board.{Board, call_at, path_event, path_trace, operation_place}
+use Rattle.board_core.specs.Sound.{IsNumbered, IsMadeOf, IsNoted, event_number, ends_of}
+use Rattle.board_core.specs.Chain as chain
 use Rattle.desk_core.specs.Told.{called_of, line_told, lines_told}
 use Rattle.audit_core.specs.Laws.{IsCallFor, AreCallsFor}
 use Rattle.audit_core.specs.Operations.{operation_names}

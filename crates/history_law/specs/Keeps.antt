@@ -8,7 +8,7 @@ use Rattle.live_core.specs.Hall.{Every}
 use Rattle.decl_core.specs.HoldForm.{HoldForm, EveryForm, RulesForm}
 use Rattle.guest_core.specs.Held.{HeldCall, AreHeld, MayUndo, KeepsHolds, hold_ended, is_loose}
 use Rattle.guest_core.specs.Laws.{given, taken, held_by}
-use Rattle.hold_read.specs.Holds.{IsRules}
+use Rattle.decl_read.specs.Holds.{IsRules}
 use Rattle.live_core.specs.Scene.{Scene}
 use Rattle.keep_loop.specs.Turns.{Turn}
 use Rattle.client_core.specs.Custody.{Custody}

@@ -4,9 +4,9 @@ use Rattle.value_core.specs.Contents.{Contents}
 use Rattle.decl_core.specs.ObjectMap.{object_of}
 use Rattle.apply_core.specs.History.{IsLegal}
 use Rattle.word_core.specs.Text.{trace_text}
-use Rattle.desk_core.specs.Board.{Board}
-use Rattle.desk_core.specs.Sound.{IsSound}
-use Rattle.desk_core.specs.Chain.{history_of}
+use Rattle.board_core.specs.Board.{Board}
+use Rattle.board_core.specs.Sound.{IsSound}
+use Rattle.board_core.specs.Chain.{history_of}
 use Rattle.desk_core.specs.Told.{lines_told}
 use Rattle.audit_core.specs.Verdicts.{IsLegalTrace}
 use Rattle.audit_core.specs.Laws.{AreOpening}

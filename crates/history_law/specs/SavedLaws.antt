@@ -4,7 +4,7 @@ use Rattle.decl_core.specs.ObjectMap.{object_of}
 use Rattle.decl_core.specs.declared.object.Part.{Part}
 use Rattle.device_core.specs.Device.{Assignment}
 use Rattle.page_core.specs.Opened.{ArePinned}
-use Rattle.desk_core.specs.Lists.{Every}
+use Rattle.page_core.specs.Lists.{Every}
 use Rattle.office_core.specs.Slips.{IsTrueTold}
 use Rattle.keep_core.specs.Ends.{Ended, IsAtEnd, trace_of}
 use Rattle.keep_core.specs.Opening.{values_of}

@@ -5,8 +5,8 @@ ghost use Rattle.value_core.specs.Contents.{IsContents, kind_of};
 ghost use Rattle.decl_core.specs.ObjectMap.{object_of};
 ghost use Rattle.apply_core.specs.History.{IsLegal};
 ghost use Rattle.word_core.specs.Text.{trace_text};
-ghost use Rattle.desk_core.specs.Chain.{history_of};
-ghost use Rattle.desk_core.specs.Sound.{kinds_of};
+ghost use Rattle.board_core.specs.Chain.{history_of};
+ghost use Rattle.board_core.specs.Sound.{kinds_of};
 ghost use Rattle.desk_core.specs.Told.{lines_told};
 ghost use Rattle.audit_core.specs.Verdicts.{IsLegalTrace};
 

@@ -4,11 +4,11 @@ use Rattle.std.proofs.lemmas.List.{length-map}
 use Rattle.path_tree.specs.Trace.{Event, Start as Began, End as Ended}
 use Rattle.path_count.specs.Stands.{started_calls}
 use Rattle.path_count.proofs.Running.{few_events}
-use Rattle.desk_core.specs.declared.event.TraceEvent.{TraceEvent}
-use Rattle.desk_core.specs.declared.event.TraceEvent.TheVariants.{Start, End}
-use Rattle.desk_core.specs.Calls.{AcceptedCall, Noted}
-use Rattle.desk_core.specs.Board.{Board, path_event, past_of}
-use Rattle.desk_core.specs.Sound.{IsSound, ends_of}
+use Rattle.board_core.specs.declared.event.TraceEvent.{TraceEvent}
+use Rattle.board_core.specs.declared.event.TraceEvent.TheVariants.{Start, End}
+use Rattle.page_core.specs.ObjectCalls.{AcceptedCall, Noted}
+use Rattle.board_core.specs.Board.{Board, path_event, past_of}
+use Rattle.board_core.specs.Sound.{IsSound, ends_of}
 use Rattle.std.specs.Prelude.{fold}
 
 -- so many calls have ended

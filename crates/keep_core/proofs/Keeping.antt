@@ -18,7 +18,7 @@ use Rattle.page_core.specs.declared.save.SaveFault.{SaveFault}
 use Rattle.page_core.specs.declared.save.SaveFault.TheVariants.{Damaged, Device}
 use Rattle.page_core.specs.declared.save.SaveFault.TheVariants as save
 use Rattle.page_core.specs.Saved.{IsFetched, AreFetched, with_parts, IsDamagedPin, IsSavedTo, MaySave, PartLeaves, PartLeft, PinSaveCause, SaveLeaves, StoreLeaves}
-use Rattle.desk_core.specs.Lists.{Every, Among}
+use Rattle.page_core.specs.Lists.{Every, Among}
 use Rattle.keep_core.specs.declared.trouble.Trouble.{Trouble}
 use Rattle.keep_core.specs.Troubles.{first_of, fault_in}
 use Rattle.keep_core.specs.Lines.{AreSaid, AreTold, IsOfClosing, damaged_line, damaged_lines}

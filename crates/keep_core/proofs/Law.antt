@@ -19,10 +19,10 @@ use Rattle.device_core.specs.Papers.{Papers, part_key}
 use Rattle.page_core.specs.Bytes.{list_bytes}
 use Rattle.page_core.specs.Opened.{ArePinned}
 use Rattle.apply_core.specs.History.{IsLegal}
-use Rattle.desk_core.specs.Lists.{Every}
-use Rattle.desk_core.specs.Board.{Board}
-use Rattle.desk_core.specs.Chain.{ShowContents, history_of}
-use Rattle.desk_core.specs.Sound.{kinds_of}
+use Rattle.page_core.specs.Lists.{Every}
+use Rattle.board_core.specs.Board.{Board}
+use Rattle.board_core.specs.Chain.{ShowContents, history_of}
+use Rattle.board_core.specs.Sound.{kinds_of}
 use Rattle.office_core.specs.Slips.{StandsIn, IsTrueTold}
 use Rattle.office_core.proofs.Law.{slips_are_legal}
 use Rattle.keep_core.specs.Kept.{Stored, with_stores, IsOfPart, IsOfPin, HasStore}

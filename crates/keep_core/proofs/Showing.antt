@@ -10,7 +10,7 @@ use Rattle.page_core.specs.Bytes.{ArePages}
 use Rattle.page_core.proofs.ListBytes.{holds_page, pages_bytes}
 use Rattle.page_core.specs.Pages.{AreHeld}
 use Rattle.page_core.specs.Opened.{IsPinned, ArePinned}
-use Rattle.desk_core.specs.Chain.{ShowContents, Shows}
+use Rattle.board_core.specs.Chain.{ShowContents, Shows}
 
 one_is : {X : Type 0} {x y : X} → Some x ≡ Some y → x ≡ y
 one_is e = cc

@@ -6,9 +6,9 @@ use Rattle.decl_core.specs.ObjectMap.{object_of}
 use Rattle.device_core.specs.Device.{Assignment}
 use Rattle.device_core.specs.Papers.{Papers}
 use Rattle.word_core.specs.Text.{trace_text as text_of}
-use Rattle.desk_core.specs.Lists.{Every}
-use Rattle.desk_core.specs.Board.{Board}
-use Rattle.desk_core.specs.Sound.{IsSound}
+use Rattle.page_core.specs.Lists.{Every}
+use Rattle.board_core.specs.Board.{Board}
+use Rattle.board_core.specs.Sound.{IsSound}
 use Rattle.desk_core.specs.Told.{lines_told}
 use Rattle.desk_core.specs.Held.{CanBeTold}
 use Rattle.office_core.specs.Slips.{Told, StandsIn}

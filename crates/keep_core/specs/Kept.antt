@@ -14,7 +14,7 @@ use Rattle.device_core.specs.Papers.{Papers, part_key}
 use Rattle.page_core.specs.declared.save.SaveFault.{SaveFault}
 use Rattle.page_core.specs.declared.save.SaveFault.TheVariants as save
 use Rattle.page_core.specs.Saved.{IsFetched, IsDamagedPin}
-use Rattle.desk_core.specs.Lists.{Every, Among}
+use Rattle.page_core.specs.Lists.{Every, Among}
 use Rattle.keep_core.specs.declared.trouble.Trouble.{Trouble}
 use Rattle.keep_core.specs.Moments.{Moment}
 use Rattle.keep_core.specs.Troubles.{first_of}

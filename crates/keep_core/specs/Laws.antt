@@ -7,9 +7,9 @@ use Rattle.decl_core.specs.declared.object.Part.{Part}
 use Rattle.device_core.specs.Device.{Assignment}
 use Rattle.device_core.specs.Papers.{Papers, part_key}
 use Rattle.apply_core.specs.History.{IsLegal, leads_to}
-use Rattle.desk_core.specs.Lists.{Every}
-use Rattle.desk_core.specs.Chain.{ShowContents, history_of}
-use Rattle.desk_core.specs.Sound.{kinds_of}
+use Rattle.page_core.specs.Lists.{Every}
+use Rattle.board_core.specs.Chain.{ShowContents, history_of}
+use Rattle.board_core.specs.Sound.{kinds_of}
 use Rattle.office_core.specs.Slips.{IsTrueTold}
 use Rattle.keep_core.specs.Kept.{AreStored}
 use Rattle.page_core.specs.Opened.{ArePinned}

@@ -6,8 +6,8 @@ use Rattle.value_core.specs.declared.machine.LinesFault.TheVariants.{ReadFault, 
 use Rattle.device_core.specs.Device.{Assignment}
 use Rattle.device_core.specs.Papers.{Papers}
 use Rattle.page_core.specs.Opened.{ArePinned, IsFirstDamaged}
-use Rattle.desk_core.specs.Board.{Board}
-use Rattle.desk_core.specs.Sound.{kinds_of}
+use Rattle.board_core.specs.Board.{Board}
+use Rattle.board_core.specs.Sound.{kinds_of}
 use Rattle.keep_core.specs.declared.open.NotOpened.{NotOpened}
 use Rattle.keep_core.specs.declared.open.NotOpened.TheVariants.{Damaged, Fault}
 use Rattle.keep_core.specs.declared.opening.ObjectOpening.{ObjectOpening}

@@ -8,7 +8,7 @@ ghost use Rattle.device_core.specs.Device.{Assignment};
 ghost use Rattle.decl_core.specs.ObjectMap.{object_of};
 ghost use Rattle.word_core.specs.Text.{trace_text as text_of};
 ghost use Rattle.page_core.specs.Saved.{MaySave, StoreLeaves};
-ghost use Rattle.desk_core.specs.Sound.{IsSound};
+ghost use Rattle.board_core.specs.Sound.{IsSound};
 ghost use Rattle.desk_core.specs.Told.{lines_told};
 ghost use Rattle.keep_core.specs.Ends.{kept_in, KeepsIn, HasAll, EndsIn, Ended, IsOf, IsEndingIn};
 ghost use Rattle.keep_core.specs.Moments.{moment_of};

@@ -4,7 +4,7 @@ ghost use Rattle.std.specs.Prelude.{◌≡◌, ◌↔◌, ◌<◌, ◌≤◌, �
 ghost use Rattle.office_core.specs.Receipts.{HaveSlips};
 ghost use Rattle.keep_core.specs.Marks.{mark_at, marked};
 
-use desk_core::entry::Entry;
+use page_core::entry::Entry;
 use office_core::slip::Slip;
 use std::alloc::{AllocError, Global};
 use std::marker::Model;

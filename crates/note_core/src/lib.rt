@@ -18,6 +18,10 @@
 #![tactic(auto)]
 
 pub mod alike;
+mod around;
+mod case;
+mod change;
+pub mod explain;
 pub mod fault;
 pub mod files;
 pub mod finding;
@@ -28,14 +32,23 @@ mod misplaced;
 pub mod name;
 mod names;
 pub mod nodes;
+mod op_set;
 pub mod page;
 pub mod pairs;
 mod paths;
 pub mod place;
+mod proposal;
+mod refusal;
+mod remark;
 mod rows;
 pub mod rules;
 pub mod said;
 mod seen;
+mod shown;
 mod signs;
 pub mod span;
+pub mod stuck_explain;
 pub mod tokens;
+mod touch;
+mod waiting;
+mod ways;

@@ -5,14 +5,14 @@ use Rattle.std.proofs.lemmas.Option.{same_Some}
 use Rattle.decl_core.specs.ObjectMap.{operation_of}
 use Rattle.page_core.specs.declared.ticket.Ticket.{Ticket}
 use Rattle.page_core.specs.CallPins.{Call}
-use Rattle.desk_core.specs.Calls.{AcceptedCall}
-use Rattle.desk_core.specs.Board.{Board, call_at, joined}
-use Rattle.desk_core.specs.Started.{Settles}
-use Rattle.desk_core.specs.Sound.{IsSound, IsRunningIn}
-use Rattle.desk_core.proofs.Lists.{Every-at}
-use Rattle.desk_core.proofs.Traces.{call_at-new}
-use Rattle.desk_core.specs.declared.answer.Collected.TheVariants as collected
-use Rattle.desk_core.specs.Answers.{Asked, IsTaken, Collects}
+use Rattle.page_core.specs.ObjectCalls.{AcceptedCall}
+use Rattle.board_core.specs.Board.{Board, call_at, joined}
+use Rattle.board_core.specs.Started.{Settles}
+use Rattle.board_core.specs.Sound.{IsSound, IsRunningIn}
+use Rattle.page_core.proofs.Lists.{Every-at}
+use Rattle.board_core.proofs.Traces.{call_at-new}
+use Rattle.board_core.specs.declared.answer.Collected.TheVariants as collected
+use Rattle.board_core.specs.Answers.{Asked, IsTaken, Collects}
 use Rattle.office_core.specs.declared.seat.Submitted.{Submitted}
 use Rattle.office_core.specs.Submissions.{IsOf, IsTicketOf}
 

@@ -1,14 +1,14 @@
 -- Calls under keys.
 use Rattle.std.proofs.Common.{◌≡◌, ℕ, refl, sym, subst}
 use Rattle.std.specs.Prelude.{Ok, Err}
-use Rattle.desk_core.specs.Board.{Board}
-use Rattle.desk_core.specs.Sound.{IsSound}
-use Rattle.desk_core.specs.Keys.{next_key}
+use Rattle.board_core.specs.Board.{Board}
+use Rattle.board_core.specs.Sound.{IsSound}
+use Rattle.board_core.specs.Keys.{next_key}
 use Rattle.guest_core.specs.declared.answer.SubmitFault.{SubmitFault}
 use Rattle.guest_core.specs.declared.answer.KeyedFault.{KeyedFault}
 use Rattle.guest_core.specs.declared.answer.KeyedFault.TheVariants.{Gone, BadKey, KeyReused, Submit}
-use Rattle.desk_core.specs.Answers.{Asked, IsGone, IsRefused}
-use Rattle.desk_core.specs.Keyed.{Finds, SubmitsKeyed}
+use Rattle.board_core.specs.Answers.{Asked, IsGone, IsRefused}
+use Rattle.board_core.specs.Keyed.{Finds, SubmitsKeyed}
 
 -- a fault that a look at a key finds is that of a submission, which changes nothing
 pub found_fault : (b : Board) (a : Asked) (key : ℕ) (fault : KeyedFault) → Finds b a key (Err fault) → SubmitsKeyed b a key (Err fault) b

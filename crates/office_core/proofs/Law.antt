@@ -7,15 +7,15 @@ use Rattle.page_core.specs.PartPins.{PartPin}
 use Rattle.apply_core.specs.declared.reply.Reply.{Reply}
 use Rattle.apply_core.specs.declared.reply.Reply.TheVariants as replies
 use Rattle.page_core.specs.Outcomes.{outcome_reply, outcome_news, if_done}
-use Rattle.desk_core.specs.declared.receipt.Receipt.{Receipt}
-use Rattle.desk_core.specs.Lists.{Every}
-use Rattle.desk_core.specs.Calls.{Noted, RunningCall}
-use Rattle.desk_core.specs.Board.{entry_of}
-use Rattle.desk_core.specs.Chain.{IsTrueEntry}
-use Rattle.desk_core.specs.Sound.{kinds_of}
-use Rattle.desk_core.proofs.Lists.{Every-among}
-use Rattle.desk_core.proofs.BoardLaws.{truth_is_noted}
-use Rattle.desk_core.proofs.Law.{chained_are_legal}
+use Rattle.board_core.specs.declared.receipt.Receipt.{Receipt}
+use Rattle.page_core.specs.Lists.{Every}
+use Rattle.page_core.specs.ObjectCalls.{Noted, RunningCall}
+use Rattle.board_core.specs.Board.{entry_of}
+use Rattle.board_core.specs.Chain.{IsTrueEntry}
+use Rattle.board_core.specs.Sound.{kinds_of}
+use Rattle.page_core.proofs.Lists.{Every-among}
+use Rattle.board_core.proofs.BoardLaws.{truth_is_noted}
+use Rattle.board_core.proofs.Law.{chained_are_legal}
 use Rattle.office_core.specs.Slips.{Told, told_of, IsEntryTold, StandsIn, IsTrueTold}
 use Rattle.office_core.specs.Closing.{Stands}
 use Rattle.office_core.specs.Receipts.{IsTrueReceipt, ReceiptsAreLegal, SlipsAreLegal}

@@ -3,11 +3,11 @@ use Rattle.std.proofs.Common.{◌≡◌, ◌≢◌, ℕ, ◌+◌, ◌<◌, ◌�
 use Rattle.std.specs.Prelude.{slice_get, slice_set, slice_index_or, IfSome}
 use Rattle.std.proofs.lemmas.List.{set-get_or}
 use Rattle.std.proofs.lemmas.Option.{slice_get-get_or, same_Some}
-use Rattle.desk_core.specs.Lists.{Every, EachPair}
+use Rattle.page_core.specs.Lists.{Every, EachPair}
 use Rattle.office_core.specs.declared.client_seat.Seat.{Seat}
 use Rattle.office_core.specs.declared.clients.Client.{Client}
 use Rattle.office_core.specs.Clients.{IsClient, AreClients}
-use Rattle.desk_core.proofs.Lists.{Every-map, Every-at, Every-set, Every-snoc, Every-both, EachPair-set, EachPair-snoc}
+use Rattle.page_core.proofs.Lists.{Every-map, Every-at, Every-set, Every-snoc, Every-both, EachPair-set, EachPair-snoc}
 
 -- another seat of a client, or none
 set_seat : (given : ℕ) (clients : List Client) (k : ℕ) (c : Client) (seat : Option Seat) → AreClients given clients → slice_get clients k ≡ Some c → IfSome seat (λ (s : Seat). s.session ≡ c.session)

@@ -1,7 +1,7 @@
 -- An inside may be handed to another thread, and an office shared between threads.
 use denote.Param.Send.{IsSend, IsSync, sendable}
 use Rattle.std.proofs.Crossing.{crosses}
-use Rattle.desk_core.proofs.BoardSending.{operation_send, operation_sync}
+use Rattle.page_core.proofs.CallSending.{operation_send, operation_sync}
 use Rattle.desk_core.proofs.Sending.{desk_send, desk_sync}
 use Rattle.office_core.specs.contracts.seat.Submitted as submitted
 use Rattle.office_core.specs.contracts.inside.Inside as inside

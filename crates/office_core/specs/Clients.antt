@@ -1,6 +1,6 @@
 -- Clients that come again: the seats that were given out under a name.
 use Rattle.std.specs.Prelude.{◌≡◌, ◌≢◌, ℕ, ◌<◌, ◌≤◌, List, [], ◌∷◌, Option, Some, None, IfSome}
-use Rattle.desk_core.specs.Lists.{Every, EachPair}
+use Rattle.page_core.specs.Lists.{Every, EachPair}
 use Rattle.office_core.specs.declared.client_seat.Seat.{Seat}
 use Rattle.office_core.specs.declared.clients.Client.{Client}
 

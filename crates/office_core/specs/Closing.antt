@@ -1,10 +1,10 @@
 -- When an inside is closed.
 use Rattle.std.specs.Prelude.{◌≡◌, ℕ, ◌+◌, ◌-◌, ◌<◌, List, ◌++◌, length, slice_get, take, Some, Result, Ok, Err}
-use Rattle.desk_core.specs.declared.receipt.Receipt.{Receipt}
-use Rattle.desk_core.specs.Lists.{Every}
-use Rattle.desk_core.specs.Calls.{Noted}
-use Rattle.desk_core.specs.Board.{Board}
-use Rattle.desk_core.specs.Outcomes.{IsEntryOf}
+use Rattle.board_core.specs.declared.receipt.Receipt.{Receipt}
+use Rattle.page_core.specs.Lists.{Every}
+use Rattle.page_core.specs.ObjectCalls.{Noted}
+use Rattle.board_core.specs.Board.{Board}
+use Rattle.board_core.specs.Outcomes.{IsEntryOf}
 use Rattle.office_core.specs.Slips.{Told, StandsIn}
 use Rattle.office_core.specs.declared.client_seat.Seat.{Seat}
 use Rattle.office_core.specs.ClientSeats.{AreSeats}

@@ -1,10 +1,10 @@
 -- What lies under the lock of an office.
 use Rattle.std.specs.Prelude.{◌≡◌, ℕ, ◌+◌, List, length, Result, Ok, Err}
-use Rattle.desk_core.specs.Calls.{AcceptedCall}
-use Rattle.desk_core.specs.Board.{Board, joined}
-use Rattle.desk_core.specs.Started.{Settles}
+use Rattle.page_core.specs.ObjectCalls.{AcceptedCall}
+use Rattle.board_core.specs.Board.{Board, joined}
+use Rattle.board_core.specs.Started.{Settles}
 use Rattle.guest_core.specs.declared.answer.SubmitFault.{SubmitFault}
-use Rattle.desk_core.specs.Answers.{Asked, IsTaken, IsRefused}
+use Rattle.board_core.specs.Answers.{Asked, IsTaken, IsRefused}
 use Rattle.office_core.specs.declared.clients.Client.{Client}
 
 -- a board, how many sessions were given out, and the names under which some of them were

@@ -1,12 +1,12 @@
 -- What a call under a key is answered.
 use Rattle.std.specs.Prelude.{◌≡◌, ℕ, Result, Ok, Err}
-use Rattle.desk_core.specs.Board.{Board}
-use Rattle.desk_core.specs.Sound.{IsSound}
-use Rattle.desk_core.specs.Answers.{Asked}
-use Rattle.desk_core.specs.Keyed.{IsKeptCall, SubmitsKeyed}
+use Rattle.board_core.specs.Board.{Board}
+use Rattle.board_core.specs.Sound.{IsSound}
+use Rattle.board_core.specs.Answers.{Asked}
+use Rattle.board_core.specs.Keyed.{IsKeptCall, SubmitsKeyed}
 use Rattle.guest_core.specs.declared.answer.KeyedFault.{KeyedFault}
-use Rattle.desk_core.specs.declared.answer.Keyed.{Keyed}
-use Rattle.desk_core.specs.declared.answer.Keyed.TheVariants as keyed
+use Rattle.board_core.specs.declared.answer.Keyed.{Keyed}
+use Rattle.board_core.specs.declared.answer.Keyed.TheVariants as keyed
 use Rattle.office_core.specs.declared.seat.Submitted.{Submitted}
 use Rattle.office_core.specs.declared.uncalled.Resubmitted.{Resubmitted}
 use Rattle.office_core.specs.declared.uncalled.Resubmitted.TheVariants as asked

@@ -1,11 +1,11 @@
 -- Seats that are given out under a name, and parked.
 use Rattle.std.specs.Prelude.{◌≡◌, ◌≢◌, ℕ, ◌+◌, ◌<◌, ◌≤◌, ◌⊎◌, ◌++◌, ◌∷◌, [], List, true, false, slice_get, slice_set}
 use Rattle.std.specs.Prelude.{Some, None, Result, Ok, Err}
-use Rattle.desk_core.specs.Lists.{Every}
-use Rattle.desk_core.specs.Board.{released, marked}
-use Rattle.desk_core.specs.Started.{Settles}
-use Rattle.desk_core.specs.Keys.{resumed}
-use Rattle.desk_core.specs.Answers.{runs_by}
+use Rattle.page_core.specs.Lists.{Every}
+use Rattle.board_core.specs.Board.{released, marked}
+use Rattle.board_core.specs.Started.{Settles}
+use Rattle.board_core.specs.Keys.{resumed}
+use Rattle.board_core.specs.Answers.{runs_by}
 use Rattle.office_core.specs.declared.client_seat.Seat.{Seat}
 use Rattle.office_core.specs.declared.clients.Client.{Client}
 use Rattle.office_core.specs.ClientSeats.{IsFresh}

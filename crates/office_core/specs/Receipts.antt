@@ -5,12 +5,12 @@ use Rattle.device_core.specs.Device.{Assignment}
 use Rattle.page_core.specs.Truths.{IsTrueOf}
 use Rattle.apply_core.specs.History.{IsLegal, leads_to}
 use Rattle.page_core.specs.Outcomes.{outcome_call, outcome_reply, outcome_pins}
-use Rattle.desk_core.specs.declared.receipt.Receipt.{Receipt}
-use Rattle.desk_core.specs.Lists.{Every, Among}
-use Rattle.desk_core.specs.Calls.{Noted}
-use Rattle.desk_core.specs.Board.{Board}
-use Rattle.desk_core.specs.Chain.{ShowContents, history_of}
-use Rattle.desk_core.specs.Sound.{IsSound, kinds_of}
+use Rattle.board_core.specs.declared.receipt.Receipt.{Receipt}
+use Rattle.page_core.specs.Lists.{Every, Among}
+use Rattle.page_core.specs.ObjectCalls.{Noted}
+use Rattle.board_core.specs.Board.{Board}
+use Rattle.board_core.specs.Chain.{ShowContents, history_of}
+use Rattle.board_core.specs.Sound.{IsSound, kinds_of}
 use Rattle.office_core.specs.Slips.{Told, StandsIn, IsTrueTold}
 use Rattle.office_core.specs.Closing.{Stands}
 

@@ -2,10 +2,10 @@
 use Rattle.std.specs.Prelude.{◌≡◌, ℕ, ◌+◌, ◌≤◌, ◌<◌, length, Result, Ok, Err}
 use Rattle.page_core.specs.declared.outcome.Outcome.{Outcome}
 use Rattle.page_core.specs.Outcomes.{TellsSame}
-use Rattle.desk_core.specs.Sound.{IsSound}
-use Rattle.desk_core.specs.declared.receipt.Receipt.{Receipt}
-use Rattle.desk_core.specs.Answers.{Finishes, IsStranger, receipt_by}
-use Rattle.desk_core.specs.declared.answer.Finished.{Finished}
+use Rattle.board_core.specs.Sound.{IsSound}
+use Rattle.board_core.specs.declared.receipt.Receipt.{Receipt}
+use Rattle.board_core.specs.Answers.{Finishes, IsStranger, receipt_by}
+use Rattle.board_core.specs.declared.answer.Finished.{Finished}
 use Rattle.office_core.specs.declared.client_seat.Seat.{Seat}
 use Rattle.office_core.specs.ClientSeats.{Advances}
 use Rattle.office_core.specs.declared.seat.NotTaken.{NotTaken}

@@ -8,8 +8,8 @@ use Rattle.page_core.specs.CallPins.{Call}
 use Rattle.page_core.specs.Truths.{IsTrueOf}
 use Rattle.page_core.specs.declared.outcome.Outcome.{Outcome}
 use Rattle.page_core.specs.Outcomes.{outcome_call, outcome_reply, outcome_pins, if_done}
-use Rattle.desk_core.specs.declared.receipt.Receipt.{Receipt}
-use Rattle.desk_core.specs.Calls.{Noted}
+use Rattle.board_core.specs.declared.receipt.Receipt.{Receipt}
+use Rattle.page_core.specs.ObjectCalls.{Noted}
 
 -- what a receipt tells: the place of an entry, and the entry there, as its session and the outcome of its run tell it
 pub record Told : Type 0 where

@@ -6,11 +6,11 @@ use Rattle.decl_core.specs.declared.object.Operation.{Operation}
 use Rattle.decl_core.specs.ObjectMap.{operation_of}
 use Rattle.page_core.specs.declared.ticket.Ticket.{Ticket as Admitted}
 use Rattle.page_core.specs.Tickets.{ticket_call}
-use Rattle.desk_core.specs.Calls.{AcceptedCall}
-use Rattle.desk_core.specs.Board.{Board, call_at}
-use Rattle.desk_core.specs.Sound.{IsSound}
-use Rattle.desk_core.specs.declared.answer.Collected.TheVariants as collected
-use Rattle.desk_core.specs.Answers.{Collects, HasName, waits_in, runs_in, ended_in}
+use Rattle.page_core.specs.ObjectCalls.{AcceptedCall}
+use Rattle.board_core.specs.Board.{Board, call_at}
+use Rattle.board_core.specs.Sound.{IsSound}
+use Rattle.board_core.specs.declared.answer.Collected.TheVariants as collected
+use Rattle.board_core.specs.Answers.{Collects, HasName, waits_in, runs_in, ended_in}
 use Rattle.office_core.specs.declared.seat.Submitted.{Submitted}
 use Rattle.office_core.specs.declared.seat.Started.{Started}
 use Rattle.office_core.specs.declared.seat.Started.TheVariants as started

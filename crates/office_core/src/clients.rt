@@ -3,7 +3,7 @@
 ghost use Rattle.std.specs.Prelude.{◌≡◌, ◌≢◌, ◌↔◌, ◌<◌, ◌≤◌, ◌+◌, ◌++◌, ◌∷◌, [], IsTrue, IfSome, IfNone, OnOk, OnErr};
 ghost use Rattle.std.specs.Prelude.{Some, None, ℕ, length, slice_get, slice_set, sum_by};
 ghost use Rattle.office_core.specs.declared.clients.Client.{Client as AClient};
-ghost use Rattle.desk_core.specs.Lists.{Every};
+ghost use Rattle.page_core.specs.Lists.{Every};
 ghost use Rattle.office_core.specs.Clients.{IsOut, parked_of};
 ghost use Rattle.office_core.specs.ClientSeats.{times, count_of};
 

@@ -2,7 +2,7 @@
 
 ghost use Rattle.std.specs.Prelude.{◌≡◌, ◌↔◌, ◌+◌, IsTrue, IfSome, IfNone, length, slice_get, Some};
 ghost use Rattle.decl_core.specs.ObjectMap.{operation_of};
-ghost use Rattle.desk_core.specs.Lists.{Every};
+ghost use Rattle.page_core.specs.Lists.{Every};
 ghost use Rattle.office_core.specs.Submissions.{IsCallOf, IsOf};
 ghost use Rattle.office_core.specs.Slips.{Told, StandsIn};
 ghost use Rattle.office_core.specs.Closing.{Misses, place_told};
@@ -10,9 +10,9 @@ ghost use Rattle.office_core.specs.Closing.{Misses, place_told};
 use crate::seat::Submitted;
 use crate::slip::Slip;
 use decl_core::same::same_declaration;
-use desk_core::call::Call;
+use page_core::call::Call;
 use desk_core::desk::Desk;
-use desk_core::entry::Entry;
+use page_core::entry::Entry;
 
 // Whether an accepted call has the operation and the arguments of a submission.
 fn is_call_of(call: &Call, submitted: &Submitted) -> bool

@@ -1,11 +1,11 @@
 //! What lies under the lock.
 
 ghost use Rattle.std.specs.Prelude.{◌≡◌, ◌+◌, ◌≤◌, ◌<◌, length, IfOk, IfErr, IfSome, IfNone, Ok, Err, []};
-ghost use Rattle.desk_core.specs.Board.{opened, Rests};
-ghost use Rattle.desk_core.specs.Sound.{IsSound};
-ghost use Rattle.desk_core.specs.Answers.{Cancels};
-ghost use Rattle.desk_core.specs.Started.{Settles};
-ghost use Rattle.desk_core.specs.Board.{released, marked};
+ghost use Rattle.board_core.specs.Board.{opened, Rests};
+ghost use Rattle.board_core.specs.Sound.{IsSound};
+ghost use Rattle.board_core.specs.Answers.{Cancels};
+ghost use Rattle.board_core.specs.Started.{Settles};
+ghost use Rattle.board_core.specs.Board.{released, marked};
 ghost use Rattle.std.specs.Prelude.{◌⊎◌};
 ghost use Rattle.office_core.specs.Insides.{KeepsSeats, Submits};
 ghost use Rattle.office_core.specs.Submissions.{Asks, IsOf, Tells, Tries};
@@ -21,7 +21,7 @@ use crate::seats::are_seats;
 use crate::slip::Slip;
 use crate::turns::{Pace, Turns};
 use decl_core::analyse::Accepted;
-use desk_core::answer::{Collected, Finished};
+use board_core::answer::{Collected, Finished};
 use desk_core::desk::Desk;
 use guest_core::answer::{Cancelled, SubmitFault};
 use page_core::outcome::Outcome;

@@ -1,15 +1,15 @@
 //! Calls under a key: a call that a session made before is not run again.
 
 ghost use Rattle.std.specs.Prelude.{◌≡◌, ◌<◌, ◌≤◌};
-ghost use Rattle.desk_core.specs.Board.{Board};
-ghost use Rattle.desk_core.specs.Sound.{IsSound};
-ghost use Rattle.desk_core.specs.Keys.{next_key};
-ghost use Rattle.desk_core.specs.Keyed.{Finds};
+ghost use Rattle.board_core.specs.Board.{Board};
+ghost use Rattle.board_core.specs.Sound.{IsSound};
+ghost use Rattle.board_core.specs.Keys.{next_key};
+ghost use Rattle.board_core.specs.Keyed.{Finds};
 
 use crate::client_seat::Seat;
 use crate::inside::Inside;
 use crate::office::Office;
-use desk_core::answer::EarlierCall;
+use board_core::answer::EarlierCall;
 use guest_core::answer::KeyedFault;
 use std::sync::Wait;
 use value_core::datum::Datum;

@@ -3,7 +3,7 @@
 ghost use Rattle.std.specs.Prelude.{◌≡◌};
 
 pub use crate::client_seat::Seat;
-use desk_core::call::Call;
+use page_core::call::Call;
 use page_core::outcome::Outcome;
 use page_core::ticket::Ticket;
 use std::sync::Arc;

@@ -7,7 +7,7 @@ use apply_core::short::Short;
 use apply_core::slim::Slims;
 use decl_core::object::Operation;
 use decl_core::same::same_declaration;
-use desk_core::entry::Entry;
+use page_core::entry::Entry;
 use page_core::part_pins::PartPins;
 use std::marker::Model;
 use std::sync::Arc;

@@ -4,13 +4,13 @@
 //! takes no memory, and keeps slips: `submit_in_turn`, `complete_in_place`, `close_by_slips` and `kept`.
 
 ghost use Rattle.std.specs.Prelude.{◌≡◌, ◌↔◌, IsTrue, IfOk, IfSome, IfNone};
-ghost use Rattle.desk_core.specs.declared.receipt.Receipt.{Receipt as AReceipt};
-ghost use Rattle.desk_core.specs.Answers.{IsGone};
-ghost use Rattle.desk_core.specs.Board.{Board};
-ghost use Rattle.desk_core.specs.Keyed.{SubmitsKeyed};
-ghost use Rattle.desk_core.specs.Keys.{next_key};
-ghost use Rattle.desk_core.specs.Lists.{Every};
-ghost use Rattle.desk_core.specs.Sound.{IsSound};
+ghost use Rattle.board_core.specs.declared.receipt.Receipt.{Receipt as AReceipt};
+ghost use Rattle.board_core.specs.Answers.{IsGone};
+ghost use Rattle.board_core.specs.Board.{Board};
+ghost use Rattle.board_core.specs.Keyed.{SubmitsKeyed};
+ghost use Rattle.board_core.specs.Keys.{next_key};
+ghost use Rattle.page_core.specs.Lists.{Every};
+ghost use Rattle.board_core.specs.Sound.{IsSound};
 ghost use Rattle.office_core.specs.Closing.{Closes, Stands, Misses, place_of_receipt};
 ghost use Rattle.office_core.specs.Insides.{InsideView, KeepsSeats};
 ghost use Rattle.office_core.specs.Keyed.{answer_of, Resubmits};
@@ -23,9 +23,9 @@ use crate::office::Office;
 use crate::seat::{CompleteFault, NotTaken, Submitted, Tried};
 use crate::slip::Slip;
 use apply_core::reply::Reply;
-use desk_core::answer::EarlierCall;
-use desk_core::entry::Entry;
-use desk_core::receipt::Receipt;
+use board_core::answer::EarlierCall;
+use page_core::entry::Entry;
+use board_core::receipt::Receipt;
 use guest_core::answer::{KeyedFault, SubmitFault};
 use page_core::outcome::Outcome;
 use std::sync::Wait;

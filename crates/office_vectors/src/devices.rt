@@ -3,7 +3,7 @@
 
 use crate::make::{accepted, pins_of};
 use decl_core::object::Object;
-use desk_core::answer::Collected;
+use board_core::answer::Collected;
 use desk_core::desk::Desk;
 use device_core::hand::{Hand, Stamp};
 use device_core::mem_shelf::MemShelf;

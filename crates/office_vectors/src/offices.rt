@@ -1,7 +1,7 @@
 //! What an office refuses.
 
 use crate::make::{office_of, seat_of, ticket_of};
-use desk_core::receipt::Receipt;
+use board_core::receipt::Receipt;
 use device_core::memory::MemHand;
 use office_core::inside::CloseFault;
 use office_core::named::{NameFault, ParkFault};

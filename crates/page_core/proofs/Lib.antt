@@ -14,7 +14,7 @@ pub mod Lengths
 pub mod Opening
 pub mod Paging
 pub mod Saving
-pub mod Numbering
-pub mod Asking
 pub mod Inside
 pub mod Touching
+pub mod Lists
+pub mod CallSending

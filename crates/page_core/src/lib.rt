@@ -22,12 +22,11 @@
 //! an outcome is true.
 #![tactic(auto)]
 
-pub mod clear;
+pub mod call;
 pub mod cut;
+pub mod entry;
 pub mod fault;
 pub mod file_bytes;
-pub mod folder;
-pub mod found;
 pub mod laws;
 pub mod open;
 pub mod outcome;
@@ -42,5 +41,4 @@ pub mod save;
 pub mod store_laws;
 pub mod ticket;
 pub mod uncalled;
-pub mod values;
 pub mod write;

@@ -3,7 +3,7 @@ use Rattle.std.proofs.Common.{◌≡◌, sym, subst, List, [], ◌∷◌, ◌++�
 use Rattle.std.specs.Prelude.{OnOk, OnErr}
 use Rattle.std.specs.declared.alloc.AllocError.{AllocError}
 use Rattle.device_core.specs.Device.{Assignment}
-use Rattle.desk_core.specs.Lists.{Every}
+use Rattle.page_core.specs.Lists.{Every}
 use Rattle.office_core.specs.Slips.{Told, IsTrueTold}
 use Rattle.session_core.specs.Truth.{AreTrue}
 use Rattle.serve_core.specs.Backed.{AreBackedBy}

@@ -10,7 +10,7 @@ use Rattle.device_core.specs.Device.{Assignment}
 use Rattle.device_core.specs.Papers.{Papers}
 use Rattle.decl_core.specs.declared.object.Object.{Object}
 use Rattle.device_core.specs.declared.hand.Stamp.{Stamp}
-use Rattle.desk_core.specs.Lists.{Every}
+use Rattle.page_core.specs.Lists.{Every}
 use Rattle.office_core.specs.Slips.{Told}
 use Rattle.office_core.specs.declared.client_seat.Seat.{Seat}
 use Rattle.keep_core.specs.Troubles.{first_of}

@@ -6,3 +6,5 @@ pub mod Openings
 pub mod Running
 pub mod Steps
 pub mod Tidying
+pub mod Asking
+pub mod Numbering

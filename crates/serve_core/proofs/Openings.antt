@@ -6,7 +6,7 @@ use Rattle.decl_core.specs.ObjectMap.{object_names}
 use Rattle.device_core.specs.Device.{Assignment}
 use Rattle.device_core.specs.Papers.{Papers}
 use Rattle.page_core.specs.Opened.{AreLoaded}
-use Rattle.desk_core.specs.Lists.{Among}
+use Rattle.page_core.specs.Lists.{Among}
 use Rattle.keep_core.specs.declared.opening.ObjectOpening.{ObjectOpening}
 use Rattle.keep_core.specs.declared.open.NotOpened.{NotOpened}
 use Rattle.keep_core.specs.declared.open.NotOpened.TheVariants.{Damaged, Fault}

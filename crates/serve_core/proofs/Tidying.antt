@@ -2,7 +2,7 @@
 use Rattle.std.proofs.Common.{◌≡◌, refl, subst, arith, inl, inr, ℕ, ◌<◌, List, [], ◌∷◌, length, Option, Result, Err}
 use Rattle.value_core.specs.declared.machine.LinesFault.{LinesFault}
 use Rattle.value_core.specs.declared.machine.LinesFault.TheVariants.{Memory}
-use Rattle.page_core.specs.Deeds.{Deed, MovesLeft}
+use Rattle.serve_core.specs.Deeds.{Deed, MovesLeft}
 use Rattle.serve_core.specs.declared.serve.ServeEnd.{ServeEnd}
 use Rattle.serve_core.specs.Tidies.{MovesFound}
 

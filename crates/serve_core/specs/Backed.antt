@@ -1,7 +1,7 @@
 -- Receipts, and the hands that show that they are true.
 use Rattle.std.specs.Prelude.{List}
 use Rattle.device_core.specs.Device.{Assignment}
-use Rattle.desk_core.specs.Lists.{Every}
+use Rattle.page_core.specs.Lists.{Every}
 use Rattle.office_core.specs.Slips.{Told, IsTrueTold}
 
 -- each assignment that agrees with all of these hands makes each of these receipts true

@@ -5,9 +5,9 @@ use Rattle.value_core.specs.Contents.{Contents}
 use Rattle.device_core.specs.Device.{Assignment}
 use Rattle.device_core.specs.Papers.{Papers}
 use Rattle.apply_core.specs.History.{IsLegal}
-use Rattle.desk_core.specs.Lists.{Every}
-use Rattle.desk_core.specs.Chain.{ShowContents, history_of}
-use Rattle.desk_core.specs.Sound.{kinds_of}
+use Rattle.page_core.specs.Lists.{Every}
+use Rattle.board_core.specs.Chain.{ShowContents, history_of}
+use Rattle.board_core.specs.Sound.{kinds_of}
 use Rattle.office_core.specs.Slips.{Told, IsTrueTold}
 use Rattle.keep_core.specs.declared.opening.ObjectOpening.{ObjectOpening}
 use Rattle.keep_core.specs.Opening.{values_of}

@@ -6,3 +6,7 @@ pub mod Closes
 pub mod Gathers
 pub mod Runs
 pub mod Tidies
+pub mod Deeds
+pub mod Finding
+pub mod Numbers
+pub mod Told

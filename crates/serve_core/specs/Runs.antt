@@ -11,7 +11,7 @@ use Rattle.device_core.specs.Papers.{Papers}
 use Rattle.decl_core.specs.declared.object.Object.{Object}
 use Rattle.decl_core.specs.ObjectMap.{objects_of, object_names}
 use Rattle.page_core.specs.Opened.{IsFirstDamaged}
-use Rattle.desk_core.specs.Lists.{Every, Among}
+use Rattle.page_core.specs.Lists.{Every, Among}
 use Rattle.office_core.specs.Slips.{Told}
 use Rattle.session_core.specs.declared.order.Named.{Named}
 use Rattle.check_core.specs.Judging.{IsServed, IsUnserved}

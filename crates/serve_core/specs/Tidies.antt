@@ -2,8 +2,8 @@
 use Rattle.std.specs.Prelude.{◌≡◌, ◌⊎◌, ℕ, List, [], ◌∷◌, Bool, IsTrue, Option, Result, Err}
 use Rattle.value_core.specs.declared.machine.LinesFault.{LinesFault}
 use Rattle.value_core.specs.declared.machine.LinesFault.TheVariants.{Memory}
-use Rattle.page_core.specs.Deeds.{Deed, RemovesAll, MovesLeft}
-use Rattle.page_core.specs.Numbers.{AreBetween}
+use Rattle.serve_core.specs.Deeds.{Deed, RemovesAll, MovesLeft}
+use Rattle.serve_core.specs.Numbers.{AreBetween}
 use Rattle.serve_core.specs.declared.serve.ServeEnd.{ServeEnd}
 
 -- Files that an earlier run left are moved aside, each once, where there are any; or memory for that is refused, and

@@ -7,9 +7,13 @@
 #![tactic(auto)]
 
 pub mod backed;
+pub mod clear;
+pub mod folder;
+pub mod found;
 pub mod gate;
 pub mod gather;
 mod host;
 pub mod listen;
 pub mod open;
 pub mod serve;
+pub mod values;

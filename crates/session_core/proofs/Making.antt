@@ -7,10 +7,10 @@ use Rattle.page_core.specs.Tickets.{ticket_call}
 use Rattle.page_core.specs.CallPins.{Call}
 use Rattle.page_core.specs.declared.outcome.Outcome.{Outcome}
 use Rattle.page_core.specs.Outcomes.{outcome_call, TellsSame}
-use Rattle.desk_core.specs.Board.{Board}
-use Rattle.desk_core.specs.Sound.{IsSound}
-use Rattle.desk_core.specs.Answers.{Asked, HasName}
-use Rattle.desk_core.specs.Keyed.{Finds}
+use Rattle.board_core.specs.Board.{Board}
+use Rattle.board_core.specs.Sound.{IsSound}
+use Rattle.board_core.specs.Answers.{Asked, HasName}
+use Rattle.board_core.specs.Keyed.{Finds}
 use Rattle.office_core.specs.Slips.{Told, told_by}
 use Rattle.session_core.specs.declared.entered.EnteredObject.{EnteredObject}
 use Rattle.session_core.specs.Making.{IsNew, AddsOne, MakesOnce, MakesCall, asked_by}

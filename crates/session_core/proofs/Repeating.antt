@@ -2,13 +2,13 @@
 use Rattle.std.proofs.Common.{◌≡◌, ℕ, subst}
 use Rattle.std.specs.Prelude.{Some, Ok}
 use Rattle.apply_core.specs.declared.reply.Reply.{Reply}
-use Rattle.desk_core.specs.Board.{Board}
-use Rattle.desk_core.specs.Sound.{IsSound}
-use Rattle.desk_core.specs.declared.answer.CallState.{CallState}
-use Rattle.desk_core.specs.declared.answer.CallState.TheVariants.{Ended}
-use Rattle.desk_core.specs.declared.answer.EarlierCall.{EarlierCall}
-use Rattle.desk_core.specs.Answers.{Asked}
-use Rattle.desk_core.specs.Keyed.{IsStateOf, Finds}
+use Rattle.board_core.specs.Board.{Board}
+use Rattle.board_core.specs.Sound.{IsSound}
+use Rattle.board_core.specs.declared.answer.CallState.{CallState}
+use Rattle.board_core.specs.declared.answer.CallState.TheVariants.{Ended}
+use Rattle.board_core.specs.declared.answer.EarlierCall.{EarlierCall}
+use Rattle.board_core.specs.Answers.{Asked}
+use Rattle.board_core.specs.Keyed.{IsStateOf, Finds}
 use Rattle.session_core.specs.Repeats.{WasNoted}
 
 -- the reply of a call that has ended is that of its entry

@@ -8,7 +8,7 @@ use Rattle.std.proofs.lemmas.List.{take-append-le}
 use Rattle.std.proofs.Math.Seq.{take-append-add}
 use Rattle.std.proofs.lemmas.List.Concat.{flat_map-append}
 use Rattle.apply_core.specs.declared.reply.Reply.{Reply}
-use Rattle.desk_core.specs.Lists.{Every}
+use Rattle.page_core.specs.Lists.{Every}
 use Rattle.office_core.specs.Slips.{Told}
 use Rattle.word_core.specs.Words.{Word, bare, words_text, line_of}
 use Rattle.word_core.specs.Ending.{finish_words}

@@ -8,7 +8,7 @@ use Rattle.page_core.specs.Truths.{IsTrueOf}
 use Rattle.page_core.specs.PartPins.{PartPin}
 use Rattle.page_core.specs.declared.outcome.Outcome.{Outcome}
 use Rattle.page_core.specs.Outcomes.{outcome_call, outcome_reply, outcome_news, if_done, TellsSame}
-use Rattle.desk_core.specs.declared.answer.Finished.{Finished}
+use Rattle.board_core.specs.declared.answer.Finished.{Finished}
 use Rattle.office_core.specs.declared.client_seat.Seat.{Seat}
 use Rattle.office_core.specs.declared.seat.NotTaken.{NotTaken}
 use Rattle.office_core.specs.declared.seat.NotTaken.TheVariants.{Front, Stranger}

@@ -1,8 +1,8 @@
 -- Tolds stay true.
 use Rattle.std.proofs.Common.{◌≡◌, List, [], ◌∷◌, ◌++◌, subst, sym}
 use Rattle.device_core.specs.Device.{Assignment}
-use Rattle.desk_core.specs.Lists.{Every}
-use Rattle.desk_core.proofs.Lists.{Every-snoc}
+use Rattle.page_core.specs.Lists.{Every}
+use Rattle.page_core.proofs.Lists.{Every-snoc}
 use Rattle.office_core.specs.Slips.{Told, IsTrueTold}
 use Rattle.session_core.specs.Truth.{Keeps, AreTrue}
 

@@ -1,7 +1,7 @@
 -- Objects that are opened, and the seats there.
 use Rattle.std.specs.Prelude.{◌≡◌, ◌≢◌, ◌⊎◌, ◌↔◌, ℕ, ◌<◌, ◌≤◌, List, Option, Some, None, Result, Ok, Err, IsTrue, IsSome}
 use Rattle.std.specs.Prelude.{slice_get}
-use Rattle.desk_core.specs.Lists.{Every}
+use Rattle.page_core.specs.Lists.{Every}
 use Rattle.office_core.specs.declared.client_seat.Seat.{Seat}
 use Rattle.session_text.specs.declared.line.LineRefusal.TheVariants as refusals
 use Rattle.office_core.specs.declared.named.NameFault.{NameFault}

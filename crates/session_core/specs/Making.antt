@@ -2,10 +2,10 @@
 use Rattle.std.specs.Prelude.{⊤, ◌≡◌, ◌⊎◌, ℕ, List, [], ◌∷◌, ◌++◌, Option, Some, None, Ok}
 use Rattle.value_core.specs.declared.datum.Datum.{Datum}
 use Rattle.page_core.specs.CallPins.{Call}
-use Rattle.desk_core.specs.Board.{Board}
-use Rattle.desk_core.specs.Sound.{IsSound}
-use Rattle.desk_core.specs.Answers.{Asked, HasName}
-use Rattle.desk_core.specs.Keyed.{Finds}
+use Rattle.board_core.specs.Board.{Board}
+use Rattle.board_core.specs.Sound.{IsSound}
+use Rattle.board_core.specs.Answers.{Asked, HasName}
+use Rattle.board_core.specs.Keyed.{Finds}
 use Rattle.office_core.specs.Slips.{Told}
 use Rattle.session_text.specs.declared.session.Action.{Action}
 use Rattle.session_text.specs.declared.session.Action.TheVariants as actions

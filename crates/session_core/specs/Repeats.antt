@@ -1,10 +1,10 @@
 -- What is told of calls that were made before.
 use Rattle.std.specs.Prelude.{◌≡◌, ℕ}
 use Rattle.apply_core.specs.declared.reply.Reply.{Reply}
-use Rattle.desk_core.specs.Lists.{Among}
-use Rattle.desk_core.specs.Calls.{Noted}
-use Rattle.desk_core.specs.Board.{Board}
-use Rattle.desk_core.specs.Sound.{IsSound}
+use Rattle.page_core.specs.Lists.{Among}
+use Rattle.page_core.specs.ObjectCalls.{Noted}
+use Rattle.board_core.specs.Board.{Board}
+use Rattle.board_core.specs.Sound.{IsSound}
 
 -- the history of some sound board has an entry of this number, with this reply
 abbrev pub WasNoted : ℕ → Reply → Type 0

@@ -4,7 +4,7 @@ use Rattle.device_core.specs.Device.{Assignment}
 use Rattle.page_core.specs.declared.outcome.Outcome.{Outcome}
 use Rattle.page_core.specs.Outcomes.{outcome_call, outcome_reply, outcome_pins}
 use Rattle.page_core.specs.Truths.{IsTrueOf}
-use Rattle.desk_core.specs.Lists.{Every}
+use Rattle.page_core.specs.Lists.{Every}
 use Rattle.office_core.specs.Slips.{Told, IsTrueTold}
 
 -- each assignment that agrees with the new hand agrees with the old one

@@ -8,7 +8,7 @@ use Rattle.page_core.specs.Calls.{AreMade}
 use Rattle.page_core.specs.declared.outcome.Outcome.{Outcome}
 use Rattle.page_core.specs.Outcomes.{outcome_call, outcome_reply, outcome_sealed}
 use Rattle.run_core.specs.AtOnce.{RunsAtOnce}
-use Rattle.desk_core.specs.declared.answer.Finished.{Finished}
+use Rattle.board_core.specs.declared.answer.Finished.{Finished}
 use Rattle.office_core.specs.declared.client_seat.Seat.{Seat}
 use Rattle.office_core.specs.Seats.{CompletedIn}
 use Rattle.session_core.specs.Truth.{Keeps, AreTrue}

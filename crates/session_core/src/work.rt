@@ -2,13 +2,13 @@
 
 ghost use Rattle.std.specs.Prelude.{◌≡◌, ◌<◌, ◌++◌, ◌∷◌, [], IsTrue, IfOk, IfSome, Ok, Some};
 ghost use Rattle.std.specs.Vec.{vec_len, vec_capacity};
-ghost use Rattle.desk_core.specs.Board.{Board};
-ghost use Rattle.desk_core.specs.Sound.{IsSound};
+ghost use Rattle.board_core.specs.Board.{Board};
+ghost use Rattle.board_core.specs.Sound.{IsSound};
 ghost use Rattle.page_core.specs.Tickets.{ticket_call};
 ghost use Rattle.page_core.specs.Outcomes.{outcome_call, TellsSame};
 ghost use Rattle.office_core.specs.Rooms.{IsMade};
-ghost use Rattle.desk_core.specs.Answers.{HasName};
-ghost use Rattle.desk_core.specs.Keyed.{IsStateOf};
+ghost use Rattle.board_core.specs.Answers.{HasName};
+ghost use Rattle.board_core.specs.Keyed.{IsStateOf};
 ghost use Rattle.office_core.specs.Slips.{told_by};
 ghost use Rattle.office_core.specs.declared.seat.Submitted.{Submitted as Ask};
 ghost use Rattle.office_core.specs.Submissions.{Asks, Tells, IsTicketOf};
@@ -25,7 +25,7 @@ use crate::mouth::Mouth;
 use crate::order::Offices;
 use crate::output::Start;
 use crate::room::make_room_in;
-use desk_core::answer::{CallState, EarlierCall, Finished};
+use board_core::answer::{CallState, EarlierCall, Finished};
 use device_core::hand::{Hand, Stamp};
 use device_core::retire::retire_all;
 use guest_core::answer::SubmitFault;

@@ -10,24 +10,24 @@ use Rattle.page_core.specs.CallPins.{Call, call_of}
 use Rattle.run_core.specs.Runs.{run_call, run_pen, run_sealed, run_place, SoFar, AreApart, no_pen}
 use Rattle.run_core.specs.Steps.{Place, AreServed, PinsServed, Starts, with_part, with_none}
 use Rattle.page_core.specs.Pages.{ArePinsServed}
-use Rattle.desk_core.specs.Lists.{Every}
-use Rattle.desk_core.specs.Calls.{RunningCall, WaitingCall}
-use Rattle.desk_core.specs.Board.{Board, taken_at}
-use Rattle.desk_core.specs.Sound.{IsSound, IsPinned}
-use Rattle.desk_core.proofs.Lists.{Every-at, Every-snoc, EachPair-snoc, Every-all}
+use Rattle.page_core.specs.Lists.{Every}
+use Rattle.page_core.specs.ObjectCalls.{RunningCall, WaitingCall}
+use Rattle.board_core.specs.Board.{Board, taken_at}
+use Rattle.board_core.specs.Sound.{IsSound, IsPinned}
+use Rattle.page_core.proofs.Lists.{Every-at, Every-snoc, EachPair-snoc, Every-all}
 use Rattle.page_core.specs.declared.ticket.Ticket.{Ticket}
 use Rattle.page_core.specs.Tickets.{ticket_call}
-use Rattle.desk_core.specs.declared.answer.Collected.{Collected}
-use Rattle.desk_core.specs.declared.answer.Collected.TheVariants as collects
-use Rattle.desk_core.specs.Answers.{IsLeft, NoneIsLeft, Collects}
+use Rattle.board_core.specs.declared.answer.Collected.{Collected}
+use Rattle.board_core.specs.declared.answer.Collected.TheVariants as collects
+use Rattle.board_core.specs.Answers.{IsLeft, NoneIsLeft, Collects}
 use Rattle.world_core.specs.declared.slot.Slot.{Slot}
 use Rattle.world_core.specs.Scene.{Standing, AreBegun, call_running, collected}
 use Rattle.world_core.specs.Kept.{IsKept, IsNear, IsReady, HasNew, standing_of}
-use Rattle.desk_core.specs.declared.event.TraceEvent.{TraceEvent}
-use Rattle.desk_core.specs.declared.event.TraceEvent.TheVariants.{Start, End}
+use Rattle.board_core.specs.declared.event.TraceEvent.{TraceEvent}
+use Rattle.board_core.specs.declared.event.TraceEvent.TheVariants.{Start, End}
 use Rattle.apply_core.specs.declared.reply.Reply.{Reply}
 use Rattle.std.proofs.lemmas.List.{length-map}
-use Rattle.desk_core.specs.Started.{run_of}
+use Rattle.board_core.specs.Started.{run_of}
 use Rattle.world_core.proofs.Places.{some_is, one_place, take_set, drop_set, drop_at, at_of_drop, within, length_set, length_snoc, map_snoc, all_taken}
 
 -- the call whose ticket was found is the one at this place

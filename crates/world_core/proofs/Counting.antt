@@ -15,13 +15,13 @@ use Rattle.path_count.proofs.Objects.{all_decide}
 use Rattle.path_count.proofs.Running.{call_counts}
 use Rattle.decl_core.specs.ObjectMap.{object_of, operation_of}
 use Rattle.apply_core.specs.declared.reply.Reply.{Reply}
-use Rattle.desk_core.specs.declared.event.TraceEvent.{TraceEvent}
-use Rattle.desk_core.specs.declared.event.TraceEvent.TheVariants.{Start, End}
-use Rattle.desk_core.specs.Calls.{AcceptedCall}
-use Rattle.desk_core.specs.Board.{Board, call_at, operation_place, path_event, path_trace, paths_of, past_of}
-use Rattle.desk_core.specs.Sound.{IsSound, IsNumbered}
-use Rattle.desk_core.proofs.Lists.{Every-at}
-use Rattle.desk_core.proofs.Traces.{path_trace-snoc}
+use Rattle.board_core.specs.declared.event.TraceEvent.{TraceEvent}
+use Rattle.board_core.specs.declared.event.TraceEvent.TheVariants.{Start, End}
+use Rattle.page_core.specs.ObjectCalls.{AcceptedCall}
+use Rattle.board_core.specs.Board.{Board, call_at, operation_place, path_event, path_trace, paths_of, past_of}
+use Rattle.board_core.specs.Sound.{IsSound, IsNumbered}
+use Rattle.page_core.proofs.Lists.{Every-at}
+use Rattle.board_core.proofs.Traces.{path_trace-snoc}
 use Rattle.world_core.specs.Counted.{StandsAfter}
 
 trace_before : (e : Event) (t : List Event) → IsTrace (e ∷ t) → IsTrace t

@@ -8,11 +8,11 @@ use Rattle.apply_core.specs.declared.need.Need.TheVariants as needs
 use Rattle.apply_core.specs.declared.reply.Reply.{Reply}
 use Rattle.run_core.specs.Steps.{need_at}
 use Rattle.run_core.specs.declared.step.StepAnswer.{StepAnswer}
-use Rattle.desk_core.specs.Lists.{Among}
-use Rattle.desk_core.specs.Calls.{RunningCall}
-use Rattle.desk_core.specs.Board.{Board, call_at}
-use Rattle.desk_core.specs.Sound.{IsSound, IsRunningIn}
-use Rattle.desk_core.specs.Answers.{Asked, runs_in}
+use Rattle.page_core.specs.Lists.{Among}
+use Rattle.page_core.specs.ObjectCalls.{RunningCall}
+use Rattle.board_core.specs.Board.{Board, call_at}
+use Rattle.board_core.specs.Sound.{IsSound, IsRunningIn}
+use Rattle.board_core.specs.Answers.{Asked, runs_in}
 use Rattle.guest_core.specs.declared.answer.SubmitFault.{SubmitFault}
 use Rattle.world_core.specs.declared.event.WorldAnswer.TheVariants.{Number, Stepped, Ended, Refused}
 use Rattle.world_core.specs.declared.event.EventRefusal.{EventRefusal}

@@ -25,21 +25,21 @@ use Rattle.run_core.specs.Phases.{IsRenewedBy}
 use Rattle.run_core.specs.Steps.{sealed_at, AreServed as AreAllServed}
 use Rattle.page_core.specs.Outcomes.{outcome_call, outcome_reply, outcome_sealed, outcome_news, outcome_gone, outcome_pins, if_done, IsFresh}
 use Rattle.page_core.specs.Truths.{IsTrueOf, PinsAreWhole}
-use Rattle.desk_core.specs.declared.event.TraceEvent.{TraceEvent}
-use Rattle.desk_core.specs.declared.event.TraceEvent.TheVariants.{End}
-use Rattle.desk_core.specs.declared.receipt.Receipt.{Receipt}
-use Rattle.desk_core.specs.Answers.{Finishes, IsStranger}
-use Rattle.desk_core.specs.Lists.{Every, EachPair, Among}
-use Rattle.desk_core.specs.Calls.{RunningCall, WaitingCall, Noted}
-use Rattle.desk_core.specs.Board.{Board, ended, entry_of, published}
-use Rattle.desk_core.specs.Chain.{ShowContents, IsTrueEntry}
-use Rattle.desk_core.specs.Laws.{TruthIsNoted}
-use Rattle.desk_core.specs.Outcomes.{IsOf}
-use Rattle.desk_core.specs.Started.{HasStarted, Settles}
-use Rattle.desk_core.specs.Sound.{IsSound, kinds_of}
-use Rattle.desk_core.proofs.BoardLaws.{pins_stay}
-use Rattle.desk_core.proofs.Published.{length-published, published_there, published_elsewhere, done_twice}
-use Rattle.desk_core.proofs.Lists.{Every-at, Every-snoc, Every-filter, EachPair-filter, filter_one, eqb_same}
+use Rattle.board_core.specs.declared.event.TraceEvent.{TraceEvent}
+use Rattle.board_core.specs.declared.event.TraceEvent.TheVariants.{End}
+use Rattle.board_core.specs.declared.receipt.Receipt.{Receipt}
+use Rattle.board_core.specs.Answers.{Finishes, IsStranger}
+use Rattle.page_core.specs.Lists.{Every, EachPair, Among}
+use Rattle.page_core.specs.ObjectCalls.{RunningCall, WaitingCall, Noted}
+use Rattle.board_core.specs.Board.{Board, ended, entry_of, published}
+use Rattle.board_core.specs.Chain.{ShowContents, IsTrueEntry}
+use Rattle.board_core.specs.Laws.{TruthIsNoted}
+use Rattle.board_core.specs.Outcomes.{IsOf}
+use Rattle.board_core.specs.Started.{HasStarted, Settles}
+use Rattle.board_core.specs.Sound.{IsSound, kinds_of}
+use Rattle.board_core.proofs.BoardLaws.{pins_stay}
+use Rattle.board_core.proofs.Published.{length-published, published_there, published_elsewhere, done_twice}
+use Rattle.page_core.proofs.Lists.{Every-at, Every-snoc, Every-filter, EachPair-filter, filter_one, eqb_same}
 use Rattle.world_core.specs.declared.slot.Slot.{Slot}
 use Rattle.world_core.specs.declared.stage.WorldTables.{WorldTables}
 use Rattle.world_core.specs.Answers.{Leaves}

@@ -8,7 +8,7 @@ use Rattle.value_core.proofs.Listing.{list_next}
 use Rattle.decl_core.specs.declared.object.Object.{Object}
 use Rattle.decl_core.specs.ObjectForm.{ObjectForm}
 use Rattle.decl_core.specs.ObjectMap.{object_of}
-use Rattle.desk_core.specs.Board.{Board}
+use Rattle.board_core.specs.Board.{Board}
 use Rattle.stuck_core.specs.Who.{Refused, who_line, waits_line}
 use Rattle.world_core.specs.Asked.{who}
 use Rattle.world_core.specs.Told.{AreWaitLines}

@@ -3,8 +3,8 @@ use Rattle.std.proofs.Common.{◌≡◌, ℕ, zero, suc, ◌+◌, ◌-◌, ◌<�
 use Rattle.std.specs.Prelude.{slice_get}
 use Rattle.value_core.proofs.Listing.{list_next}
 use Rattle.decl_core.specs.HoldForm.{HoldForm}
-use Rattle.desk_core.specs.declared.event.TraceEvent.{TraceEvent}
-use Rattle.desk_core.specs.Calls.{AcceptedCall}
+use Rattle.board_core.specs.declared.event.TraceEvent.{TraceEvent}
+use Rattle.page_core.specs.ObjectCalls.{AcceptedCall}
 use Rattle.guest_core.specs.Held.{HeldCall}
 use Rattle.guest_core.proofs.Ending.{take_whole}
 use Rattle.world_core.specs.HoldDoes.{AreNoted, IsNoted, none_yet, one_more}

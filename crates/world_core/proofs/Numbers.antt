@@ -1,7 +1,7 @@
 -- Calls with their numbers.
 use Rattle.std.proofs.Common.{◌≡◌, ℕ, zero, suc, ◌+◌, ◌≤◌, List, [], ◌∷◌, length, Some, None, drop, refl, sym, ◌∙◌, ap, ap₂, add-one, arith}
 use Rattle.std.specs.Prelude.{slice_get, unwrap_or}
-use Rattle.desk_core.specs.Calls.{AcceptedCall}
+use Rattle.page_core.specs.ObjectCalls.{AcceptedCall}
 use Rattle.world_core.specs.Told.{numbered}
 
 drop_nil : {X : Type 0} (k : ℕ) → drop {A = X} k [] ≡ []

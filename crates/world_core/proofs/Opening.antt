@@ -21,9 +21,9 @@ use Rattle.page_core.specs.Pages.{AreHeld, ArePinsServed}
 use Rattle.page_core.proofs.Paging.{few_pages}
 use Rattle.device_core.specs.Papers.{Papers, part_key}
 use Rattle.page_core.specs.Opened.{BeginsWith, IsPinned, AreLoaded, ArePinned}
-use Rattle.desk_core.specs.Board.{Board, opened}
-use Rattle.desk_core.specs.Chain.{ShowContents, Shows}
-use Rattle.desk_core.specs.Sound.{IsSound, kinds_of}
+use Rattle.board_core.specs.Board.{Board, opened}
+use Rattle.board_core.specs.Chain.{ShowContents, Shows}
+use Rattle.board_core.specs.Sound.{IsSound, kinds_of}
 use Rattle.world_core.specs.declared.slot.Slot.{Slot}
 use Rattle.world_core.specs.declared.stage.WorldTables.{WorldTables}
 use Rattle.world_core.specs.Scene.{Scene, IsNew}

@@ -1,8 +1,8 @@
 -- Lists cut at a place.
 use Rattle.std.proofs.Common.{◌≡◌, ◌≢◌, ℕ, zero, suc, ◌<◌, List, [], ◌∷◌, ◌++◌, length, Some, refl, sym, ◌∙◌, ap, arith, take, drop, map}
 use Rattle.std.specs.Prelude.{slice_get, slice_set}
-use Rattle.desk_core.specs.Lists.{EachPair}
-use Rattle.desk_core.proofs.Lists.{Every-at}
+use Rattle.page_core.specs.Lists.{EachPair}
+use Rattle.page_core.proofs.Lists.{Every-at}
 
 pub some_is : {X : Type 0} {x y : X} → Some x ≡ Some y → x ≡ y
 some_is e = cc

@@ -9,11 +9,11 @@ use Rattle.apply_core.specs.declared.need.Need.TheVariants as needs
 use Rattle.page_core.specs.CallPins.{Call}
 use Rattle.run_core.specs.Phases.{IsSettled, step_answer}
 use Rattle.run_core.specs.Steps.{Place, at_read, at_page, at_create, at_append, at_seal, at_end, Starts, with_part, with_none, need_at, ending_at}
-use Rattle.desk_core.specs.Lists.{Every}
-use Rattle.desk_core.specs.Calls.{Noted, AcceptedCall, RunningCall}
-use Rattle.desk_core.specs.Board.{Board, joined, dismissed, released, marked, ended, entry_of}
-use Rattle.desk_core.proofs.Resumed.{resumed_history}
-use Rattle.desk_core.proofs.Lists.{Every-at, Every-snoc, Every-map, Every-filter, Every-set}
+use Rattle.page_core.specs.Lists.{Every}
+use Rattle.page_core.specs.ObjectCalls.{Noted, AcceptedCall, RunningCall}
+use Rattle.board_core.specs.Board.{Board, joined, dismissed, released, marked, ended, entry_of}
+use Rattle.board_core.proofs.Resumed.{resumed_history}
+use Rattle.page_core.proofs.Lists.{Every-at, Every-snoc, Every-map, Every-filter, Every-set}
 use Rattle.world_core.specs.declared.event.WorldAnswer.TheVariants.{Stepped}
 use Rattle.world_core.specs.declared.event.EventAnswer.{EventAnswer}
 use Rattle.world_core.specs.declared.event.Event.{Event}

@@ -11,10 +11,10 @@ use Rattle.decl_core.specs.declared.object.Object.{Object}
 use Rattle.decl_core.specs.declared.object.Operation.{Operation}
 use Rattle.apply_core.specs.Fits.{ArgumentsFit}
 use Rattle.decl_core.specs.HoldForm.{HoldForm, is_one_of}
-use Rattle.desk_core.specs.Lists.{Every}
-use Rattle.desk_core.specs.Board.{Board, bodies}
-use Rattle.desk_core.proofs.Lists.{Every-at}
-use Rattle.desk_core.specs.Answers.{Asked, HasName, IsNamedAt, IsGone, IsUnknown}
+use Rattle.page_core.specs.Lists.{Every}
+use Rattle.board_core.specs.Board.{Board, bodies}
+use Rattle.page_core.proofs.Lists.{Every-at}
+use Rattle.board_core.specs.Answers.{Asked, HasName, IsNamedAt, IsGone, IsUnknown}
 use Rattle.guest_core.specs.Held.{HeldCall, MayUndo}
 use Rattle.word_core.specs.Said.{Said}
 use Rattle.world_core.specs.HoldDoes.{IsNotHeld, IsNew, Asks, Refuses, by_call, by_do, by_key, is_gone, not_held}

@@ -4,9 +4,9 @@ use Rattle.std.specs.Prelude.{slice_get, if◌then◌else◌}
 use Rattle.std.specs.List.{flat_map}
 use Rattle.std.proofs.lemmas.List.{append-nil}
 use Rattle.stuck_core.specs.Lacks.{Why}
-use Rattle.desk_core.specs.Calls.{AcceptedCall}
-use Rattle.desk_core.specs.Board.{Board, call_at}
-use Rattle.desk_core.specs.Answers.{runs_in}
+use Rattle.page_core.specs.ObjectCalls.{AcceptedCall}
+use Rattle.board_core.specs.Board.{Board, call_at}
+use Rattle.board_core.specs.Answers.{runs_in}
 use Rattle.stuck_core.specs.declared.why.RunningRow.{RunningRow}
 use Rattle.world_core.specs.Told.{numbered, is_needed, if_runs, if_there_runs, running_there}
 use Rattle.world_core.proofs.Numbers.{next_call, none_next, past_all}

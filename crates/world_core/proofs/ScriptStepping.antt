@@ -2,7 +2,7 @@
 use Rattle.std.proofs.Common.{◌≡◌, ℕ, true, refl, sym, ◌∙◌}
 use Rattle.apply_core.specs.declared.need.Need.{Need}
 use Rattle.run_core.specs.declared.step.StepAnswer.{StepAnswer}
-use Rattle.desk_core.specs.Answers.{runs_in}
+use Rattle.board_core.specs.Answers.{runs_in}
 use Rattle.world_core.specs.declared.event.WorldAnswer.TheVariants.{Stepped}
 use Rattle.world_core.specs.declared.event.EventAnswer.{EventAnswer}
 use Rattle.world_core.specs.Scene.{Scene}

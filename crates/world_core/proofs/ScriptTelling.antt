@@ -7,9 +7,9 @@ use Rattle.std.proofs.lemmas.Option.{get_or_from_slice_get, slice_get_within}
 use Rattle.value_core.specs.Contents.{Contents}
 use Rattle.decl_core.specs.ObjectMap.{object_of}
 use Rattle.word_core.specs.Text.{trace_text}
-use Rattle.desk_core.specs.declared.event.TraceEvent.{TraceEvent}
-use Rattle.desk_core.specs.Board.{Board}
-use Rattle.desk_core.specs.Sound.{event_number}
+use Rattle.board_core.specs.declared.event.TraceEvent.{TraceEvent}
+use Rattle.board_core.specs.Board.{Board}
+use Rattle.board_core.specs.Sound.{event_number}
 use Rattle.desk_core.specs.Told.{lines_told}
 use Rattle.world_core.specs.Scene.{Scene}
 use Rattle.world_core.specs.Events.{WorldEvent}

@@ -5,12 +5,12 @@ use Rattle.device_core.specs.Device.{Assignment}
 use Rattle.device_core.specs.Files.{HasFiles, files_of}
 use Rattle.device_core.proofs.Agreeing.{some_map}
 use Rattle.apply_core.specs.History.{leads_to}
-use Rattle.desk_core.specs.Lists.{Every, EachPair}
-use Rattle.desk_core.specs.Calls.{AcceptedCall, Noted}
-use Rattle.desk_core.specs.Board.{call_at}
-use Rattle.desk_core.specs.Chain.{ShowContents, history_of}
-use Rattle.desk_core.specs.Sound.{IsNoted, kinds_of}
-use Rattle.desk_core.proofs.Law.{chained_are_legal}
+use Rattle.page_core.specs.Lists.{Every, EachPair}
+use Rattle.page_core.specs.ObjectCalls.{AcceptedCall, Noted}
+use Rattle.board_core.specs.Board.{call_at}
+use Rattle.board_core.specs.Chain.{ShowContents, history_of}
+use Rattle.board_core.specs.Sound.{IsNoted, kinds_of}
+use Rattle.board_core.proofs.Law.{chained_are_legal}
 use Rattle.world_core.specs.declared.stage.WorldTables.{WorldTables}
 use Rattle.world_core.specs.Kept.{IsStaged, scene_of}
 use Rattle.world_core.specs.Headline.{IsSequential}

@@ -17,17 +17,17 @@ use Rattle.apply_core.specs.declared.reply.Reply.TheVariants as replies
 use Rattle.page_core.specs.CallPins.{Call}
 use Rattle.apply_core.specs.History.{IsLegal, IsReplyOn, left_by, leads_to}
 use Rattle.apply_core.specs.HistoryLaws.{LegalByOne, LeadsByOne}
-use Rattle.desk_core.specs.declared.event.TraceEvent.{TraceEvent}
-use Rattle.desk_core.specs.Lists.{Every, Among}
-use Rattle.desk_core.specs.Calls.{AcceptedCall, RunningCall, Noted}
-use Rattle.desk_core.specs.Board.{Board, call_at, joined, dismissed, released, marked, ended, entry_of}
-use Rattle.desk_core.specs.Keys.{next_key}
-use Rattle.desk_core.specs.Chain.{end_of as entry_end, history_of}
-use Rattle.desk_core.specs.Sound.{IsRunningIn, IsSound, kinds_of, event_number}
-use Rattle.desk_core.specs.declared.answer.CallState.{CallState}
-use Rattle.desk_core.specs.declared.answer.CallState.TheVariants as states
-use Rattle.desk_core.specs.Answers.{Asked, IsNamedAt}
-use Rattle.desk_core.specs.Keyed.{IsStateOf}
+use Rattle.board_core.specs.declared.event.TraceEvent.{TraceEvent}
+use Rattle.page_core.specs.Lists.{Every, Among}
+use Rattle.page_core.specs.ObjectCalls.{AcceptedCall, RunningCall, Noted}
+use Rattle.board_core.specs.Board.{Board, call_at, joined, dismissed, released, marked, ended, entry_of}
+use Rattle.board_core.specs.Keys.{next_key}
+use Rattle.board_core.specs.Chain.{end_of as entry_end, history_of}
+use Rattle.board_core.specs.Sound.{IsRunningIn, IsSound, kinds_of, event_number}
+use Rattle.board_core.specs.declared.answer.CallState.{CallState}
+use Rattle.board_core.specs.declared.answer.CallState.TheVariants as states
+use Rattle.board_core.specs.Answers.{Asked, IsNamedAt}
+use Rattle.board_core.specs.Keyed.{IsStateOf}
 use Rattle.world_core.specs.Events.{WorldEvent, call, call_key, step, finish, cancel, leave, resume, look}
 use Rattle.world_core.specs.declared.event.EventRefusal.{EventRefusal}
 use Rattle.world_core.specs.declared.event.EventRefusal.TheVariants as refusals
@@ -46,7 +46,7 @@ use Rattle.world_core.specs.declared.script.ScriptEnd.TheVariants.{Whole, BadLin
 use Rattle.world_core.specs.Writes.{Told, IsBegun, NamesObject, Writes}
 use Rattle.world_core.specs.Run.{IsScript}
 use Rattle.world_core.specs.Serial.{Serial, MayReply, AreStarts, IsRepeat, IsUnended, Serially, WritesSerially, IsSerialScript}
-use Rattle.desk_core.specs.Answers.{runs_in}
+use Rattle.board_core.specs.Answers.{runs_in}
 use Rattle.world_core.proofs.Unended.{waits_unended, runs_unended, none_unended}
 use Rattle.world_core.proofs.Doing.{over_ends, HasEnded}
 use Rattle.world_core.proofs.ScriptBack.{resumed_same}

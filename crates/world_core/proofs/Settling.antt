@@ -9,19 +9,19 @@ use Rattle.device_core.specs.Device.{Assignment}
 use Rattle.device_core.specs.Files.{HasFiles, Serves, files_of}
 use Rattle.page_core.specs.Pages.{ArePinsServed}
 use Rattle.run_core.specs.Runs.{run_call, AreApart}
-use Rattle.desk_core.specs.declared.event.TraceEvent.{TraceEvent}
-use Rattle.desk_core.specs.declared.event.TraceEvent.TheVariants.{Start}
-use Rattle.desk_core.specs.Lists.{Every, EachPair}
-use Rattle.desk_core.specs.Calls.{AcceptedCall, RunningCall, WaitingCall}
-use Rattle.desk_core.specs.Board.{Board, Rests, joined, dismissed, released, marked}
-use Rattle.desk_core.specs.Keys.{resumed}
-use Rattle.desk_core.specs.Started.{Settles, HasStarted, run_of}
-use Rattle.desk_core.specs.Chain.{ShowContents, IsTrueEntry}
-use Rattle.desk_core.specs.Sound.{IsSound, kinds_of}
+use Rattle.board_core.specs.declared.event.TraceEvent.{TraceEvent}
+use Rattle.board_core.specs.declared.event.TraceEvent.TheVariants.{Start}
+use Rattle.page_core.specs.Lists.{Every, EachPair}
+use Rattle.page_core.specs.ObjectCalls.{AcceptedCall, RunningCall, WaitingCall}
+use Rattle.board_core.specs.Board.{Board, Rests, joined, dismissed, released, marked}
+use Rattle.board_core.specs.Keys.{resumed}
+use Rattle.board_core.specs.Started.{Settles, HasStarted, run_of}
+use Rattle.board_core.specs.Chain.{ShowContents, IsTrueEntry}
+use Rattle.board_core.specs.Sound.{IsSound, kinds_of}
 use Rattle.guest_core.specs.declared.answer.Cancelled.{Cancelled}
 use Rattle.guest_core.specs.declared.answer.Cancelled.TheVariants as cancels
-use Rattle.desk_core.specs.Answers.{Asked, Cancels}
-use Rattle.desk_core.specs.Keyed.{SubmitsKeyed}
+use Rattle.board_core.specs.Answers.{Asked, Cancels}
+use Rattle.board_core.specs.Keyed.{SubmitsKeyed}
 use Rattle.guest_core.specs.declared.answer.KeyedFault.{KeyedFault}
 use Rattle.guest_core.specs.declared.answer.KeyedFault.TheVariants as faults
 use Rattle.world_core.specs.declared.slot.Slot.{Slot}

@@ -15,9 +15,9 @@ use Rattle.device_core.proofs.Agreeing.{some_map}
 use Rattle.apply_core.specs.History.{leads_to}
 use Rattle.decl_core.specs.declared.object.Object.{Object}
 use Rattle.decl_core.specs.declared.object.Part.{Part}
-use Rattle.desk_core.specs.Board.{Board}
-use Rattle.desk_core.specs.Chain.{Shows, history_of}
-use Rattle.desk_core.specs.Sound.{kinds_of}
+use Rattle.board_core.specs.Board.{Board}
+use Rattle.board_core.specs.Chain.{Shows, history_of}
+use Rattle.board_core.specs.Sound.{kinds_of}
 use Rattle.world_core.specs.declared.stage.WorldTables.{WorldTables}
 use Rattle.world_core.specs.Scene.{Scene}
 use Rattle.world_core.specs.declared.event.EventAnswer.{EventAnswer}

@@ -30,13 +30,13 @@ use Rattle.apply_core.specs.declared.need.Need.TheVariants as needs
 use Rattle.run_core.specs.Steps.{Place, at_read, at_page, at_create, at_append, at_seal, at_end, need_at, ending_at, Follows, FailsWith, AreServed, IsReadAt, PinsServed, IsJudged, changed, not_changed, wants, reads_on, reads_next, reads_last, misses, pages_on, creates, appends, seals_on, seals_last, fails, stays}
 use Rattle.page_core.specs.Given.{IsDamaged}
 use Rattle.page_core.specs.Truths.{PinHolds, PinsAreWhole}
-use Rattle.desk_core.specs.Lists.{Every, EachPair}
-use Rattle.desk_core.specs.Calls.{RunningCall}
-use Rattle.desk_core.specs.Board.{Board}
-use Rattle.desk_core.specs.Chain.{AreOf, ChainedAreLegal, ShowContents}
-use Rattle.desk_core.specs.Sound.{IsMadeOf, IsPinned, IsRunningIn, kinds_of}
-use Rattle.desk_core.proofs.Lists.{Every-at, Every-both, among_at}
-use Rattle.desk_core.specs.Answers.{runs_in}
+use Rattle.page_core.specs.Lists.{Every, EachPair}
+use Rattle.page_core.specs.ObjectCalls.{RunningCall}
+use Rattle.board_core.specs.Board.{Board}
+use Rattle.board_core.specs.Chain.{AreOf, ChainedAreLegal, ShowContents}
+use Rattle.board_core.specs.Sound.{IsMadeOf, IsPinned, IsRunningIn, kinds_of}
+use Rattle.page_core.proofs.Lists.{Every-at, Every-both, among_at}
+use Rattle.board_core.specs.Answers.{runs_in}
 use Rattle.world_core.specs.declared.slot.Slot.{Slot}
 use Rattle.world_core.specs.declared.event.WorldAnswer.TheVariants.{Stepped}
 use Rattle.world_core.specs.declared.event.EventAnswer.{EventAnswer}

@@ -9,7 +9,7 @@ use Rattle.decl_core.specs.ObjectMap.{object_of}
 use Rattle.stuck_core.specs.declared.reason.Reason.{Reason}
 use Rattle.stuck_core.specs.ReasonViews.{whys_of}
 use Rattle.stuck_core.specs.Tells.{Tells}
-use Rattle.desk_core.specs.Board.{Board, paths_of, past_of}
+use Rattle.board_core.specs.Board.{Board, paths_of, past_of}
 use Rattle.stuck_core.specs.declared.why.RunningRow.{RunningRow}
 use Rattle.stuck_core.specs.Why.{why_text}
 use Rattle.world_core.specs.Counted.{HasCounted}

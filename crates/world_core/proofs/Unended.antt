@@ -3,11 +3,11 @@ use Rattle.std.proofs.Common.{◌≡◌, ◌≢◌, ℕ, ◌<◌, inl, inr, true
 use Rattle.std.specs.Prelude.{unwrap_or}
 use Rattle.std.specs.List.{list_any}
 use Rattle.std.proofs.lemmas.Bool.Decides.{eqb_tells}
-use Rattle.desk_core.specs.Lists.{Every, Among}
-use Rattle.desk_core.specs.Calls.{AcceptedCall, WaitingCall, RunningCall, Noted}
-use Rattle.desk_core.specs.Board.{Board, call_at}
-use Rattle.desk_core.specs.Sound.{IsNoted, IsRunningIn, IsSound, IsWaitingIn}
-use Rattle.desk_core.specs.Answers.{waits_in, runs_in}
+use Rattle.page_core.specs.Lists.{Every, Among}
+use Rattle.page_core.specs.ObjectCalls.{AcceptedCall, WaitingCall, RunningCall, Noted}
+use Rattle.board_core.specs.Board.{Board, call_at}
+use Rattle.board_core.specs.Sound.{IsNoted, IsRunningIn, IsSound, IsWaitingIn}
+use Rattle.board_core.specs.Answers.{waits_in, runs_in}
 
 pub every_among : {X : Type 0} (P : X → Type 0) (xs : List X) (x : X) → Every P xs → Among x xs → P x
 every_among P [] x all here = absurd here

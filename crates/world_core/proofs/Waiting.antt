@@ -10,9 +10,9 @@ use Rattle.decl_core.specs.ObjectForm.{ObjectForm}
 use Rattle.word_core.specs.Words.{Word, line_of, words_text}
 use Rattle.stuck_core.specs.Lacks.{Why}
 use Rattle.stuck_core.specs.Tells.{Tells}
-use Rattle.desk_core.specs.Calls.{AcceptedCall}
-use Rattle.desk_core.specs.Board.{Board, call_at, paths_of, past_of}
-use Rattle.desk_core.specs.Answers.{waits_in}
+use Rattle.page_core.specs.ObjectCalls.{AcceptedCall}
+use Rattle.board_core.specs.Board.{Board, call_at, paths_of, past_of}
+use Rattle.board_core.specs.Answers.{waits_in}
 use Rattle.stuck_core.specs.declared.who.WaitingRow.{WaitingRow}
 use Rattle.stuck_core.specs.Who.{Refused, call_words, waits_line, who_line}
 use Rattle.stuck_core.specs.Why.{node_words}

@@ -10,8 +10,8 @@ use Rattle.value_core.specs.Runs.{Runs, Stops}
 use Rattle.value_core.specs.Ends.{Ends, Begins, Answered, AllAnswered}
 use Rattle.value_core.specs.declared.machine.LinesEnd.{LinesEnd}
 use Rattle.value_core.specs.declared.machine.LinesEnd.TheVariants as ends
-use Rattle.desk_core.specs.Board.{opened}
-use Rattle.desk_core.specs.Sound.{kinds_of}
+use Rattle.board_core.specs.Board.{opened}
+use Rattle.board_core.specs.Sound.{kinds_of}
 use Rattle.world_core.specs.declared.script.machine.Script.{Script}
 use Rattle.world_core.specs.Writes.{Told, IsBegun, Writes, ScriptGives, told_of}
 use Rattle.world_core.specs.Run.{IsScript, IsFront, IsScriptSoFar, end_of}

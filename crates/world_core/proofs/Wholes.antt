@@ -6,13 +6,13 @@ use Rattle.device_core.specs.Device.{Assignment}
 use Rattle.device_core.specs.Files.{HasFiles}
 use Rattle.apply_core.specs.History.{leads_to}
 use Rattle.page_core.specs.Truths.{PinsAreWhole}
-use Rattle.desk_core.specs.Lists.{Every, Among}
-use Rattle.desk_core.specs.Calls.{AcceptedCall, RunningCall}
-use Rattle.desk_core.specs.Board.{Board, call_at}
-use Rattle.desk_core.specs.Chain.{ShowContents, history_of}
-use Rattle.desk_core.specs.Sound.{IsMadeOf, IsPinned, IsRunningIn, kinds_of}
-use Rattle.desk_core.proofs.Law.{chained_are_legal, pins_whole}
-use Rattle.desk_core.proofs.Lists.{Every-at, Every-among}
+use Rattle.page_core.specs.Lists.{Every, Among}
+use Rattle.page_core.specs.ObjectCalls.{AcceptedCall, RunningCall}
+use Rattle.board_core.specs.Board.{Board, call_at}
+use Rattle.board_core.specs.Chain.{ShowContents, history_of}
+use Rattle.board_core.specs.Sound.{IsMadeOf, IsPinned, IsRunningIn, kinds_of}
+use Rattle.board_core.proofs.Law.{chained_are_legal, pins_whole}
+use Rattle.page_core.proofs.Lists.{Every-at, Every-among}
 use Rattle.world_core.specs.declared.slot.Slot.{Slot}
 use Rattle.world_core.specs.Kept.{IsKept}
 use Rattle.world_core.specs.Scene.{call_running}

@@ -14,19 +14,19 @@ use Rattle.apply_core.specs.declared.need.Need.TheVariants as needs
 use Rattle.run_core.specs.Steps.{Place, Follows, FailsWith, need_at, ending_at, sealed_at}
 use Rattle.run_core.specs.Phases.{IsRenewedBy, step_answer}
 use Rattle.apply_core.specs.History.{leads_to}
-use Rattle.desk_core.specs.Lists.{Among}
-use Rattle.desk_core.specs.Calls.{AcceptedCall, RunningCall}
-use Rattle.desk_core.specs.Board.{joined, dismissed, released, marked, ended, entry_of}
-use Rattle.desk_core.specs.Chain.{history_of}
-use Rattle.desk_core.specs.Keys as keys
-use Rattle.desk_core.specs.Keys.{next_key}
+use Rattle.page_core.specs.Lists.{Among}
+use Rattle.page_core.specs.ObjectCalls.{AcceptedCall, RunningCall}
+use Rattle.board_core.specs.Board.{joined, dismissed, released, marked, ended, entry_of}
+use Rattle.board_core.specs.Chain.{history_of}
+use Rattle.board_core.specs.Keys as keys
+use Rattle.board_core.specs.Keys.{next_key}
 use Rattle.guest_core.specs.declared.answer.SubmitFault.{SubmitFault}
 use Rattle.guest_core.specs.declared.answer.KeyedFault.{KeyedFault}
-use Rattle.desk_core.specs.declared.answer.EarlierCall.{EarlierCall as KeptCall}
+use Rattle.board_core.specs.declared.answer.EarlierCall.{EarlierCall as KeptCall}
 use Rattle.guest_core.specs.declared.answer.Cancelled.{Cancelled}
 use Rattle.guest_core.specs.declared.answer.Cancelled.TheVariants as cancels
-use Rattle.desk_core.specs.Answers.{Asked, IsGone, IsTaken, IsRefused, Cancels, waits_in, runs_in}
-use Rattle.desk_core.specs.Keyed.{IsKeptCall, SubmitsKeyed}
+use Rattle.board_core.specs.Answers.{Asked, IsGone, IsTaken, IsRefused, Cancels, waits_in, runs_in}
+use Rattle.board_core.specs.Keyed.{IsKeptCall, SubmitsKeyed}
 use Rattle.world_core.specs.declared.event.EventRefusal.TheVariants.{Submit, Keyed, NotRunning, NoStep, NotDone, NoSession}
 use Rattle.world_core.specs.declared.event.EventRefusal.TheVariants.{Memory}
 use Rattle.world_core.specs.declared.event.WorldAnswer.{WorldAnswer}

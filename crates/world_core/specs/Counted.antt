@@ -2,7 +2,7 @@
 use Rattle.std.specs.Prelude.{ℕ, length, take}
 use Rattle.path_count.specs.State.{State}
 use Rattle.path_count.specs.Stands.{StandsFor}
-use Rattle.desk_core.specs.Board.{Board, path_trace, paths_of, past_of}
+use Rattle.board_core.specs.Board.{Board, path_trace, paths_of, past_of}
 
 -- they stand for the first events of its trace
 abbrev pub StandsAfter : Board → ℕ → State → Type 0

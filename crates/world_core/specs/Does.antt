@@ -8,15 +8,15 @@ use Rattle.apply_core.specs.declared.need.Need.{Need}
 use Rattle.run_core.specs.declared.step.StepAnswer.{StepAnswer}
 use Rattle.run_core.specs.declared.step.StepAnswer.TheVariants.{Went, Failed, AlreadyDone}
 use Rattle.word_core.specs.Text.{trace_text}
-use Rattle.desk_core.specs.declared.event.TraceEvent.{TraceEvent}
-use Rattle.desk_core.specs.Sound.{event_number, IsSound}
+use Rattle.board_core.specs.declared.event.TraceEvent.{TraceEvent}
+use Rattle.board_core.specs.Sound.{event_number, IsSound}
 use Rattle.guest_core.specs.declared.answer.SubmitFault.TheVariants as faults
 use Rattle.guest_core.specs.declared.answer.KeyedFault.TheVariants as keyed
-use Rattle.desk_core.specs.declared.answer.CallState.{CallState}
-use Rattle.desk_core.specs.declared.answer.CallState.TheVariants as states
+use Rattle.board_core.specs.declared.answer.CallState.{CallState}
+use Rattle.board_core.specs.declared.answer.CallState.TheVariants as states
 use Rattle.guest_core.specs.declared.answer.Cancelled.{Cancelled}
 use Rattle.guest_core.specs.declared.answer.Cancelled.TheVariants as cancels
-use Rattle.desk_core.specs.Answers.{runs_in}
+use Rattle.board_core.specs.Answers.{runs_in}
 use Rattle.desk_core.specs.Told.{lines_told}
 use Rattle.world_core.specs.declared.event.EventRefusal.{EventRefusal}
 use Rattle.world_core.specs.declared.event.EventRefusal.TheVariants.{Submit, Keyed, NotRunning, NoStep, Memory}

@@ -1,6 +1,6 @@
 -- What may happen in a world.
 use Rattle.std.specs.Prelude.{ℕ, Bool}
-use Rattle.desk_core.specs.Answers.{Asked}
+use Rattle.board_core.specs.Answers.{Asked}
 use Rattle.world_core.specs.declared.event.Event.{Event}
 use Rattle.world_core.specs.declared.event.Event.TheVariants.{Call, CallKey, Step, Finish, Cancel, Drop, Resume, Show}
 

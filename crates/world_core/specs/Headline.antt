@@ -7,11 +7,11 @@ use Rattle.device_core.specs.Device.{Assignment}
 use Rattle.apply_core.specs.declared.reply.Failure.TheVariants as failures
 use Rattle.apply_core.specs.declared.reply.Reply.TheVariants as replies
 use Rattle.apply_core.specs.History.{IsLegal, leads_to}
-use Rattle.desk_core.specs.Lists.{Every, EachPair}
-use Rattle.desk_core.specs.Calls.{Noted}
-use Rattle.desk_core.specs.Board.{paths_of, past_of, Rests}
-use Rattle.desk_core.specs.Chain.{history_of, ShowContents}
-use Rattle.desk_core.specs.Sound.{kinds_of, ends_of, IsNoted}
+use Rattle.page_core.specs.Lists.{Every, EachPair}
+use Rattle.page_core.specs.ObjectCalls.{Noted}
+use Rattle.board_core.specs.Board.{paths_of, past_of, Rests}
+use Rattle.board_core.specs.Chain.{history_of, ShowContents}
+use Rattle.board_core.specs.Sound.{kinds_of, ends_of, IsNoted}
 use Rattle.world_core.specs.declared.event.EventAnswer.{EventAnswer}
 use Rattle.world_core.specs.Events.{WorldEvent}
 use Rattle.world_core.specs.Scene.{Scene, AgreesWith, IsNew}

@@ -3,7 +3,7 @@ use Rattle.std.specs.Prelude.{◌≢◌, ℕ, ◌+◌, List, ◌++◌, length, m
 use Rattle.std.specs.List.{flat_map}
 use Rattle.decl_core.specs.ObjectForm.{ObjectForm}
 use Rattle.decl_core.specs.ObjectMap.{object_of}
-use Rattle.desk_core.specs.Board.{Board}
+use Rattle.board_core.specs.Board.{Board}
 use Rattle.stuck_core.specs.Who.{Refused, who_line, waits_line}
 use Rattle.world_core.specs.Asked.{Asked, who}
 use Rattle.world_core.specs.Told.{IsTold, AreRefused, waiting_among, numbered}

@@ -5,12 +5,12 @@ use Rattle.value_core.specs.declared.datum.Datum.{Datum}
 use Rattle.decl_core.specs.ObjectForm.{OperationForm}
 use Rattle.decl_core.specs.ObjectMap.{object_of}
 use Rattle.decl_core.specs.HoldForm.{HoldForm, is_one_of}
-use Rattle.desk_core.specs.declared.event.TraceEvent.{TraceEvent}
-use Rattle.desk_core.specs.declared.event.TraceEvent.TheVariants.{Start, End}
-use Rattle.desk_core.specs.Calls.{AcceptedCall}
-use Rattle.desk_core.specs.Board.{Board, call_at}
-use Rattle.desk_core.specs.Keys.{next_key}
-use Rattle.desk_core.specs.Answers.{Asked, IsAsked, IsGone}
+use Rattle.board_core.specs.declared.event.TraceEvent.{TraceEvent}
+use Rattle.board_core.specs.declared.event.TraceEvent.TheVariants.{Start, End}
+use Rattle.page_core.specs.ObjectCalls.{AcceptedCall}
+use Rattle.board_core.specs.Board.{Board, call_at}
+use Rattle.board_core.specs.Keys.{next_key}
+use Rattle.board_core.specs.Answers.{Asked, IsAsked, IsGone}
 use Rattle.desk_core.specs.Told.{called_of}
 use Rattle.world_core.specs.Scene.{Scene}
 use Rattle.word_core.specs.Said.{Said, a_call, a_keyed_call, a_do, a_drop, a_resume}

@@ -10,13 +10,13 @@ use Rattle.run_core.specs.Runs.{run_call, run_place, run_sealed, PenHolds, SoFar
 use Rattle.page_core.specs.Cut.{most_pages}
 use Rattle.page_core.specs.Pages.{ArePinsServed}
 use Rattle.run_core.specs.Steps.{Place, at_read, at_page, at_create, at_append, at_seal, at_end, AreServed, PinsServed}
-use Rattle.desk_core.specs.Lists.{Every, EachPair}
-use Rattle.desk_core.specs.declared.event.TraceEvent.TheVariants.{Start}
-use Rattle.desk_core.specs.Calls.{RunningCall, WaitingCall}
-use Rattle.desk_core.specs.Started.{run_of}
-use Rattle.desk_core.specs.Board.{Board}
-use Rattle.desk_core.specs.Chain.{ShowContents, IsTrueEntry}
-use Rattle.desk_core.specs.Sound.{IsSound, kinds_of}
+use Rattle.page_core.specs.Lists.{Every, EachPair}
+use Rattle.board_core.specs.declared.event.TraceEvent.TheVariants.{Start}
+use Rattle.page_core.specs.ObjectCalls.{RunningCall, WaitingCall}
+use Rattle.board_core.specs.Started.{run_of}
+use Rattle.board_core.specs.Board.{Board}
+use Rattle.board_core.specs.Chain.{ShowContents, IsTrueEntry}
+use Rattle.board_core.specs.Sound.{IsSound, kinds_of}
 use Rattle.world_core.specs.declared.slot.Slot.{Slot}
 use Rattle.world_core.specs.declared.stage.WorldTables.{WorldTables}
 use Rattle.world_core.specs.Scene.{Scene, Standing, call_running}

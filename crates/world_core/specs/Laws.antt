@@ -5,8 +5,8 @@ use Rattle.apply_core.specs.declared.reply.Failure.TheVariants as failures
 use Rattle.apply_core.specs.declared.reply.Reply.TheVariants as replies
 use Rattle.apply_core.specs.declared.need.Need.{Need}
 use Rattle.run_core.specs.declared.step.StepAnswer.{StepAnswer}
-use Rattle.desk_core.specs.Lists.{Every}
-use Rattle.desk_core.specs.Calls.{Noted}
+use Rattle.page_core.specs.Lists.{Every}
+use Rattle.page_core.specs.ObjectCalls.{Noted}
 use Rattle.world_core.specs.declared.event.WorldAnswer.TheVariants.{Stepped}
 use Rattle.world_core.specs.declared.event.EventAnswer.{EventAnswer}
 use Rattle.world_core.specs.Answers.{Answers}

@@ -9,10 +9,10 @@ use Rattle.device_core.specs.Device.{Assignment}
 use Rattle.device_core.specs.Files.{HasFiles}
 use Rattle.page_core.specs.CallPins.{Call, call_of}
 use Rattle.run_core.specs.Steps.{Place, Starts}
-use Rattle.desk_core.specs.Calls.{RunningCall}
-use Rattle.desk_core.specs.Board.{Board, opened}
-use Rattle.desk_core.specs.Sound.{kinds_of}
-use Rattle.desk_core.specs.Started.{Settles, run_of}
+use Rattle.page_core.specs.ObjectCalls.{RunningCall}
+use Rattle.board_core.specs.Board.{Board, opened}
+use Rattle.board_core.specs.Sound.{kinds_of}
+use Rattle.board_core.specs.Started.{Settles, run_of}
 
 -- a run: its call, and where it stands
 pub record Standing : Type 0 where

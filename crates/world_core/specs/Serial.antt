@@ -14,13 +14,13 @@ use Rattle.apply_core.specs.declared.reply.Failure.TheVariants as failures
 use Rattle.apply_core.specs.declared.reply.Reply.{Reply}
 use Rattle.apply_core.specs.declared.reply.Reply.TheVariants.{Done, Refused, Failed}
 use Rattle.apply_core.specs.History.{IsReplyOn, left_by}
-use Rattle.desk_core.specs.Lists.{Every, Among}
-use Rattle.desk_core.specs.Calls.{AcceptedCall}
-use Rattle.desk_core.specs.Board.{call_at}
-use Rattle.desk_core.specs.Sound.{kinds_of}
-use Rattle.desk_core.specs.Keys.{HasKey, next_key}
-use Rattle.desk_core.specs.Answers.{IsNamedAt}
-use Rattle.desk_core.specs.Keyed.{IsSameCall}
+use Rattle.page_core.specs.Lists.{Every, Among}
+use Rattle.page_core.specs.ObjectCalls.{AcceptedCall}
+use Rattle.board_core.specs.Board.{call_at}
+use Rattle.board_core.specs.Sound.{kinds_of}
+use Rattle.board_core.specs.Keys.{HasKey, next_key}
+use Rattle.board_core.specs.Answers.{IsNamedAt}
+use Rattle.board_core.specs.Keyed.{IsSameCall}
 use Rattle.word_core.specs.Said.{Said, a_call, a_keyed_call, a_do, a_step, all_steps, a_finish, a_cancel, a_drop}
 use Rattle.word_core.specs.Said.{a_resume, a_show, a_trace, said_of, IsSkipped}
 use Rattle.word_core.specs.Answers.{called_line, refused_line, all_stepped_line, finished_line, kept_line}

@@ -6,9 +6,9 @@ use Rattle.decl_core.specs.ObjectMap.{object_of}
 use Rattle.stuck_core.specs.Waits.{is_among}
 use Rattle.stuck_core.specs.Lacks.{Why}
 use Rattle.stuck_core.specs.Tells.{Tells}
-use Rattle.desk_core.specs.Calls.{AcceptedCall}
-use Rattle.desk_core.specs.Board.{Board, call_at, paths_of, past_of}
-use Rattle.desk_core.specs.Answers.{waits_in, runs_in}
+use Rattle.page_core.specs.ObjectCalls.{AcceptedCall}
+use Rattle.board_core.specs.Board.{Board, call_at, paths_of, past_of}
+use Rattle.board_core.specs.Answers.{waits_in, runs_in}
 use Rattle.stuck_core.specs.declared.why.CallStatus.TheVariants.{Running as IsRunning, Ended, Unknown}
 use Rattle.stuck_core.specs.declared.why.RunningRow.{RunningRow}
 use Rattle.stuck_core.specs.Why.{state_line, why_text}

@@ -6,7 +6,7 @@ ghost use Rattle.stuck_core.specs.Waits.{is_among as among};
 ghost use Rattle.stuck_core.specs.ReasonViews.{whys_of};
 ghost use Rattle.stuck_core.specs.Lacks.{Why};
 ghost use Rattle.stuck_core.specs.Tells.{Tells};
-ghost use Rattle.desk_core.specs.Board.{call_at, paths_of, past_of};
+ghost use Rattle.board_core.specs.Board.{call_at, paths_of, past_of};
 ghost use Rattle.stuck_core.specs.Why.{why_text};
 ghost use Rattle.world_core.specs.Asked.{view_of, why as why_asked, who as who_asked};
 ghost use Rattle.world_core.specs.Counted.{HasCounted};

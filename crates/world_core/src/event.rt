@@ -5,7 +5,7 @@ ghost use Rattle.world_core.specs.Names.{fault_name, keyed_name, refusal_name};
 
 use apply_core::need::Need;
 use apply_core::reply::Reply;
-use desk_core::answer::EarlierCall;
+use board_core::answer::EarlierCall;
 use guest_core::answer::{Cancelled, KeyedFault, SubmitFault};
 use run_core::step::StepAnswer;
 use value_core::datum::Datum;

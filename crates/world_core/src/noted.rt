@@ -1,8 +1,8 @@
 //! What is held after what happened.
 
 ghost use Rattle.std.specs.Prelude.{◌≡◌, ◌++◌, List, OnOk, Some, drop};
-ghost use Rattle.desk_core.specs.declared.event.TraceEvent.TheVariants.{End};
-ghost use Rattle.desk_core.specs.Sound.{IsNumbered, event_number};
+ghost use Rattle.board_core.specs.declared.event.TraceEvent.TheVariants.{End};
+ghost use Rattle.board_core.specs.Sound.{IsNumbered, event_number};
 ghost use Rattle.desk_core.specs.Told.{called_of};
 ghost use Rattle.guest_core.specs.Held.{HeldCall, Gives, begun};
 ghost use Rattle.decl_core.specs.HoldMap.{holds_of};
@@ -11,9 +11,9 @@ ghost use Rattle.world_core.specs.HoldDoes.{AreNoted, IsNoted};
 use crate::world::World;
 use apply_core::reply::Reply;
 use decl_core::hold::Hold;
-use desk_core::call::Call;
+use page_core::call::Call;
 use desk_core::desk::Desk;
-use desk_core::event::TraceEvent;
+use board_core::event::TraceEvent;
 use guest_core::held::{EndedCall, Holds};
 use std::alloc::{AllocError, Global};
 

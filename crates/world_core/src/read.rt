@@ -5,7 +5,7 @@ ghost use Rattle.value_core.specs.Contents.{Contents};
 ghost use Rattle.device_core.specs.Device.{Assignment, AreServed, bytes_of};
 ghost use Rattle.device_core.specs.Files.{HasFiles, Serves, files_of};
 ghost use Rattle.page_core.specs.Bytes.{list_bytes};
-ghost use Rattle.desk_core.specs.Chain.{Shows};
+ghost use Rattle.board_core.specs.Chain.{Shows};
 
 use device_core::hand::{Hand, Stamp};
 use device_core::memory::MemHand;

@@ -1,7 +1,7 @@
 //! Which lines are refused before the desk is asked.
 
 ghost use Rattle.std.specs.Prelude.{◌≡◌, ◌↔◌, IsTrue, MatchOption, ℕ, List};
-ghost use Rattle.desk_core.specs.Answers.{IsGone as IsGoneIn};
+ghost use Rattle.board_core.specs.Answers.{IsGone as IsGoneIn};
 ghost use Rattle.decl_core.specs.HoldForm.{is_one_of};
 ghost use Rattle.decl_core.specs.HoldMap.{holds_of};
 ghost use Rattle.word_core.specs.Said.{Said as ASaid};

@@ -3,13 +3,13 @@
 ghost use Rattle.std.specs.Prelude.{◌≡◌, ◌+◌, ◌<◌, [], length, IfOk};
 ghost use Rattle.path_count.specs.Stands.{StandsFor};
 ghost use Rattle.decl_core.specs.ObjectMap.{object_of};
-ghost use Rattle.desk_core.specs.Board.{call_at, operation_place};
-ghost use Rattle.desk_core.specs.Sound.{IsSound};
+ghost use Rattle.board_core.specs.Board.{call_at, operation_place};
+ghost use Rattle.board_core.specs.Sound.{IsSound};
 ghost use Rattle.world_core.specs.Counted.{StandsAfter, HasCounted};
 
 use decl_core::object::Object;
 use desk_core::desk::Desk;
-use desk_core::event::TraceEvent;
+use board_core::event::TraceEvent;
 use path_count::counters::{Counters, compile};
 use path_tree::node::OpId;
 use std::alloc::{AllocError, Global};

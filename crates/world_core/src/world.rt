@@ -1,7 +1,7 @@
 //! Worlds.
 
 ghost use Rattle.std.specs.Prelude.{◌≡◌, IfOk};
-ghost use Rattle.desk_core.specs.Board.{Rests};
+ghost use Rattle.board_core.specs.Board.{Rests};
 ghost use Rattle.world_core.specs.Events.{event_of};
 ghost use Rattle.world_core.specs.Scene.{IsNew};
 ghost use Rattle.world_core.specs.Answers.{Answers};
@@ -24,7 +24,7 @@ pub struct World {
 }
 
 impl Model for World {
-    ghost use Rattle.desk_core.specs.Board.{Rests};
+    ghost use Rattle.board_core.specs.Board.{Rests};
     ghost use Rattle.decl_core.specs.contracts.object.Object as o;
     ghost use Rattle.decl_core.specs.contracts.object.Operation as e;
     ghost use Rattle.device_core.specs.contracts.file.File as f;

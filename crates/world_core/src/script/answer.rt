@@ -2,8 +2,8 @@
 
 ghost use Rattle.std.specs.Prelude.{◌≡◌, ◌++◌, ℕ, List, IfOk, OnOk, MatchOption, true, false, drop, map};
 ghost use Rattle.std.specs.List.{flat_map};
-ghost use Rattle.desk_core.specs.Sound.{event_number};
-ghost use Rattle.desk_core.specs.Answers.{runs_in};
+ghost use Rattle.board_core.specs.Sound.{event_number};
+ghost use Rattle.board_core.specs.Answers.{runs_in};
 ghost use Rattle.word_core.specs.Answers.{refused_line, started_line, all_stepped_line};
 ghost use Rattle.word_core.specs.Said.{a_do, all_steps, a_trace};
 ghost use Rattle.word_core.specs.ScriptView.{said_view};
@@ -18,9 +18,9 @@ use crate::event::{Event, EventAnswer, EventRefusal, WorldAnswer};
 use crate::script::steps::step_to_end;
 use crate::world::World;
 use decl_core::object::Object;
-use desk_core::answer::{CallState, EarlierCall};
+use board_core::answer::{CallState, EarlierCall};
 use desk_core::desk::Desk;
-use desk_core::event::TraceEvent;
+use board_core::event::TraceEvent;
 use guest_core::answer::{Cancelled, KeyedFault, SubmitFault};
 use run_core::step::StepAnswer;
 use std::alloc::{AllocError, Global};

@@ -1,7 +1,7 @@
 //! The steps of a run, to its end.
 
 ghost use Rattle.std.specs.Prelude.{◌≡◌, true, false};
-ghost use Rattle.desk_core.specs.Answers.{runs_in};
+ghost use Rattle.board_core.specs.Answers.{runs_in};
 ghost use Rattle.world_core.specs.Does.{IsStep, IsOver, StepsOn};
 
 use crate::event::{Event, WorldAnswer};

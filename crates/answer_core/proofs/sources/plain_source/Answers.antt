@@ -1,5 +1,5 @@
 use Rattle.std.proofs.Common.{List, ℕ, refl, sym, subst}
-use Rattle.hold_read.specs.HeldSources.{AreHeldObjectsOf}
+use Rattle.decl_read.specs.HeldSources.{AreHeldObjectsOf}
 use Rattle.answer_core.proofs.sources.plain_source.Goals as goal
 
 pub returns-in-Plain-clause-plain : goal.returns-in-Plain-clause-plain

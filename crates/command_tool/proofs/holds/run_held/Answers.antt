@@ -2,7 +2,7 @@ use Rattle.std.proofs.Common.{◌≡◌, ℕ, take, sym, subst}
 use Rattle.std.specs.Prelude.{IfOk, IfErr}
 use Rattle.std.specs.Io.KnownBytes.{Appends}
 use Rattle.answer_core.specs.Status.{IsFault}
-use Rattle.answer_core.proofs.Scripts.{is_fault}
+use Rattle.command_tool.proofs.Scripts.{is_fault}
 use Rattle.decl_core.specs.HoldMap.{holds_of}
 use Rattle.command_tool.proofs.HeldScripts.{none_written, ran_ended, ran_failed, told_ended, told_failed}
 use Rattle.command_tool.proofs.holds.run_held.Goals as goal

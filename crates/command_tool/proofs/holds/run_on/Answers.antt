@@ -3,8 +3,8 @@ use Rattle.std.specs.Io.KnownBytes.{Appends}
 use Rattle.decl_core.specs.HoldMap.{holds_of}
 use Rattle.world_core.specs.HoldRun.{IsHeldScript}
 use Rattle.world_core.specs.declared.script.ScriptEnd.{ScriptEnd}
-use Rattle.answer_core.specs.Status.{script_status}
-use Rattle.answer_core.proofs.Scripts.{chained}
+use Rattle.command_tool.specs.ScriptRun.{script_status}
+use Rattle.command_tool.proofs.Scripts.{chained}
 use Rattle.command_tool.proofs.holds.run_on.Goals as goal
 
 pub returns-in-Ok-clause-ended : goal.returns-in-Ok-clause-ended

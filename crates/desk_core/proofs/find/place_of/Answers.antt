@@ -2,11 +2,11 @@ use Rattle.std.proofs.Common.{arith, ◌≡◌, ◌<◌, Some, sym, ap, ◌∙�
 use Rattle.std.specs.Prelude.{slice_get}
 use Rattle.std.proofs.lemmas.Option.{slice_get-get_or}
 use Rattle.decl_core.specs.declared.object.Operation.{Operation}
-use Rattle.desk_core.specs.Board.{bodies}
-use Rattle.desk_core.specs.Answers.{HasName}
-use Rattle.desk_core.proofs.Fronts.{Every-more}
-use Rattle.desk_core.proofs.Made.{body_at}
-use Rattle.desk_core.proofs.Traces.{true_false}
+use Rattle.board_core.specs.Board.{bodies}
+use Rattle.board_core.specs.Answers.{HasName}
+use Rattle.queue_core.proofs.Fronts.{Every-more}
+use Rattle.board_core.proofs.Made.{body_at}
+use Rattle.page_core.proofs.Lists.{true_false}
 use Rattle.desk_core.proofs.find.place_of.Goals as goal
 
 pub returns-then-has_name-clause-some : goal.returns-then-has_name-clause-some

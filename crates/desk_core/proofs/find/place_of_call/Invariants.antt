@@ -1,7 +1,7 @@
 use Rattle.std.proofs.Common.{take}
 use Rattle.page_core.specs.Outcomes.{outcome_call}
-use Rattle.desk_core.specs.Lists.{Every}
-use Rattle.desk_core.specs.Outcomes.{IsOf}
+use Rattle.page_core.specs.Lists.{Every}
+use Rattle.board_core.specs.Outcomes.{IsOf}
 use Rattle.desk_core.proofs.find.place_of_call.Given as goal
 
 abbrev pub invariant-loop-place : goal.invariant-loop-place

@@ -1,7 +1,7 @@
 use Rattle.std.proofs.Common.{◌≤◌, All, length, ap, ◌∙◌, add-one, arith}
 use Rattle.value_core.specs.Datum.{IsDatum}
-use Rattle.desk_core.specs.Calls.{AcceptedCall}
-use Rattle.desk_core.specs.Board.{call_at}
+use Rattle.page_core.specs.ObjectCalls.{AcceptedCall}
+use Rattle.board_core.specs.Board.{call_at}
 use Rattle.desk_core.proofs.Looked.{next, are_all}
 use Rattle.desk_core.proofs.held.calls_have_data.Goals as goal
 

@@ -1,6 +1,6 @@
 use Rattle.std.proofs.Common.{All, take}
 use Rattle.value_core.specs.Datum.{IsDatum}
-use Rattle.desk_core.specs.Lists.{Every}
+use Rattle.page_core.specs.Lists.{Every}
 use Rattle.desk_core.proofs.held.calls_have_data.Given as goal
 
 abbrev pub invariant-loop-place : goal.invariant-loop-place

@@ -1,6 +1,6 @@
 use Rattle.std.proofs.Common.{◌≤◌, Some, length, ap, sym, subst, ◌∙◌, arith}
 use Rattle.std.proofs.lemmas.Option.{slice_get-get_or}
-use Rattle.desk_core.specs.Calls.{Noted}
+use Rattle.page_core.specs.ObjectCalls.{Noted}
 use Rattle.desk_core.specs.Held.{TellsDatum}
 use Rattle.desk_core.proofs.Looked.{next_is, are_all}
 use Rattle.desk_core.proofs.held.replies_are_data.Goals as goal

@@ -1,5 +1,5 @@
 use Rattle.std.proofs.Common.{take}
-use Rattle.desk_core.specs.Lists.{Every}
+use Rattle.page_core.specs.Lists.{Every}
 use Rattle.desk_core.specs.Held.{TellsDatum}
 use Rattle.desk_core.proofs.held.replies_are_data.Given as goal
 

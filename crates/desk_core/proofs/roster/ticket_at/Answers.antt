@@ -5,7 +5,7 @@ use Rattle.page_core.proofs.ListBytes.{some_same}
 use Rattle.page_core.specs.declared.ticket.Ticket.{Ticket}
 use Rattle.page_core.specs.CallPins.{call_of}
 use Rattle.page_core.specs.Tickets.{ticket_call}
-use Rattle.desk_core.specs.Calls.{RunningCall}
+use Rattle.page_core.specs.ObjectCalls.{RunningCall}
 use Rattle.desk_core.proofs.roster.ticket_at.Goals as goal
 
 module _ (items : List RunningCall) (place : ℕ) (x : RunningCall) (there : slice_get items place ≡ Some x) where

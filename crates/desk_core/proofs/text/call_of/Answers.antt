@@ -1,7 +1,7 @@
 use Rattle.std.proofs.Common.{◌∙◌, ◌<◌, ◌-◌, ap, sym, Some, arith, length, map}
 use Rattle.std.specs.Arc.{arc_value}
 use Rattle.std.proofs.lemmas.Option.{slice_get-get_or}
-use Rattle.desk_core.proofs.Made.{arc_at, call_before}
+use Rattle.board_core.proofs.Made.{arc_at, call_before}
 use Rattle.desk_core.proofs.text.call_of.Goals as goal
 
 pub returns-clause-some : goal.returns-clause-some

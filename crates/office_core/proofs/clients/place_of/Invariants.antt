@@ -1,5 +1,5 @@
 use Rattle.std.proofs.Common.{◌≢◌, take}
-use Rattle.desk_core.specs.Lists.{Every}
+use Rattle.page_core.specs.Lists.{Every}
 use Rattle.office_core.specs.declared.clients.Client.{Client}
 use Rattle.office_core.proofs.clients.place_of.Given as goal
 

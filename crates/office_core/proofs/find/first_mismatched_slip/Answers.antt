@@ -1,7 +1,7 @@
 use Rattle.std.proofs.Common.{◌∙◌, refl, length, ap}
 use Rattle.std.proofs.lemmas.Option.{slice_get_read, get_or_from_slice_get}
-use Rattle.desk_core.proofs.Traces.{true_false}
-use Rattle.desk_core.proofs.Fronts.{Every-more}
+use Rattle.page_core.proofs.Lists.{true_false}
+use Rattle.queue_core.proofs.Fronts.{Every-more}
 use Rattle.office_core.specs.Slips.{Told, StandsIn}
 use Rattle.office_core.proofs.find.first_mismatched_slip.Goals as goal
 

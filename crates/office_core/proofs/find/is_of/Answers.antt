@@ -1,5 +1,5 @@
 use Rattle.office_core.specs.Submissions.{IsCallOf}
-use Rattle.desk_core.specs.Board.{call_at}
+use Rattle.board_core.specs.Board.{call_at}
 use Rattle.office_core.proofs.SlipFound.{is_there}
 use Rattle.office_core.proofs.find.is_of.Goals as goal
 

@@ -1,8 +1,8 @@
 use Rattle.std.proofs.Common.{refl, length, ap}
 use Rattle.std.proofs.lemmas.Option.{slice_get_read, get_or_from_slice_get}
-use Rattle.desk_core.specs.declared.receipt.Receipt.{Receipt}
-use Rattle.desk_core.proofs.Traces.{true_false}
-use Rattle.desk_core.proofs.Fronts.{Every-more}
+use Rattle.board_core.specs.declared.receipt.Receipt.{Receipt}
+use Rattle.page_core.proofs.Lists.{true_false}
+use Rattle.queue_core.proofs.Fronts.{Every-more}
 use Rattle.office_core.specs.Closing.{Stands}
 use Rattle.office_core.proofs.uncalled.first_mismatch.Goals as goal
 

@@ -1,5 +1,5 @@
 use Rattle.std.proofs.Common.{take}
-use Rattle.desk_core.specs.Lists.{Every}
+use Rattle.page_core.specs.Lists.{Every}
 use Rattle.office_core.specs.Closing.{Stands}
 use Rattle.office_core.proofs.uncalled.first_mismatch.Given as goal
 

@@ -1,8 +1,8 @@
 use Rattle.std.proofs.Common.{arith, refl, length, ◌-◌, ◌<◌}
 use Rattle.std.specs.Prelude.{slice_get}
 use Rattle.std.proofs.lemmas.Option.{slice_get_read}
-use Rattle.desk_core.specs.Calls.{Noted}
-use Rattle.desk_core.specs.Outcomes.{IsEntryOf}
+use Rattle.page_core.specs.ObjectCalls.{Noted}
+use Rattle.board_core.specs.Outcomes.{IsEntryOf}
 use Rattle.office_core.proofs.SlipFound.{is_there}
 use Rattle.office_core.proofs.uncalled.stands.Goals as goal
 

@@ -1,6 +1,6 @@
 use denote.Param.Send.{sendable}
 use Rattle.std.proofs.Crossing.{crosses}
-use Rattle.desk_core.proofs.BoardSending.{receipt_send}
+use Rattle.board_core.proofs.ReceiptSending.{receipt_send}
 use Rattle.office_core.proofs.Sending.{office_sync}
 use Rattle.office_vectors.proofs.threads.many_threads_close.Goals as goal
 

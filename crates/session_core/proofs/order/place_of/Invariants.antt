@@ -1,5 +1,5 @@
 use Rattle.std.proofs.Common.{◌≢◌, take}
-use Rattle.desk_core.specs.Lists.{Every}
+use Rattle.page_core.specs.Lists.{Every}
 use Rattle.session_core.specs.declared.order.Named.{Named}
 use Rattle.session_core.proofs.order.place_of.Given as goal
 

@@ -1,5 +1,5 @@
 use Rattle.std.proofs.Common.{sym, subst}
-use Rattle.desk_core.specs.Lists.{Every}
+use Rattle.page_core.specs.Lists.{Every}
 use Rattle.office_core.specs.Slips.{IsTrueTold}
 use Rattle.session_vectors.proofs.gathered.ended.Goals as goal
 

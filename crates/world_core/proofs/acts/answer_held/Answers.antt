@@ -1,7 +1,7 @@
 use Rattle.std.proofs.Common.{◌≡◌, ◌++◌, ◌∙◌, ap, subst, length, drop, ℕ, List}
 use Rattle.std.specs.Prelude.{OnOk}
 use Rattle.decl_core.specs.HoldMap.{holds_of}
-use Rattle.desk_core.specs.Board.{Board}
+use Rattle.board_core.specs.Board.{Board}
 use Rattle.word_core.specs.ScriptView.{said_view}
 use Rattle.world_core.specs.HoldDoes.{AreNoted, GiveBack, ward}
 use Rattle.world_core.proofs.Acting.{does_told}

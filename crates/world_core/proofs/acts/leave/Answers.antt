@@ -1,6 +1,6 @@
 use Rattle.std.proofs.Common.{◌≡◌, ◌∙◌, true, false, sym, ap, subst}
 use Rattle.decl_core.specs.HoldForm.{is_one_of}
-use Rattle.desk_core.proofs.Traces.{true_false}
+use Rattle.page_core.proofs.Lists.{true_false}
 use Rattle.word_core.specs.Said.{a_drop}
 use Rattle.word_core.specs.Answers.{dropped_line}
 use Rattle.world_core.proofs.ScriptTelling.{told_lines}

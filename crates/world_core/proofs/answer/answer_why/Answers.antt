@@ -1,7 +1,7 @@
 use Rattle.std.proofs.Common.{sym, subst}
 use Rattle.decl_core.specs.ObjectMap.{object_of}
 use Rattle.stuck_core.specs.Tells.{Tells}
-use Rattle.desk_core.specs.Board.{paths_of, past_of}
+use Rattle.board_core.specs.Board.{paths_of, past_of}
 use Rattle.stuck_core.specs.declared.why.CallStatus.TheVariants.{Running, Ended, Unknown}
 use Rattle.stuck_core.specs.Why.{state_line, why_text}
 use Rattle.world_core.specs.Told.{running_there, unknown, waits, runs, ended}

@@ -1,7 +1,7 @@
 use Rattle.std.proofs.Common.{◌≡◌, ◌∙◌, ◌++◌, ℕ, true, false, [], ◌∷◌, ap, ap₂, sym}
 use Rattle.stuck_core.specs.ReasonViews.{whys_of}
-use Rattle.desk_core.specs.Answers.{runs_in}
-use Rattle.desk_core.specs.Board.{call_at}
+use Rattle.board_core.specs.Answers.{runs_in}
+use Rattle.board_core.specs.Board.{call_at}
 use Rattle.world_core.specs.Told.{is_needed}
 use Rattle.world_core.proofs.Running.{none_runs, there_runs, idle_there, not_and, and_not, both}
 use Rattle.world_core.proofs.answer.push_run.Goals as goal

@@ -4,8 +4,8 @@ use Rattle.std.proofs.lemmas.List.{append-nil, length-map}
 use Rattle.std.proofs.lemmas.Option.{slice_get_within}
 use Rattle.decl_core.specs.ObjectMap.{object_of, operation_of}
 use Rattle.decl_core.specs.HoldMap.{holds_of}
-use Rattle.desk_core.specs.Board.{Board}
-use Rattle.desk_core.proofs.Traces.{true_false}
+use Rattle.board_core.specs.Board.{Board}
+use Rattle.page_core.proofs.Lists.{true_false}
 use Rattle.guest_core.specs.Undo.{IsUndoOf}
 use Rattle.world_core.specs.HoldDoes.{GivesBack, Tries, holds_none, gives, gives_not, no_session}
 use Rattle.world_core.proofs.Acting.{on_told}

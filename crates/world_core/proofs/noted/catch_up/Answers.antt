@@ -1,8 +1,8 @@
 use Rattle.std.proofs.Common.{◌≡◌, ◌∙◌, Some, sym, ap, subst, arith, refl, length, slice_get}
 use Rattle.decl_core.specs.HoldMap.{holds_of}
-use Rattle.desk_core.specs.Board.{Board}
-use Rattle.desk_core.specs.Sound.{IsNumbered, event_number}
-use Rattle.desk_core.proofs.Lists.{Every-at}
+use Rattle.board_core.specs.Board.{Board}
+use Rattle.board_core.specs.Sound.{IsNumbered, event_number}
+use Rattle.page_core.proofs.Lists.{Every-at}
 use Rattle.world_core.specs.HoldDoes.{IsNoted}
 use Rattle.world_core.proofs.Noting.{noted_none, noted_more, noted_all, none_there}
 use Rattle.world_core.proofs.noted.catch_up.Goals as goal

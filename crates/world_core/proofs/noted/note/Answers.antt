@@ -1,5 +1,5 @@
 use Rattle.std.proofs.Common.{subst}
-use Rattle.desk_core.specs.Sound.{IsNumbered, event_number}
+use Rattle.board_core.specs.Sound.{IsNumbered, event_number}
 use Rattle.world_core.proofs.noted.note.Goals as goal
 
 pub note_end-requires : goal.note_end-requires

@@ -2,8 +2,8 @@ use Rattle.std.proofs.Common.{◌≡◌, ◌∙◌, subst}
 use Rattle.decl_core.specs.declared.object.Operation.{Operation}
 use Rattle.apply_core.specs.Fits.{ArgumentsFit}
 use Rattle.decl_core.specs.HoldMap.{holds_of}
-use Rattle.desk_core.proofs.Traces.{true_false}
-use Rattle.desk_core.specs.Answers.{IsGone, IsNamedAt}
+use Rattle.page_core.proofs.Lists.{true_false}
+use Rattle.board_core.specs.Answers.{IsGone, IsNamedAt}
 use Rattle.world_core.specs.HoldDoes.{asked}
 use Rattle.world_core.proofs.Refusing.{lacks_is, may_is, not_is, is_not, found_at}
 use Rattle.world_core.proofs.refused.lacks.Goals as goal

@@ -1,5 +1,5 @@
 use Rattle.std.proofs.Common.{◌∙◌, sym}
-use Rattle.desk_core.proofs.Traces.{true_false}
+use Rattle.page_core.proofs.Lists.{true_false}
 use Rattle.world_core.specs.HoldDoes.{is_gone, not_held}
 use Rattle.world_core.proofs.Refusing.{never_word}
 use Rattle.world_core.proofs.refused.word_for.Goals as goal

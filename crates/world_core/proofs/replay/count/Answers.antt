@@ -1,7 +1,7 @@
 use Rattle.std.proofs.Common.{◌≡◌, ◌∙◌, Some, ap, sym}
 use Rattle.std.specs.Prelude.{slice_get}
-use Rattle.desk_core.specs.declared.event.TraceEvent.TheVariants.{Start, End}
-use Rattle.desk_core.specs.Board.{Board}
+use Rattle.board_core.specs.declared.event.TraceEvent.TheVariants.{Start, End}
+use Rattle.board_core.specs.Board.{Board}
 use Rattle.world_core.proofs.Counting.{start_counted, end_counted}
 use Rattle.world_core.proofs.replay.count.Goals as goal
 

@@ -1,5 +1,5 @@
 use Rattle.std.proofs.Common.{◌≢◌, take}
-use Rattle.desk_core.specs.Lists.{Every}
+use Rattle.page_core.specs.Lists.{Every}
 use Rattle.world_core.specs.declared.slot.Slot.{Slot}
 use Rattle.world_core.proofs.stage.place_of.Given as goal
 

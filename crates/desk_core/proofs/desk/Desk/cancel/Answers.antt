@@ -1,8 +1,8 @@
 use Rattle.std.proofs.Common.{◌≡◌, ◌∙◌, true, refl, sym, ap, subst}
-use Rattle.desk_core.specs.Board.{Board, call_at, dismissed, Admits}
-use Rattle.desk_core.specs.Answers.{waits_in, runs_in}
-use Rattle.desk_core.specs.Started.{Settles}
-use Rattle.desk_core.proofs.Admission.{rests_after, dismissed_history, settled}
+use Rattle.board_core.specs.Board.{Board, call_at, dismissed, Admits}
+use Rattle.board_core.specs.Answers.{waits_in, runs_in}
+use Rattle.board_core.specs.Started.{Settles}
+use Rattle.board_core.proofs.Admission.{rests_after, dismissed_history, settled}
 use Rattle.desk_core.proofs.desk.Desk.cancel.Goals as goal
 
 pub invariant_of-self : goal.invariant_of-self

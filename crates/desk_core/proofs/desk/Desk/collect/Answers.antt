@@ -1,8 +1,8 @@
 use Rattle.std.proofs.Common.{◌∙◌, refl, sym, ap, subst}
 use Rattle.page_core.specs.CallPins.{call_of}
-use Rattle.desk_core.specs.Board.{Board, call_at, taken_at}
-use Rattle.desk_core.specs.Answers.{waits_in, runs_in, ended_in, IsLeft, NoneIsLeft}
-use Rattle.desk_core.proofs.Admission.{taken_rests, taken_history}
+use Rattle.board_core.specs.Board.{Board, call_at, taken_at}
+use Rattle.board_core.specs.Answers.{waits_in, runs_in, ended_in, IsLeft, NoneIsLeft}
+use Rattle.board_core.proofs.Admission.{taken_rests, taken_history}
 use Rattle.desk_core.proofs.desk.Desk.collect.Goals as goal
 
 pub invariant_of-self : goal.invariant_of-self

@@ -1,7 +1,7 @@
 use Rattle.std.proofs.Common.{◌∙◌, ap, subst}
-use Rattle.desk_core.specs.Board.{Board, marked, released, Admits}
-use Rattle.desk_core.specs.Started.{Settles}
-use Rattle.desk_core.proofs.Admission.{rests_after, left_history, settled}
+use Rattle.board_core.specs.Board.{Board, marked, released, Admits}
+use Rattle.board_core.specs.Started.{Settles}
+use Rattle.board_core.proofs.Admission.{rests_after, left_history, settled}
 use Rattle.desk_core.proofs.desk.Desk.disconnect.Goals as goal
 
 pub invariant_of-self : goal.invariant_of-self

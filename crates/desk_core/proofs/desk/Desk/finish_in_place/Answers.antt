@@ -10,14 +10,14 @@ use Rattle.page_core.specs.CallPins.{Call}
 use Rattle.page_core.specs.CallPins.{AreSized}
 use Rattle.page_core.specs.declared.outcome.Outcome.{Outcome}
 use Rattle.page_core.specs.Outcomes.{outcome_call, outcome_reply, outcome_news, outcome_pins, if_done}
-use Rattle.desk_core.specs.Lists.{Among}
-use Rattle.desk_core.specs.Calls.{RunningCall, Noted}
-use Rattle.desk_core.specs.Started.{Settles}
-use Rattle.desk_core.specs.Board.{Board, ended, entry_of, Admits}
-use Rattle.desk_core.specs.Chain.{pins_after}
-use Rattle.desk_core.specs.Free.{IsNeeded, Picks}
-use Rattle.desk_core.proofs.Lists.{among_at}
-use Rattle.desk_core.proofs.Admission.{rests_after, ended_history, settled}
+use Rattle.page_core.specs.Lists.{Among}
+use Rattle.page_core.specs.ObjectCalls.{RunningCall, Noted}
+use Rattle.board_core.specs.Started.{Settles}
+use Rattle.board_core.specs.Board.{Board, ended, entry_of, Admits}
+use Rattle.board_core.specs.Chain.{pins_after}
+use Rattle.board_core.specs.Free.{IsNeeded, Picks}
+use Rattle.page_core.proofs.Lists.{among_at}
+use Rattle.board_core.proofs.Admission.{rests_after, ended_history, settled}
 use Rattle.desk_core.proofs.desk.Desk.finish_in_place.Goals as goal
 
 pub end-session-requires : goal.end-session-requires

@@ -1,6 +1,6 @@
 use Rattle.std.proofs.Common.{◌∙◌, ap, sym, subst}
-use Rattle.desk_core.specs.Board.{Board, Rests}
-use Rattle.desk_core.proofs.Resumed.{resumed_rests, resumed_history}
+use Rattle.board_core.specs.Board.{Board, Rests}
+use Rattle.board_core.proofs.Resumed.{resumed_rests, resumed_history}
 use Rattle.desk_core.proofs.desk.Desk.resume.Goals as goal
 
 pub invariant_of-self : goal.invariant_of-self

@@ -2,12 +2,12 @@ use Rattle.std.proofs.Common.{◌≡◌, ◌∙◌, arith, refl, ap, subst, sym}
 use Rattle.std.specs.Arc.{arc_value}
 use Rattle.std.proofs.lemmas.List.{length-map}
 use Rattle.std.proofs.lemmas.Option.{slice_get_within}
-use Rattle.desk_core.specs.Calls.{AcceptedCall}
-use Rattle.desk_core.specs.Board.{Board, joined, bodies, Admits}
-use Rattle.desk_core.specs.Answers.{Asked, IsTaken, IsRefused}
+use Rattle.page_core.specs.ObjectCalls.{AcceptedCall}
+use Rattle.board_core.specs.Board.{Board, joined, bodies, Admits}
+use Rattle.board_core.specs.Answers.{Asked, IsTaken, IsRefused}
 use Rattle.guest_core.specs.declared.answer.SubmitFault.TheVariants.{Memory}
-use Rattle.desk_core.specs.Started.{Settles}
-use Rattle.desk_core.proofs.Admission.{rests_after, joined_history, settled}
+use Rattle.board_core.specs.Started.{Settles}
+use Rattle.board_core.proofs.Admission.{rests_after, joined_history, settled}
 use Rattle.desk_core.proofs.Sessions.{session_there}
 use Rattle.desk_core.proofs.Naming.{first_at}
 use Rattle.desk_core.proofs.desk.Desk.submit_and_share.Goals as goal

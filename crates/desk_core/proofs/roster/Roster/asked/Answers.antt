@@ -2,10 +2,10 @@ use Rattle.std.proofs.Common.{◌≡◌, ◌∙◌, refl, sym, ap, subst, arith,
 use Rattle.std.specs.Arc.{arc_value}
 use Rattle.std.proofs.lemmas.List.{length-map}
 use Rattle.decl_core.specs.declared.object.Operation.{Operation}
-use Rattle.desk_core.specs.Calls.{AcceptedCall}
-use Rattle.desk_core.specs.Board.{Board}
-use Rattle.desk_core.specs.Answers.{IsGone, IsNamedAt, IsAsked, is_busy}
-use Rattle.desk_core.proofs.Traces.{true_false}
+use Rattle.page_core.specs.ObjectCalls.{AcceptedCall}
+use Rattle.board_core.specs.Board.{Board}
+use Rattle.board_core.specs.Answers.{IsGone, IsNamedAt, IsAsked, is_busy}
+use Rattle.page_core.proofs.Lists.{true_false}
 use Rattle.desk_core.proofs.roster.Roster.asked.Goals as goal
 
 pub returns-then-not-fits-clause-refused : goal.returns-then-not-fits-clause-refused

@@ -2,16 +2,16 @@ use Rattle.std.proofs.Common.{◌≡◌, ◌∙◌, ℕ, ◌<◌, ◌∷◌, [],
 use Rattle.std.specs.Prelude.{slice_get}
 use Rattle.path_tree.specs.Satisfies.{MayStart}
 use Rattle.path_count.specs.Stands.{StandsFor, started_calls}
-use Rattle.desk_core.specs.declared.event.TraceEvent.TheVariants.{Start}
-use Rattle.desk_core.specs.Calls.{WaitingCall, RunningCall}
-use Rattle.desk_core.specs.Board.{Board, started, IsNext, paths_of, past_of, read_pins}
+use Rattle.board_core.specs.declared.event.TraceEvent.TheVariants.{Start}
+use Rattle.page_core.specs.ObjectCalls.{WaitingCall, RunningCall, read_pins}
+use Rattle.board_core.specs.Board.{Board, started, IsNext, paths_of, past_of}
 use Rattle.desk_core.specs.Kept.{board_of, events_of, IsMarkIn}
 use Rattle.desk_core.specs.declared.marks.Mark.TheVariants as marks
-use Rattle.desk_core.specs.Lists.{Every}
+use Rattle.page_core.specs.Lists.{Every}
 use Rattle.desk_core.proofs.Marking.{events_start}
-use Rattle.desk_core.specs.Sound.{IsSound, IsWaitingIn, as_path}
-use Rattle.desk_core.proofs.Lists.{Every-among, Every-snoc}
-use Rattle.desk_core.proofs.Sound.{sound-started, past_started}
+use Rattle.board_core.specs.Sound.{IsSound, IsWaitingIn, as_path}
+use Rattle.page_core.proofs.Lists.{Every-among, Every-snoc}
+use Rattle.board_core.proofs.Sound.{sound-started, past_started}
 use Rattle.desk_core.proofs.Starting.{fewer_wait, taken_out, op_within}
 use Rattle.desk_core.proofs.Tables.{started_is}
 use Rattle.desk_core.proofs.roster.Roster.begin.Goals as goal

@@ -1,7 +1,7 @@
 use Rattle.std.proofs.Common.{◌≡◌, ◌∙◌, Some, ap, subst, map}
 use Rattle.std.specs.Prelude.{IfSome}
 use Rattle.std.specs.Arc.{arc_value}
-use Rattle.desk_core.specs.Board.{Board, call_at}
+use Rattle.board_core.specs.Board.{Board, call_at}
 use Rattle.desk_core.proofs.roster.Roster.call.Goals as goal
 
 pub returns-clause-some : goal.returns-clause-some

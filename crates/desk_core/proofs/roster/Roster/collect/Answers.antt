@@ -2,11 +2,11 @@ use Rattle.std.proofs.Common.{◌≡◌, ◌∙◌, sym, ap, subst, arith, lengt
 use Rattle.std.specs.Prelude.{slice_get}
 use Rattle.std.proofs.Math.ListN.{length-set}
 use Rattle.std.proofs.lemmas.Option.{slice_get_within}
-use Rattle.desk_core.specs.Calls.{RunningCall}
-use Rattle.desk_core.specs.Board.{Board, taken_at}
+use Rattle.page_core.specs.ObjectCalls.{RunningCall}
+use Rattle.board_core.specs.Board.{Board, taken_at}
 use Rattle.desk_core.specs.Kept.{board_of}
-use Rattle.desk_core.specs.Sound.{IsSound}
-use Rattle.desk_core.proofs.Sound.{sound-taken}
+use Rattle.board_core.specs.Sound.{IsSound}
+use Rattle.board_core.proofs.Sound.{sound-taken}
 use Rattle.desk_core.proofs.Starting.{has_pins, read_again}
 use Rattle.desk_core.proofs.Tables.{taken_is}
 use Rattle.desk_core.proofs.roster.Roster.collect.Goals as goal

@@ -8,14 +8,14 @@ use Rattle.path_count.specs.Stands.{StandsFor}
 use Rattle.path_count.proofs.Running.{call_counts}
 use Rattle.page_core.proofs.ListBytes.{some_same}
 use Rattle.page_core.specs.Outcomes.{if_done}
-use Rattle.desk_core.specs.declared.event.TraceEvent.TheVariants.{End}
-use Rattle.desk_core.specs.Lists.{Among, Every}
-use Rattle.desk_core.specs.Calls.{RunningCall, Noted}
-use Rattle.desk_core.specs.Board.{Board, ended, entry_of, published, paths_of, past_of}
-use Rattle.desk_core.specs.Sound.{IsSound, IsRunningIn, as_path}
-use Rattle.desk_core.proofs.Lists.{Every-among, among_at, filter_less, eqb_same}
-use Rattle.desk_core.proofs.Published.{done_twice, has_pin}
-use Rattle.desk_core.proofs.Sound.{sound-ended, past_ended, call_number}
+use Rattle.board_core.specs.declared.event.TraceEvent.TheVariants.{End}
+use Rattle.page_core.specs.Lists.{Among, Every}
+use Rattle.page_core.specs.ObjectCalls.{RunningCall, Noted}
+use Rattle.board_core.specs.Board.{Board, ended, entry_of, published, paths_of, past_of}
+use Rattle.board_core.specs.Sound.{IsSound, IsRunningIn, as_path}
+use Rattle.page_core.proofs.Lists.{Every-among, among_at, filter_less, eqb_same}
+use Rattle.board_core.proofs.Published.{done_twice, has_pin}
+use Rattle.board_core.proofs.Sound.{sound-ended, past_ended, call_number}
 use Rattle.desk_core.specs.declared.marks.Mark.TheVariants as marks
 use Rattle.desk_core.specs.Kept.{board_of, events_of, IsMarkIn, ArePlaces}
 use Rattle.desk_core.proofs.Marking.{events_same, events_end, marks_end}

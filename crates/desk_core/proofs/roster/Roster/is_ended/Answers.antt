@@ -3,13 +3,13 @@ use Rattle.std.specs.Prelude.{slice_get}
 use Rattle.std.specs.Arc.{arc_value}
 use Rattle.std.proofs.lemmas.List.{length-map}
 use Rattle.std.proofs.lemmas.Option.{slice_get-get_or}
-use Rattle.desk_core.specs.Lists.{Every}
-use Rattle.desk_core.specs.Calls.{Noted}
-use Rattle.desk_core.specs.Board.{Board}
-use Rattle.desk_core.specs.Sound.{IsNoted}
-use Rattle.desk_core.proofs.Lists.{Every-map}
-use Rattle.desk_core.proofs.Sound.{call_number}
-use Rattle.desk_core.specs.Answers.{ended_in}
+use Rattle.page_core.specs.Lists.{Every}
+use Rattle.page_core.specs.ObjectCalls.{Noted}
+use Rattle.board_core.specs.Board.{Board}
+use Rattle.board_core.specs.Sound.{IsNoted}
+use Rattle.page_core.proofs.Lists.{Every-map}
+use Rattle.board_core.proofs.Sound.{call_number}
+use Rattle.board_core.specs.Answers.{ended_in}
 use Rattle.desk_core.specs.Kept.{board_of, IsPlaceOf}
 use Rattle.desk_core.proofs.Places.{place_tells, none_beyond}
 use Rattle.desk_core.proofs.roster.Roster.is_ended.Goals as goal

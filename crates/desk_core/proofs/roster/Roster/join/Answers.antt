@@ -4,19 +4,19 @@ use Rattle.std.specs.Arc.{arc_value}
 use Rattle.std.proofs.lemmas.List.{map-append, length-map}
 use Rattle.std.proofs.lemmas.Option.{slice_get-get_or}
 use Rattle.path_count.specs.Stands.{StandsFor}
-use Rattle.desk_core.specs.Calls.{AcceptedCall, WaitingCall}
-use Rattle.desk_core.specs.Board.{Board, joined, bodies, paths_of, past_of}
+use Rattle.page_core.specs.ObjectCalls.{AcceptedCall, WaitingCall}
+use Rattle.board_core.specs.Board.{Board, joined, bodies, paths_of, past_of}
 use Rattle.desk_core.specs.Kept.{board_of, IsMarkIn, ArePlaces}
-use Rattle.desk_core.specs.Sound.{IsSound, IsFirstNamed}
-use Rattle.desk_core.proofs.Sound.{sound-joined, past_joined}
-use Rattle.desk_core.specs.Answers.{is_busy}
+use Rattle.board_core.specs.Sound.{IsSound, IsFirstNamed}
+use Rattle.board_core.proofs.Sound.{sound-joined, past_joined}
+use Rattle.board_core.specs.Answers.{is_busy}
 use Rattle.desk_core.proofs.Busy.{not_open}
-use Rattle.desk_core.proofs.Made.{some_body, made_of}
+use Rattle.board_core.proofs.Made.{some_body, made_of}
 use Rattle.desk_core.proofs.Marking.{events_same}
 use Rattle.desk_core.proofs.Places.{places_joined, noted_below}
-use Rattle.desk_core.specs.Index.{AreIndexed}
-use Rattle.desk_core.proofs.Indexing.{indexed_joined}
-use Rattle.desk_core.specs.Lists.{Every}
+use Rattle.board_core.specs.Index.{AreIndexed}
+use Rattle.board_core.proofs.Indexing.{indexed_joined}
+use Rattle.page_core.specs.Lists.{Every}
 use Rattle.desk_core.proofs.Tables.{joined_is, same_is}
 use Rattle.desk_core.proofs.roster.Roster.join.Goals as goal
 

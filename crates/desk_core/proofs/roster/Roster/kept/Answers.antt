@@ -1,14 +1,14 @@
 use Rattle.std.proofs.Common.{◌≡◌, ◌∙◌, ◌<◌, sym, ap, subst, arith, length}
 use Rattle.std.proofs.lemmas.Option.{same_Some}
-use Rattle.desk_core.specs.Calls.{AcceptedCall}
-use Rattle.desk_core.specs.Board.{Board}
-use Rattle.desk_core.specs.Keys.{HasKey, count_by}
-use Rattle.desk_core.proofs.Sound.{call_number}
-use Rattle.desk_core.proofs.Traces.{true_false}
-use Rattle.desk_core.specs.Answers.{HasName, IsGone}
+use Rattle.page_core.specs.ObjectCalls.{AcceptedCall}
+use Rattle.board_core.specs.Board.{Board}
+use Rattle.board_core.specs.Keys.{HasKey, count_by}
+use Rattle.board_core.proofs.Sound.{call_number}
+use Rattle.page_core.proofs.Lists.{true_false}
+use Rattle.board_core.specs.Answers.{HasName, IsGone}
 use Rattle.desk_core.specs.Kept.{board_of}
-use Rattle.desk_core.specs.Index.{number_in}
-use Rattle.desk_core.proofs.Indexing.{row_at, key_past, key_found}
+use Rattle.board_core.specs.Index.{number_in}
+use Rattle.board_core.proofs.Indexing.{row_at, key_past, key_found}
 use Rattle.desk_core.proofs.Sessions.{session_there}
 use Rattle.desk_core.proofs.roster.Roster.kept.Goals as goal
 

@@ -1,8 +1,8 @@
 use Rattle.std.proofs.Common.{refl, sym, ap, subst, ◌∙◌}
-use Rattle.desk_core.specs.Board.{marked}
+use Rattle.board_core.specs.Board.{marked}
 use Rattle.desk_core.specs.Kept.{board_of}
-use Rattle.desk_core.specs.Sound.{IsSound}
-use Rattle.desk_core.proofs.Sound.{sound-marked}
+use Rattle.board_core.specs.Sound.{IsSound}
+use Rattle.board_core.proofs.Sound.{sound-marked}
 use Rattle.desk_core.proofs.Tables.{marked_is}
 use Rattle.desk_core.proofs.roster.Roster.mark.Goals as goal
 

@@ -1,8 +1,8 @@
 use Rattle.std.proofs.Common.{◌≡◌, ◌+◌, ◌∙◌, ap, arith}
-use Rattle.desk_core.specs.Board.{Board}
-use Rattle.desk_core.specs.Keys.{count_by, next_key}
+use Rattle.board_core.specs.Board.{Board}
+use Rattle.board_core.specs.Keys.{count_by, next_key}
 use Rattle.desk_core.specs.Kept.{board_of}
-use Rattle.desk_core.proofs.Indexing.{row_at, count_few}
+use Rattle.board_core.proofs.Indexing.{row_at, count_few}
 use Rattle.desk_core.proofs.roster.Roster.next_key.Goals as goal
 
 pub overflow_cast-result : goal.overflow_cast-result

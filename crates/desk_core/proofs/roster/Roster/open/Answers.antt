@@ -2,11 +2,11 @@ use Rattle.std.proofs.Common.{rules, arith, ap, length, subst, sym, map, []}
 use Rattle.decl_core.specs.ObjectMap.{object_of}
 use Rattle.std.specs.Arc.{arc_value}
 use Rattle.path_count.specs.Stands.{StandsFor}
-use Rattle.desk_core.specs.Board.{past_of}
-use Rattle.desk_core.specs.Sound.{IsSound}
-use Rattle.desk_core.proofs.Sound.{sound-opened}
-use Rattle.desk_core.specs.Index.{AreIndexed}
-use Rattle.desk_core.proofs.Indexing.{indexed_opened}
+use Rattle.board_core.specs.Board.{past_of}
+use Rattle.board_core.specs.Sound.{IsSound}
+use Rattle.board_core.proofs.Sound.{sound-opened}
+use Rattle.board_core.specs.Index.{AreIndexed}
+use Rattle.board_core.proofs.Indexing.{indexed_opened}
 use Rattle.desk_core.proofs.Marking.{events_are, no_marks}
 use Rattle.desk_core.proofs.Places.{no_places}
 use Rattle.desk_core.proofs.Tables.{opened_is}

@@ -1,7 +1,7 @@
 use Rattle.std.proofs.Common.{[], subst}
-use Rattle.desk_core.specs.Board.{Board}
-use Rattle.desk_core.specs.Free.{IsNeeded, Picks}
-use Rattle.desk_core.proofs.Freed.{published_are_picked}
+use Rattle.board_core.specs.Board.{Board}
+use Rattle.board_core.specs.Free.{IsNeeded, Picks}
+use Rattle.board_core.proofs.Freed.{published_are_picked}
 use Rattle.desk_core.specs.Kept.{board_of}
 use Rattle.desk_core.proofs.roster.Roster.pick.Goals as goal
 

@@ -1,10 +1,10 @@
 use Rattle.std.proofs.Common.{◌≡◌, ◌∙◌, ◌⊎◌, ap, subst, Some}
 use Rattle.std.specs.Prelude.{IfSome, IfNone, slice_get}
 use Rattle.page_core.specs.Outcomes.{outcome_call, IsFresh}
-use Rattle.desk_core.specs.Lists.{Every}
-use Rattle.desk_core.specs.Calls.{RunningCall}
-use Rattle.desk_core.specs.Board.{Board}
-use Rattle.desk_core.specs.Outcomes.{IsOf}
+use Rattle.page_core.specs.Lists.{Every}
+use Rattle.page_core.specs.ObjectCalls.{RunningCall}
+use Rattle.board_core.specs.Board.{Board}
+use Rattle.board_core.specs.Outcomes.{IsOf}
 use Rattle.desk_core.proofs.roster.Roster.place_to_end.Goals as goal
 
 pub returns-clause-some : goal.returns-clause-some

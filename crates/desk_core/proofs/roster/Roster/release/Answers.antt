@@ -1,10 +1,10 @@
 use Rattle.std.proofs.Common.{◌∙◌, ◌==◌, not, sym, ap, subst, arith, length}
-use Rattle.desk_core.specs.Calls.{WaitingCall}
-use Rattle.desk_core.specs.Board.{Board, released}
+use Rattle.page_core.specs.ObjectCalls.{WaitingCall}
+use Rattle.board_core.specs.Board.{Board, released}
 use Rattle.desk_core.specs.Kept.{board_of}
-use Rattle.desk_core.specs.Sound.{IsSound}
-use Rattle.desk_core.proofs.Sound.{sound-released}
-use Rattle.desk_core.proofs.Lists.{filter_le}
+use Rattle.board_core.specs.Sound.{IsSound}
+use Rattle.board_core.proofs.Sound.{sound-released}
+use Rattle.page_core.proofs.Lists.{filter_le}
 use Rattle.desk_core.proofs.Tables.{released_is}
 use Rattle.desk_core.proofs.roster.Roster.release.Goals as goal
 

@@ -3,11 +3,11 @@ use Rattle.std.specs.Prelude.{slice_get}
 use Rattle.std.specs.Arc.{arc_value}
 use Rattle.std.proofs.lemmas.List.{length-map}
 use Rattle.std.proofs.lemmas.Option.{slice_get-get_or, slice_get_within, get_or_from_slice_get}
-use Rattle.desk_core.specs.Lists.{Among}
-use Rattle.desk_core.specs.Calls.{Noted}
-use Rattle.desk_core.specs.Board.{Board}
-use Rattle.desk_core.proofs.Lists.{among_at}
-use Rattle.desk_core.specs.Answers.{ended_in}
+use Rattle.page_core.specs.Lists.{Among}
+use Rattle.page_core.specs.ObjectCalls.{Noted}
+use Rattle.board_core.specs.Board.{Board}
+use Rattle.page_core.proofs.Lists.{among_at}
+use Rattle.board_core.specs.Answers.{ended_in}
 use Rattle.desk_core.specs.Kept.{board_of, IsPlaceOf}
 use Rattle.desk_core.proofs.Places.{place_tells, place_entry}
 use Rattle.desk_core.proofs.roster.Roster.state.Goals as goal

@@ -1,7 +1,7 @@
 use Rattle.std.proofs.Common.{◌∙◌, ◌++◌, map, ap}
 use Rattle.std.specs.Arc.{arc_value}
 use Rattle.decl_core.specs.ObjectMap.{object_of}
-use Rattle.desk_core.specs.Board.{Board}
+use Rattle.board_core.specs.Board.{Board}
 use Rattle.word_core.specs.Text.{front_words, lines_of, trace_text}
 use Rattle.desk_core.specs.Kept.{board_of}
 use Rattle.desk_core.specs.Told.{lines_told}

@@ -1,8 +1,8 @@
 use Rattle.std.proofs.Common.{refl, sym, ap, subst, ◌∙◌}
-use Rattle.desk_core.specs.Keys.{resumed}
+use Rattle.board_core.specs.Keys.{resumed}
 use Rattle.desk_core.specs.Kept.{board_of}
-use Rattle.desk_core.specs.Sound.{IsSound}
-use Rattle.desk_core.proofs.Resumed.{sound-resumed}
+use Rattle.board_core.specs.Sound.{IsSound}
+use Rattle.board_core.proofs.Resumed.{sound-resumed}
 use Rattle.desk_core.proofs.Tables.{resumed_is}
 use Rattle.desk_core.proofs.roster.Roster.unmark.Goals as goal
 

@@ -1,5 +1,5 @@
 use Rattle.std.proofs.Common.{◌∙◌, ap, sym, subst, true, false}
-use Rattle.desk_core.specs.Sound.{IsSound}
+use Rattle.board_core.specs.Sound.{IsSound}
 use Rattle.office_core.specs.Insides.{InsideView}
 use Rattle.std.proofs.lemmas.Bool.{false≢true}
 use Rattle.keep_core.proofs.KeepEnding.{ending_by, closed_by, lacking_by, refused_by_office}

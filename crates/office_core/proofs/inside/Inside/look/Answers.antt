@@ -1,6 +1,6 @@
 use Rattle.std.proofs.Common.{◌≡◌, ap, sym, subst}
-use Rattle.desk_core.specs.declared.answer.Collected.TheVariants as collected
-use Rattle.desk_core.specs.Answers.{Collects}
+use Rattle.board_core.specs.declared.answer.Collected.TheVariants as collected
+use Rattle.board_core.specs.Answers.{Collects}
 use Rattle.office_core.specs.Insides.{InsideView}
 use Rattle.office_core.specs.Submissions.{IsOf}
 use Rattle.office_core.proofs.Found.{ticket_is}

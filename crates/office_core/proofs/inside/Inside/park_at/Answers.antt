@@ -1,8 +1,8 @@
 use Rattle.std.proofs.Common.{◌≡◌, ◌∙◌, ℕ, Some, List, ap, sym, subst, arith}
 use Rattle.std.specs.Prelude.{slice_get, slice_set}
-use Rattle.desk_core.specs.Board.{Board, released, marked}
-use Rattle.desk_core.specs.Started.{Settles}
-use Rattle.desk_core.specs.Answers.{runs_by}
+use Rattle.board_core.specs.Board.{Board, released, marked}
+use Rattle.board_core.specs.Started.{Settles}
+use Rattle.board_core.specs.Answers.{runs_by}
 use Rattle.office_core.specs.declared.clients.Client.{Client}
 use Rattle.office_core.specs.Clients.{AreClients}
 use Rattle.office_core.proofs.Naming.{clients_put, client_within}

@@ -1,7 +1,7 @@
 use Rattle.std.proofs.Common.{◌≡◌, ◌∙◌, ◌⊎◌, inl, ℕ, Some, None, List, ap, sym, subst, refl, arith}
 use Rattle.std.specs.Prelude.{slice_get, slice_set}
-use Rattle.desk_core.specs.Board.{Board}
-use Rattle.desk_core.specs.Keys.{resumed}
+use Rattle.board_core.specs.Board.{Board}
+use Rattle.board_core.specs.Keys.{resumed}
 use Rattle.office_core.specs.declared.clients.Client.{Client}
 use Rattle.office_core.specs.Clients.{AreClients}
 use Rattle.office_core.proofs.Naming.{clients_taken, parked_within}

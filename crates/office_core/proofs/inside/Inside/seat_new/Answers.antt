@@ -1,5 +1,5 @@
 use Rattle.std.proofs.Common.{◌≡◌, ◌≢◌, ◌+◌, None, List, ap, sym, subst, refl, arith}
-use Rattle.desk_core.specs.Lists.{Every}
+use Rattle.page_core.specs.Lists.{Every}
 use Rattle.office_core.specs.declared.clients.Client.{Client}
 use Rattle.office_core.specs.Clients.{AreClients}
 use Rattle.office_core.proofs.Naming.{clients_more}

@@ -1,9 +1,9 @@
 use Rattle.std.proofs.Common.{◌≡◌, ◌∙◌, ℕ, ap, subst, ◌+◌, length}
 use Rattle.std.specs.Arc.{arc_value}
-use Rattle.desk_core.specs.Board.{Board, joined}
-use Rattle.desk_core.specs.Calls.{AcceptedCall}
-use Rattle.desk_core.specs.Started.{Settles}
-use Rattle.desk_core.specs.Answers.{Asked, IsTaken, IsRefused}
+use Rattle.board_core.specs.Board.{Board, joined}
+use Rattle.page_core.specs.ObjectCalls.{AcceptedCall}
+use Rattle.board_core.specs.Started.{Settles}
+use Rattle.board_core.specs.Answers.{Asked, IsTaken, IsRefused}
 use Rattle.office_core.specs.Insides.{InsideView}
 use Rattle.office_core.proofs.Found.{joined_is}
 use Rattle.office_core.proofs.inside.Inside.submit.Goals as goal

@@ -1,4 +1,4 @@
-use Rattle.desk_core.specs.Answers.{Asked}
+use Rattle.board_core.specs.Answers.{Asked}
 use Rattle.office_core.proofs.Keying.{refused_next}
 use Rattle.office_core.proofs.inside.Inside.submit_next.Goals as goal
 

@@ -1,5 +1,5 @@
 use Rattle.std.proofs.Common.{◌≡◌, ap, sym, subst, refl}
-use Rattle.desk_core.proofs.Traces.{true_false}
+use Rattle.page_core.proofs.Lists.{true_false}
 use Rattle.office_core.specs.Insides.{InsideView}
 use Rattle.office_core.specs.Submissions.{IsOf}
 use Rattle.office_core.proofs.inside.Inside.try_start.Goals as goal

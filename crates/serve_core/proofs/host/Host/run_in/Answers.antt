@@ -1,6 +1,6 @@
 use Rattle.std.proofs.Common.{refl, subst, inl, inr, ℕ}
 use Rattle.value_core.specs.declared.machine.LinesFault.TheVariants.{Memory}
-use Rattle.page_core.specs.Numbers.{AreBetween}
+use Rattle.serve_core.specs.Numbers.{AreBetween}
 use Rattle.serve_core.proofs.Running.{run_none, run_behind}
 use Rattle.serve_core.proofs.Tidying.{moved_not, moved_all}
 use Rattle.serve_core.proofs.host.Host.run_in.Goals as goal

@@ -1,7 +1,7 @@
 use Rattle.std.proofs.Common.{[], refl, sym, subst}
 use Rattle.std.proofs.lemmas.List.{append-nil}
 use Rattle.word_core.specs.ScriptView.{said_view}
-use Rattle.desk_core.specs.Sound.{IsSound}
+use Rattle.board_core.specs.Sound.{IsSound}
 use Rattle.decl_core.specs.HoldMap.{holds_of}
 use Rattle.world_core.specs.HoldDoes.{HeldDoes, ward}
 use Rattle.world_core.specs.HoldWrites.{skipped, done}

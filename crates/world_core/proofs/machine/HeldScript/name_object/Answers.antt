@@ -1,6 +1,6 @@
 use Rattle.std.proofs.Common.{◌≡◌, [], refl, sym, ap, ◌∙◌, subst}
 use Rattle.std.proofs.lemmas.List.{append-nil}
-use Rattle.desk_core.specs.Board.{Board}
+use Rattle.board_core.specs.Board.{Board}
 use Rattle.word_core.specs.Answers.{bad_line}
 use Rattle.world_core.specs.Writes.{NamesObject}
 use Rattle.world_core.specs.HoldWrites.{named, not_named}

@@ -1,5 +1,5 @@
 use Rattle.std.proofs.Common.{◌≡◌, ◌∙◌, ap, slice_get, Some, sym}
-use Rattle.desk_core.specs.Board.{Board}
+use Rattle.board_core.specs.Board.{Board}
 use Rattle.world_core.proofs.ScriptTelling.{next_start}
 use Rattle.world_core.proofs.script.answer.push_starts.Goals as goal
 

@@ -1,5 +1,5 @@
 use Rattle.std.proofs.Common.{ap, ◌∙◌, ◌-◌, length}
-use Rattle.desk_core.specs.Board.{Board}
+use Rattle.board_core.specs.Board.{Board}
 use Rattle.world_core.proofs.ScriptTelling.{event_told}
 use Rattle.world_core.proofs.script.answer.push_told.Goals as goal
 

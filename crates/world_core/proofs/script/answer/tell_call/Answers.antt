@@ -1,5 +1,5 @@
 use Rattle.std.proofs.Common.{subst}
-use Rattle.desk_core.specs.Sound.{IsSound}
+use Rattle.board_core.specs.Sound.{IsSound}
 use Rattle.world_core.specs.Does.{Happens, call_of, event_lines}
 use Rattle.world_core.proofs.Doing.{found_runs}
 use Rattle.world_core.proofs.script.answer.tell_call.Goals as goal

@@ -1,5 +1,5 @@
 use Rattle.std.proofs.Common.{subst}
-use Rattle.desk_core.specs.Sound.{IsSound}
+use Rattle.board_core.specs.Sound.{IsSound}
 use Rattle.world_core.proofs.Doing.{call_done, call_only}
 use Rattle.world_core.proofs.script.answer.tell_done.Goals as goal
 

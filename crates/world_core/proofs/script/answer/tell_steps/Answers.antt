@@ -1,6 +1,6 @@
 use Rattle.std.proofs.Common.{◌≡◌, false, sym, ap, ◌∙◌, subst}
-use Rattle.desk_core.specs.Board.{Board}
-use Rattle.desk_core.specs.Answers.{runs_in}
+use Rattle.board_core.specs.Board.{Board}
+use Rattle.board_core.specs.Answers.{runs_in}
 use Rattle.word_core.specs.Answers.{refused_line, all_stepped_line}
 use Rattle.word_core.specs.Said.{all_steps}
 use Rattle.world_core.specs.Does.{Does, all_stepped, not_stepped}

@@ -1,6 +1,6 @@
 use Rattle.std.proofs.Common.{true, ◌≡◌}
 use Rattle.world_core.specs.Does.{IsOver}
-use Rattle.desk_core.specs.Answers.{runs_in}
+use Rattle.board_core.specs.Answers.{runs_in}
 use Rattle.world_core.proofs.ScriptStepping.{step_over}
 use Rattle.world_core.proofs.script.steps.step_once.Goals as goal
 

@@ -1,5 +1,5 @@
 use Rattle.std.proofs.Common.{◌≡◌, ◌≤◌, ◌+◌, true}
-use Rattle.desk_core.specs.Answers.{runs_in}
+use Rattle.board_core.specs.Answers.{runs_in}
 use Rattle.world_core.specs.Work.{work_of, most_work}
 use Rattle.world_core.specs.Does.{StepsMade}
 use Rattle.world_core.proofs.script.steps.step_to_end.Given as goal

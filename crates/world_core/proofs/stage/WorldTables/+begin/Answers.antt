@@ -1,10 +1,10 @@
 use Rattle.std.proofs.Common.{arith, ◌≡◌, ◌≤◌, ◌<◌, [], List, Some, length, map, sym, ◌∙◌, ap, subst, append-nil}
 use Rattle.std.specs.Prelude.{slice_get}
-use Rattle.desk_core.specs.declared.event.TraceEvent.{TraceEvent}
-use Rattle.desk_core.specs.declared.event.TraceEvent.TheVariants.{End}
-use Rattle.desk_core.specs.Calls.{WaitingCall}
-use Rattle.desk_core.specs.Board.{Board}
-use Rattle.desk_core.specs.Started.{run_of}
+use Rattle.board_core.specs.declared.event.TraceEvent.{TraceEvent}
+use Rattle.board_core.specs.declared.event.TraceEvent.TheVariants.{End}
+use Rattle.page_core.specs.ObjectCalls.{WaitingCall}
+use Rattle.board_core.specs.Board.{Board}
+use Rattle.board_core.specs.Started.{run_of}
 use Rattle.world_core.specs.Scene.{AreBegun}
 use Rattle.world_core.specs.Kept.{HasNew}
 use Rattle.world_core.proofs.Beginning.{new_over, none_new, next_new, new_more, not_end, new_few, event_there, next_run, all_begun}

@@ -1,10 +1,10 @@
 use Rattle.std.proofs.Common.{◌≡◌, sym, ◌∙◌, ap, subst, length}
 use Rattle.device_core.specs.Files.{files_of}
 use Rattle.run_core.specs.Runs.{run_call}
-use Rattle.desk_core.specs.Calls.{RunningCall}
-use Rattle.desk_core.specs.Board.{Board, taken_at}
-use Rattle.desk_core.specs.Sound.{IsSound}
-use Rattle.desk_core.specs.Answers.{Collects}
+use Rattle.page_core.specs.ObjectCalls.{RunningCall}
+use Rattle.board_core.specs.Board.{Board, taken_at}
+use Rattle.board_core.specs.Sound.{IsSound}
+use Rattle.board_core.specs.Answers.{Collects}
 use Rattle.world_core.specs.declared.slot.Slot.{Slot as ASlot}
 use Rattle.world_core.specs.Scene.{call_running}
 use Rattle.world_core.specs.Kept.{IsKept}

@@ -1,6 +1,6 @@
 use Rattle.std.proofs.Common.{sym, ◌∙◌, ap, subst, length}
-use Rattle.desk_core.specs.Board.{Board, joined}
-use Rattle.desk_core.specs.Answers.{Asked}
+use Rattle.board_core.specs.Board.{Board, joined}
+use Rattle.board_core.specs.Answers.{Asked}
 use Rattle.world_core.specs.declared.event.EventAnswer.{EventAnswer}
 use Rattle.world_core.specs.declared.event.WorldAnswer.TheVariants.{Number, Refused}
 use Rattle.world_core.specs.declared.event.EventRefusal.TheVariants.{Submit}

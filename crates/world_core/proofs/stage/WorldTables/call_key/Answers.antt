@@ -1,10 +1,10 @@
 use Rattle.std.proofs.Common.{sym, ◌∙◌, ap, subst, length}
 use Rattle.std.specs.Prelude.{Ok, Err}
-use Rattle.desk_core.specs.Board.{Board, joined}
-use Rattle.desk_core.specs.declared.answer.Keyed.{Keyed}
-use Rattle.desk_core.specs.declared.answer.Keyed.TheVariants as keyed
-use Rattle.desk_core.specs.Answers.{Asked}
-use Rattle.desk_core.specs.Keyed.{SubmitsKeyed}
+use Rattle.board_core.specs.Board.{Board, joined}
+use Rattle.board_core.specs.declared.answer.Keyed.{Keyed}
+use Rattle.board_core.specs.declared.answer.Keyed.TheVariants as keyed
+use Rattle.board_core.specs.Answers.{Asked}
+use Rattle.board_core.specs.Keyed.{SubmitsKeyed}
 use Rattle.world_core.specs.declared.event.EventAnswer.{EventAnswer}
 use Rattle.world_core.specs.declared.event.WorldAnswer.TheVariants.{Number, Kept, Refused}
 use Rattle.world_core.specs.declared.event.EventRefusal.TheVariants.{Keyed as KeyRefused}

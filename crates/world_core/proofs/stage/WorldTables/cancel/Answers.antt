@@ -1,6 +1,6 @@
 use Rattle.std.proofs.Common.{sym, ◌∙◌, ap, subst, length}
-use Rattle.desk_core.specs.Board.{Board, Rests, dismissed}
-use Rattle.desk_core.specs.Answers.{Cancels}
+use Rattle.board_core.specs.Board.{Board, Rests, dismissed}
+use Rattle.board_core.specs.Answers.{Cancels}
 use Rattle.world_core.specs.declared.event.EventAnswer.{EventAnswer}
 use Rattle.world_core.specs.declared.event.WorldAnswer.TheVariants.{Cancel}
 use Rattle.world_core.specs.declared.stage.WorldTables.{WorldTables}

@@ -4,8 +4,8 @@ use Rattle.std.proofs.lemmas.Option.{slice_get_read}
 use Rattle.decl_core.specs.declared.object.Object.{Object}
 use Rattle.decl_core.specs.declared.object.Part.{Part}
 use Rattle.apply_core.specs.History.{leads_to}
-use Rattle.desk_core.specs.Board.{Board}
-use Rattle.desk_core.specs.Chain.{history_of}
+use Rattle.board_core.specs.Board.{Board}
+use Rattle.board_core.specs.Chain.{history_of}
 use Rattle.world_core.proofs.Showing.{one_more, value_of, all_shown}
 use Rattle.world_core.proofs.stage.WorldTables.contents.Goals as goal
 

@@ -5,7 +5,7 @@ use Rattle.device_core.specs.Files.{files_of}
 use Rattle.apply_core.specs.declared.need.Need.TheVariants as needs
 use Rattle.run_core.specs.Runs.{run_ending, run_place}
 use Rattle.run_core.specs.Steps.{need_at}
-use Rattle.desk_core.specs.Lists.{Every}
+use Rattle.page_core.specs.Lists.{Every}
 use Rattle.world_core.specs.declared.event.EventAnswer.{EventAnswer}
 use Rattle.world_core.specs.declared.slot.Slot.{Slot}
 use Rattle.world_core.specs.Answers.{Answers, finish_not_running, not_done}

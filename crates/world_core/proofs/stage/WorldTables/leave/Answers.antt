@@ -1,5 +1,5 @@
 use Rattle.std.proofs.Common.{arith, ◌≡◌, ◌<◌, ◌⊎◌, inl, inr, sym, ◌∙◌, ap, subst, length}
-use Rattle.desk_core.specs.Board.{Board, released, marked}
+use Rattle.board_core.specs.Board.{Board, released, marked}
 use Rattle.world_core.specs.declared.event.EventAnswer.{EventAnswer}
 use Rattle.world_core.specs.Events.{leave}
 use Rattle.world_core.specs.Answers.{Answers, left, no_session}

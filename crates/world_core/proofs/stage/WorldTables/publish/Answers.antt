@@ -5,7 +5,7 @@ use Rattle.apply_core.specs.declared.reply.Reply.{Reply}
 use Rattle.run_core.specs.Runs.{run_ending, ending_by_place}
 use Rattle.device_core.specs.Files.{files_of}
 use Rattle.page_core.specs.Outcomes.{outcome_reply, outcome_news}
-use Rattle.desk_core.specs.Board.{Board, Rests, ended, entry_of}
+use Rattle.board_core.specs.Board.{Board, Rests, ended, entry_of}
 use Rattle.world_core.specs.declared.event.WorldAnswer.TheVariants.{Ended}
 use Rattle.world_core.specs.declared.slot.Slot.{Slot}
 use Rattle.world_core.specs.Answers.{Answers, Leaves, with_starts, finished}

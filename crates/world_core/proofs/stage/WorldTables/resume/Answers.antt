@@ -1,8 +1,8 @@
 use Rattle.std.proofs.Common.{◌≡◌, ◌<◌, ◌≤◌, ◌⊎◌, ◌∙◌, List, length, sym, ap, subst}
-use Rattle.desk_core.specs.Calls.{RunningCall}
-use Rattle.desk_core.specs.Board.{Board}
-use Rattle.desk_core.specs.Sound.{IsSound}
-use Rattle.desk_core.specs.Keys as keys
+use Rattle.page_core.specs.ObjectCalls.{RunningCall}
+use Rattle.board_core.specs.Board.{Board}
+use Rattle.board_core.specs.Sound.{IsSound}
+use Rattle.board_core.specs.Keys as keys
 use Rattle.world_core.specs.declared.event.EventAnswer.{EventAnswer}
 use Rattle.world_core.specs.declared.event.WorldAnswer.TheVariants.{Resumed, Refused}
 use Rattle.world_core.specs.declared.event.EventRefusal.TheVariants.{NoSession}

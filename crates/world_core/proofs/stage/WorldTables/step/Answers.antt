@@ -8,9 +8,8 @@ use Rattle.run_core.specs.declared.step.StepAnswer.{StepAnswer}
 use Rattle.run_core.specs.Runs.{run_ending, run_place}
 use Rattle.run_core.specs.Phases.{step_answer}
 use Rattle.run_core.specs.Steps.{need_at}
-use Rattle.desk_core.specs.Lists.{Every}
-use Rattle.desk_core.proofs.Lists.{Every-at}
-use Rattle.desk_core.proofs.Traces.{true_false}
+use Rattle.page_core.specs.Lists.{Every}
+use Rattle.page_core.proofs.Lists.{Every-at, true_false}
 use Rattle.world_core.specs.declared.event.WorldAnswer.TheVariants.{Stepped}
 use Rattle.world_core.specs.declared.event.EventAnswer.{EventAnswer}
 use Rattle.world_core.specs.declared.slot.Slot.{Slot}

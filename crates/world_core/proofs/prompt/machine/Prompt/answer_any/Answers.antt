@@ -1,7 +1,7 @@
 use Rattle.std.proofs.Common.{[], refl, sym, subst}
 use Rattle.std.proofs.lemmas.List.{append-nil}
 use Rattle.word_core.specs.ScriptView.{said_view}
-use Rattle.desk_core.specs.Sound.{IsSound}
+use Rattle.board_core.specs.Sound.{IsSound}
 use Rattle.world_core.specs.Tries.{skipped, done}
 use Rattle.world_core.proofs.prompt.machine.Prompt.answer_any.Goals as goal
 

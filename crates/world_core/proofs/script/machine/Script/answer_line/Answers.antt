@@ -1,7 +1,7 @@
 use Rattle.std.proofs.Common.{[], refl, sym, subst}
 use Rattle.std.proofs.lemmas.List.{append-nil}
 use Rattle.word_core.specs.ScriptView.{said_view}
-use Rattle.desk_core.specs.Sound.{IsSound}
+use Rattle.board_core.specs.Sound.{IsSound}
 use Rattle.world_core.specs.Writes.{skipped, done}
 use Rattle.world_core.proofs.script.machine.Script.answer_line.Goals as goal
 

@@ -1,5 +1,0 @@
-use Rattle.std.proofs.Common.{length}
-use Rattle.answer_core.proofs.folder_audit.+audit_objects.Given as goal
-
-abbrev pub decreases-audit_objects : goal.decreases-audit_objects
-decreases-audit_objects g l = length l.objects.now

@@ -1,6 +1,0 @@
-use Rattle.decl_core.specs.ObjectMap.{object_of}
-use Rattle.answer_core.proofs.Telling.{next}
-use Rattle.answer_core.proofs.folder_audit.hear_cut.Goals as goal
-
-pub returns-in-Ok : goal.returns-in-Ok
-returns-in-Ok c = next (object_of c.args.object.now) c.args.epochs.now c.hear.new.self (rw c.in-Ok.is at c.in_ok-hear.ensures)

@@ -1,9 +1,0 @@
-use Rattle.answer_core.proofs.Audits.{no_line_of_trace}
-use Rattle.answer_core.proofs.Lineless.{no_line_is_bad}
-use Rattle.answer_core.proofs.laws.no_line_is_bad.Goals as goal
-
-pub returns-clause-script : goal.returns-clause-script
-returns-clause-script c = no_line_is_bad
-
-pub returns-clause-trace : goal.returns-clause-trace
-returns-clause-trace c = no_line_of_trace

@@ -1,0 +1,12 @@
+pub mod Board
+pub mod Started
+pub mod Chain
+pub mod Free
+pub mod Sound
+pub mod Outcomes
+pub mod Laws
+pub mod Keys
+pub mod Index
+pub mod Answers
+pub mod Keyed
+pub mod KeyedLaws

@@ -1,5 +1,0 @@
-use Rattle.desk_core.proofs.Keying.{kept_exactly}
-use Rattle.desk_core.proofs.ask_laws.kept_exactly.Goals as goal
-
-pub returns : goal.returns
-returns c = kept_exactly

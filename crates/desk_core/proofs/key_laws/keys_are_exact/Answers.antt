@@ -1,5 +1,0 @@
-use Rattle.desk_core.proofs.Keys.{keys_are_exact}
-use Rattle.desk_core.proofs.key_laws.keys_are_exact.Goals as goal
-
-pub returns : goal.returns
-returns c = keys_are_exact

@@ -1,5 +1,0 @@
-use Rattle.desk_core.proofs.Admission.{admission_starts}
-use Rattle.desk_core.proofs.laws.admission_starts.Goals as goal
-
-pub returns : goal.returns
-returns c = admission_starts

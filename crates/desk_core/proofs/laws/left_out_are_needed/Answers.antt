@@ -1,5 +1,0 @@
-use Rattle.desk_core.proofs.AfterFinish.{left_out_are_needed}
-use Rattle.desk_core.proofs.laws.left_out_are_needed.Goals as goal
-
-pub returns : goal.returns
-returns c = left_out_are_needed

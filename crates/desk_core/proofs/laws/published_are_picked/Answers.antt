@@ -1,5 +1,0 @@
-use Rattle.desk_core.proofs.Freed.{published_are_picked}
-use Rattle.desk_core.proofs.laws.published_are_picked.Goals as goal
-
-pub returns : goal.returns
-returns c = published_are_picked

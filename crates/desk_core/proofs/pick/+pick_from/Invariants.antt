@@ -1,5 +1,0 @@
-use Rattle.std.proofs.Common.{◌-◌, length}
-use Rattle.desk_core.proofs.pick.+pick_from.Given as goal
-
-abbrev pub decreases-pick_from : goal.decreases-pick_from
-decreases-pick_from l = length l.free.now.items - l.at

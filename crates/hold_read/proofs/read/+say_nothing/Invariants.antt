@@ -1,5 +1,0 @@
-use Rattle.std.proofs.Common.{length}
-use Rattle.hold_read.proofs.read.+say_nothing.Given as goal
-
-abbrev pub decreases-say_nothing : goal.decreases-say_nothing
-decreases-say_nothing l = length l.all.now

@@ -1,0 +1,4 @@
+pub mod Queueing
+pub mod QueueSending
+pub mod Fronts
+pub mod Rows

@@ -1,0 +1,5 @@
+//! TODO
+#![tactic(auto)]
+
+pub mod open_call;
+pub mod queue;
