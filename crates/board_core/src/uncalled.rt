@@ -5,52 +5,50 @@ ghost use Rattle.std.specs.Arc.{arc_value};
 ghost use Rattle.board_core.specs.Outcomes.{IsEntryOf};
 ghost use Rattle.page_core.specs.Outcomes.{outcome_call, outcome_pins};
 
-use page_core::entry::Entry;
 use crate::receipt::NotedOutcome;
 use decl_core::object::Operation;
 use decl_core::same::same_declaration;
+use page_core::entry::Entry;
 use page_core::part_pins::PartPins;
 use std::sync::Arc;
 use value_core::datum::Datum;
 
-impl Entry {
-    /// Whether this is the entry that a receipt tells of: it tells of the call all that the outcome tells. It takes no
-    /// memory.
-    pub fn is_entry_of(&self, noted: &NotedOutcome) -> bool
-        ensures { IsTrue result ↔ IsEntryOf noted.now.session noted.now.outcome self.now }
-    {
-        if self.number() != noted.number() {
-            return false;
-        }
-        if self.session() != noted.session {
-            return false;
-        }
-        if !same_declaration(self.operation(), noted.operation()) {
-            return false;
-        }
-        if !self.args().are(noted.args()) {
-            return false;
-        }
-        if !self.kept_reply().is(noted.reply()) {
-            return false;
-        }
-        if !self.has_news(noted) {
-            return false;
-        }
-        self.pins().is_same(noted.pins())
+// Whether the new pins of this entry are those of an outcome.
+fn has_news(entry: &Entry, noted: &NotedOutcome) -> bool
+    ensures { IsTrue result ↔ (entry.now.news ≡ outcome_pins noted.now.outcome) }
+{
+    match (entry.new_pins(), noted.new_pins()) {
+        (Some(news), Some(others)) => news.is_same(others),
+        (Some(news), None) => news.is_empty(),
+        (None, Some(others)) => others.is_empty(),
+        (None, None) => true,
     }
+}
 
-    // Whether these are the new pins of an outcome.
-    fn has_news(&self, noted: &NotedOutcome) -> bool
-        ensures { IsTrue result ↔ (self.now.news ≡ outcome_pins noted.now.outcome) }
-    {
-        match (self.new_pins(), noted.new_pins()) {
-            (Some(news), Some(others)) => news.is_same(others),
-            (Some(news), None) => news.is_empty(),
-            (None, Some(others)) => others.is_empty(),
-            (None, None) => true,
-        }
+/// Whether this is the entry that a receipt tells of: it tells of the call all that the outcome tells. It takes no
+/// memory.
+pub fn is_entry_of(entry: &Entry, noted: &NotedOutcome) -> bool
+    ensures { IsTrue result ↔ IsEntryOf noted.now.session noted.now.outcome entry.now }
+{
+    if entry.number() != noted.number() {
+        return false;
     }
+    if entry.session() != noted.session {
+        return false;
+    }
+    if !same_declaration(entry.operation(), noted.operation()) {
+        return false;
+    }
+    if !entry.args().are(noted.args()) {
+        return false;
+    }
+    if !entry.kept_reply().is(noted.reply()) {
+        return false;
+    }
+    if !has_news(entry, noted) {
+        return false;
+    }
+    entry.pins().is_same(noted.pins())
 }
 
 impl NotedOutcome {

@@ -3,8 +3,8 @@
 ghost use Rattle.std.specs.Prelude.{◌≤◌, IfErr, IfOk};
 ghost use Rattle.answer_core.specs.Status.{IsFault};
 
-use answer_core::answer::REFUSED;
 use crate::try_answer::answer_try;
+use answer_core::answer::REFUSED;
 use answer_core::explanation::{Telling, explained};
 use answer_core::failure::ToolFailure;
 use answer_core::inputs::source_at;

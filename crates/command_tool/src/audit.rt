@@ -3,13 +3,13 @@
 ghost use Rattle.std.specs.Prelude.{◌≤◌, IfErr, IfOk};
 ghost use Rattle.answer_core.specs.Status.{IsFault};
 
-use answer_core::answer::{ACCEPTED, REFUSED};
 use crate::audit_answer::audit_trace;
-use crate::run_explanation::explained_audit;
-use answer_core::explanation::explained;
-use answer_core::failure::ToolFailure;
 use crate::files::FolderFault;
 use crate::folder_audit::audit_folder;
+use crate::run_explanation::explained_audit;
+use answer_core::answer::{ACCEPTED, REFUSED};
+use answer_core::explanation::explained;
+use answer_core::failure::ToolFailure;
 use answer_core::inputs::{Inputs, inputs_of, is_folder, source_at};
 use answer_core::lack::{Lacking, Wanted};
 use answer_core::said::{telling_of, told, told_unread, written};

@@ -15,12 +15,12 @@ ghost use Rattle.answer_core.specs.declared.explanation.Telling.TheVariants.{Not
 ghost use Rattle.answer_core.specs.declared.failure.ToolFailure.TheVariants.{WriteFault, Memory};
 ghost use Rattle.command_tool.specs.HeldRun.{IsHeldRun, IsHeldRunFront};
 
-use answer_core::answer::status_of_check;
 use crate::run_explanation::explained_script;
+use crate::script_answer::{status_of_script, tell};
+use answer_core::answer::status_of_check;
 use answer_core::explanation::{Telling, explained};
 use answer_core::failure::ToolFailure;
 use answer_core::said::written;
-use crate::script_answer::{status_of_script, tell};
 use check_core::head::read_head;
 use check_core::hold_report::held_report;
 use check_core::open::{OpenedScript, open_script};

@@ -5,13 +5,13 @@ ghost use Rattle.answer_core.specs.Status.{IsFault};
 
 use crate::holds::run_held;
 use crate::run_explanation::explained_run;
+use crate::script_answer::answer_script;
 use answer_core::explanation::Telling;
 use answer_core::failure::ToolFailure;
 use answer_core::holds::refuse_faulty;
 use answer_core::inputs::{Inputs, inputs_of};
 use answer_core::lack::Wanted;
 use answer_core::said::{telling_of, told_unread};
-use crate::script_answer::answer_script;
 use command_line::request::Explain;
 use decl_read::held_read::{Held, Look, look_at};
 use note_core::files::Files;

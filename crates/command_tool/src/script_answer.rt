@@ -7,8 +7,8 @@ ghost use Rattle.world_core.specs.declared.script.ScriptEnd.{ScriptEnd as End};
 ghost use Rattle.answer_core.specs.Status.{IsFault};
 ghost use Rattle.command_tool.specs.ScriptRun.{IsScriptRun, IsScriptFront, script_status};
 
-use answer_core::answer::{ACCEPTED, REFUSED};
 use crate::run_explanation::explained_script;
+use answer_core::answer::{ACCEPTED, REFUSED};
 use answer_core::explanation::Telling;
 use answer_core::failure::ToolFailure;
 use check_core::head::read_head;

@@ -1,11 +1,11 @@
 //! Which fault of a source with holds is told: the first from the left.
 
+use crate::fault::DeclFault;
+use crate::read::read_objects;
 use crate::rules::rules;
 use crate::sections::{begin_of, behind_object, rules_at};
 use crate::words::{HoldKeyword, begins_word};
 use decl_core::object::Object;
-use crate::fault::DeclFault;
-use crate::read::read_objects;
 use path_tree::name::Name;
 use path_tree::token::{Symbol, Token, TokenKind, is_same_symbol};
 use std::alloc::{AllocError, Global};

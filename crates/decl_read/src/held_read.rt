@@ -15,12 +15,12 @@ ghost use Rattle.decl_read.specs.declared.held_read.Held.{Held};
 ghost use Rattle.decl_read.specs.declared.held_read.Look.TheVariants.{Held as TheHeld, Plain};
 
 use crate::cut::cut_of;
+use crate::fault::DeclFault;
 use crate::faults::first_fault;
+use crate::read::read_objects;
 use crate::rules::all_rules;
 use decl_core::hold::Rules;
 use decl_core::object::Object;
-use crate::fault::DeclFault;
-use crate::read::read_objects;
 use indexmap::IndexMap;
 use path_tree::lex::fault::LexFault;
 use path_tree::lex::lex;

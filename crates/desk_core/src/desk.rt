@@ -15,14 +15,14 @@ ghost use Rattle.desk_core.specs.Told.{lines_told};
 ghost use Rattle.board_core.specs.Answers.{IsGone, IsTaken, IsRefused, Cancels, Collects, Finishes, IsStranger};
 ghost use Rattle.board_core.specs.Answers.{receipt_by, waits_in, runs_in, runs_by};
 
+use crate::roster::{MOST_SESSIONS, Roster};
 use board_core::answer::{Collected, EarlierCall, Finished, Keyed, Stranger};
-use page_core::call::Call;
-use page_core::entry::Entry;
 use board_core::event::TraceEvent;
 use board_core::receipt::Receipt;
-use crate::roster::{MOST_SESSIONS, Roster};
 use decl_core::analyse::Accepted;
 use guest_core::answer::{Cancelled, KeyedFault, SubmitFault};
+use page_core::call::Call;
+use page_core::entry::Entry;
 use page_core::outcome::Outcome;
 use page_core::pins::Pins;
 use std::alloc::{AllocError, Global};

@@ -10,11 +10,11 @@ ghost use Rattle.board_core.specs.Board.{bodies};
 ghost use Rattle.board_core.specs.Outcomes.{IsOf};
 ghost use Rattle.board_core.specs.Answers.{HasName, IsNamedAt};
 
-use page_core::call::Call;
-use queue_core::open_call::{Running, Waiting};
 use decl_core::object::{Object, Operation};
 use decl_core::same::same_declaration;
+use page_core::call::Call;
 use page_core::outcome::Outcome;
+use queue_core::open_call::{Running, Waiting};
 use value_core::datum::Datum;
 
 // Whether an operation has this name.

@@ -14,11 +14,11 @@ ghost use Rattle.board_core.specs.Board.{call_at};
 ghost use Rattle.board_core.specs.Sound.{IsSound};
 ghost use Rattle.desk_core.specs.Held.{TellsDatum, CanBeTold};
 
-use page_core::call::Call;
 use crate::desk::Desk;
-use page_core::entry::Entry;
 use apply_core::reply::Reply;
 use apply_core::slim::Slims;
+use page_core::call::Call;
+use page_core::entry::Entry;
 use word_core::names::object_has_names;
 
 // What was replied is a datum, where it is one that a function replied.

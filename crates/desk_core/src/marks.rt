@@ -5,8 +5,8 @@ ghost use Rattle.board_core.specs.declared.event.TraceEvent.TheVariants.{End as 
 ghost use Rattle.desk_core.specs.declared.marks.Mark.TheVariants.{Start, End};
 ghost use Rattle.desk_core.specs.Kept.{IsMarkIn, event_of as told_by};
 
-use page_core::entry::Entry;
 use board_core::event::TraceEvent;
+use page_core::entry::Entry;
 
 /// What happened to a call.
 #[derive(Clone, Copy, Debug, PartialEq, Eq)]

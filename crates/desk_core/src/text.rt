@@ -10,11 +10,11 @@ ghost use Rattle.word_core.specs.Text.{event_words, lines_of};
 ghost use Rattle.desk_core.specs.Kept.{IsMarkIn, events_of, event_of as event_told};
 ghost use Rattle.desk_core.specs.Told.{line_told};
 
+use crate::marks::{Mark, event_of};
+use board_core::event::TraceEvent;
+use decl_core::object::Object;
 use page_core::call::Call;
 use page_core::entry::Entry;
-use board_core::event::TraceEvent;
-use crate::marks::{Mark, event_of};
-use decl_core::object::Object;
 use std::alloc::{AllocError, Global};
 use std::sync::Arc;
 use word_core::event::{push_end, push_start};

@@ -4,8 +4,8 @@ ghost use Rattle.std.specs.Prelude.{◌≡◌, ◌↔◌, ◌<◌, ◌≤◌, �
 ghost use Rattle.office_core.specs.Receipts.{HaveSlips};
 ghost use Rattle.keep_core.specs.Marks.{mark_at, marked};
 
-use page_core::entry::Entry;
 use office_core::slip::Slip;
+use page_core::entry::Entry;
 use std::alloc::{AllocError, Global};
 use std::marker::Model;
 

@@ -1,13 +1,13 @@
 //! An object of a source.
 
 use crate::op_set::{OpSet, no_ops};
-use decl_core::object::Object;
 use crate::page::Page;
 use crate::span::{Span, span_of};
 use crate::tokens::{
     count_to, find_name, first_tokens, from_symbol, is_symbol, name_of as word_of, section,
     tokens_from,
 };
+use decl_core::object::Object;
 use path_tree::node::OpId;
 use path_tree::token::{Symbol, Token, TokenKind};
 use std::alloc::Global;

@@ -1,13 +1,13 @@
 //! A change of a source, tried.
 
 use crate::case::{Case, count_of, op_of};
+use crate::fault::is_want_of_memory;
+use crate::page::push_new_line;
 use crate::remark::{Allocated, Phrase, Remark, Words, push_found, text_of, with_one};
+use crate::span::{Span, behind, front};
 use decl_core::analyse::{ObjectRefusal, analyse};
 use decl_core::object::Object;
 use decl_read::read::read_objects;
-use crate::fault::is_want_of_memory;
-use crate::page::push_new_line;
-use crate::span::{Span, behind, front};
 use path_tree::node::OpId;
 use std::alloc::{AllocError, Global};
 use stuck_core::found::{Finding, Findings};

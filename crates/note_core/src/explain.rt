@@ -1,6 +1,8 @@
 //! The explanation of a source, and the reading of one for what is asked of it.
 
 use crate::case::{Case, case_of, op_of};
+use crate::fault::{is_want_of_memory, push_fault};
+use crate::page::Page;
 use crate::proposal::push_proposal;
 use crate::refusal::{Conflict, push_conflict};
 use crate::remark::Allocated;
@@ -9,8 +11,6 @@ use decl_core::analyse::{ObjectRefusal, analyse};
 use decl_core::object::Object;
 use decl_read::fault::DeclFault;
 use decl_read::read::read_objects;
-use crate::fault::{is_want_of_memory, push_fault};
-use crate::page::Page;
 use path_tree::lex::lex;
 use std::alloc::{AllocError, Global};
 

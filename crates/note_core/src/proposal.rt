@@ -5,9 +5,9 @@ use crate::change::{Rewrite, Trial, push_tried};
 use crate::op_set::{MOST_OPERATIONS, OpSet, no_ops};
 use crate::refusal::{Conflict, NO_ROOM, said_of};
 use crate::remark::{Allocated, Joint, Phrase, Words, push_hint, with_one};
+use crate::span::Span;
 use decl_core::exclude_footprint::footprint;
 use decl_core::object::Object;
-use crate::span::Span;
 use path_tree::token::Token;
 
 // Those of the chosen operations that change a part, or those that change none, in order of declaration.

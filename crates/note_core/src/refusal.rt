@@ -3,8 +3,8 @@
 use crate::around::{Around, why_in};
 use crate::case::{Case, name_of, path_tokens};
 use crate::remark::{Allocated, Phrase, Remark, Words, at_token, push_found, push_hint};
-use crate::touch::touch_of;
 use crate::tokens::{find_name, section};
+use crate::touch::touch_of;
 use path_tree::node::OpId;
 use path_tree::token::{Symbol, Token};
 

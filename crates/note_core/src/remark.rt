@@ -1,13 +1,13 @@
 //! What is found of a source, and the one function that writes it.
 
 use crate::case::{Case, name_of};
-use crate::op_set::OpSet;
-use decl_core::object::Object;
-use itoa::Buffer;
 use crate::finding::two;
+use crate::op_set::OpSet;
 use crate::page::{push_help, push_note};
 use crate::span::{Span, span_of};
 use crate::tokens::tokens_from;
+use decl_core::object::Object;
+use itoa::Buffer;
 use path_tree::node::OpId;
 use path_tree::token::Token;
 use std::alloc::AllocError;

@@ -2,10 +2,10 @@
 
 use crate::case::{Case, all_ops, limit_at, paths_of};
 use crate::remark::{Allocated, Joint, Phrase, Words, push_hint, push_phrase, with_one};
-use crate::stuck_explain::Loss;
-use decl_core::object::Object;
 use crate::span::{span_of, text_at};
+use crate::stuck_explain::Loss;
 use crate::tokens::{ends, first_tokens, is_any_name, tokens_from};
+use decl_core::object::Object;
 use path_tree::node::OpId;
 use path_tree::token::{Symbol, Token, TokenKind};
 

@@ -10,8 +10,8 @@ ghost use Rattle.office_core.specs.Closing.{Misses, place_told};
 use crate::seat::Submitted;
 use crate::slip::Slip;
 use decl_core::same::same_declaration;
-use page_core::call::Call;
 use desk_core::desk::Desk;
+use page_core::call::Call;
 use page_core::entry::Entry;
 
 // Whether an accepted call has the operation and the arguments of a submission.

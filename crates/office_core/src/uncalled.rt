@@ -24,9 +24,10 @@ use crate::seat::{CompleteFault, NotTaken, Submitted, Tried};
 use crate::slip::Slip;
 use apply_core::reply::Reply;
 use board_core::answer::EarlierCall;
-use page_core::entry::Entry;
 use board_core::receipt::Receipt;
+use board_core::uncalled::is_entry_of;
 use guest_core::answer::{KeyedFault, SubmitFault};
+use page_core::entry::Entry;
 use page_core::outcome::Outcome;
 use std::sync::Wait;
 use value_core::datum::Datum;
@@ -62,7 +63,7 @@ fn stands(history: &[Entry], receipt: &Receipt) -> bool
     }
     match history.get(receipt.place - 1) {
         None => false,
-        Some(entry) => entry.is_entry_of(&receipt.noted),
+        Some(entry) => is_entry_of(entry, &receipt.noted),
     }
 }
 

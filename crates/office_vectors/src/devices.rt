@@ -2,8 +2,8 @@
 //! while one is run by steps.
 
 use crate::make::{accepted, pins_of};
-use decl_core::object::Object;
 use board_core::answer::Collected;
+use decl_core::object::Object;
 use desk_core::desk::Desk;
 use device_core::hand::{Hand, Stamp};
 use device_core::mem_shelf::MemShelf;

@@ -6,11 +6,11 @@ ghost use Rattle.page_core.specs.Outcomes.{if_done};
 ghost use Rattle.page_core.specs.ObjectCalls.{noted_of};
 
 use crate::call::Call;
+use crate::part_pins::PartPins;
 use apply_core::reply::Reply;
 use apply_core::short::Short;
 use apply_core::slim::Slims;
 use decl_core::object::Operation;
-use crate::part_pins::PartPins;
 use std::marker::Model;
 use std::sync::Arc;
 

@@ -9,8 +9,6 @@ ghost use Rattle.page_core.specs.Tickets.{ticket_call};
 ghost use Rattle.page_core.specs.Outcomes.{if_done};
 ghost use Rattle.page_core.specs.ObjectCalls.{noted_of, read_pins};
 
-use page_core::call::Call;
-use page_core::entry::Entry;
 use apply_core::reply::Reply;
 use apply_core::short::Short;
 use apply_core::slim::Slims;
@@ -18,6 +16,8 @@ use decl_core::footprint::{is_in, reads};
 use decl_core::id::MOST_PARTS;
 use decl_core::object::Operation;
 use device_core::hand::Stamp;
+use page_core::call::Call;
+use page_core::entry::Entry;
 use page_core::page_list::PageList;
 use page_core::part_pins::PartPins;
 use page_core::pins::Pins;

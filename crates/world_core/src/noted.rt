@@ -10,11 +10,11 @@ ghost use Rattle.world_core.specs.HoldDoes.{AreNoted, IsNoted};
 
 use crate::world::World;
 use apply_core::reply::Reply;
-use decl_core::hold::Hold;
-use page_core::call::Call;
-use desk_core::desk::Desk;
 use board_core::event::TraceEvent;
+use decl_core::hold::Hold;
+use desk_core::desk::Desk;
 use guest_core::held::{EndedCall, Holds};
+use page_core::call::Call;
 use std::alloc::{AllocError, Global};
 
 // A call of this number has ended with this reply.

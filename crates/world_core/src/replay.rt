@@ -7,9 +7,9 @@ ghost use Rattle.board_core.specs.Board.{call_at, operation_place};
 ghost use Rattle.board_core.specs.Sound.{IsSound};
 ghost use Rattle.world_core.specs.Counted.{StandsAfter, HasCounted};
 
+use board_core::event::TraceEvent;
 use decl_core::object::Object;
 use desk_core::desk::Desk;
-use board_core::event::TraceEvent;
 use path_count::counters::{Counters, compile};
 use path_tree::node::OpId;
 use std::alloc::{AllocError, Global};

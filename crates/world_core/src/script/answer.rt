@@ -17,10 +17,10 @@ ghost use Rattle.world_core.specs.Does.{event_lines, has_gone, next_number, repe
 use crate::event::{Event, EventAnswer, EventRefusal, WorldAnswer};
 use crate::script::steps::step_to_end;
 use crate::world::World;
-use decl_core::object::Object;
 use board_core::answer::{CallState, EarlierCall};
-use desk_core::desk::Desk;
 use board_core::event::TraceEvent;
+use decl_core::object::Object;
+use desk_core::desk::Desk;
 use guest_core::answer::{Cancelled, KeyedFault, SubmitFault};
 use run_core::step::StepAnswer;
 use std::alloc::{AllocError, Global};
