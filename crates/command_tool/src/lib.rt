@@ -1,8 +1,15 @@
 //! The subcommands that know no kept object: `paths`, `check`, `run`, `try`, `audit` and `serve`, over files and streams.
 //!
-//! `answer_core` says what the first five answer over any reader and writer. What stands here opens their files, hands
-//! them the streams, and tells what is lacking (`paths`, `check`, `script`, `attempt`, `audit`). `holds` has the answers
-//! of `check` and `run` where the objects of a source have holds.
+//! What `paths` and `check` answer over any reader and writer `answer_core` says; `script_answer`, `try_answer` and
+//! `audit_answer` say it of `run`, `try` and `audit`, `run_explanation` what they tell of why something is refused, and
+//! `laws` what follows from the definitions alone. What else stands here opens their files, hands them the streams, and
+//! tells what is lacking (`paths`, `check`, `script`, `attempt`, `audit`). `holds` has the answers of `check` and `run`
+//! where the objects of a source have holds.
+//!
+//! `folder_audit` audits a folder of kept objects: for each object its epochs, the oldest one first. The epoch that
+//! goes on is `NAME.journal`; ended ones are `NAME.NNNNNN.trace`, with the number of the epoch in six digits at least.
+//! `files` reads them, and `recover_core` says whether each may follow the one before it. No clause can say what a
+//! folder holds; that texts are told as whole only where they can be such epochs is proved.
 //!
 //! Of `pathserve serve` `start` takes what a server needs, before any thread is started: it tells what is lacking, and
 //! refuses the folder of a server that stays (`kept`). `gates` has the gate where clients connect. `serve` serves over

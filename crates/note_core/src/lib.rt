@@ -1,4 +1,5 @@
-//! Notes on a text: what they are made of, and those that tell why a source is not taken.
+//! Notes on a text: what they are made of, and those that tell why a source is not taken, or an object of it is refused,
+//! loses an operation, or gets stuck.
 //!
 //! `place::place_of` says what line and column are. `tokens` are the words of a source with their places, `name` what a
 //! name in it was declared as, and `alike` which names are almost the same. `page` adds the line of a text, with a
@@ -12,6 +13,13 @@
 //! holds that are not taken `rules::explain_held` tells it, and `pairs::explain_pairs` that for each `a; b` that could be
 //! held and is not. What is said stands in tables (`misplaced`, `names`, `paths`, `signs`, `rules`): a row has tests of
 //! the tokens around the fault (`seen`), a sentence and what helps, and the first row that fits is said (`rows`).
+//!
+//! `explain::explain` gives the text for the fault of a source, and for each object that is refused: where it stands, what
+//! is wrong in a sentence, the line of the source with a caret under the place, and what would help. `stuck_explain` gives
+//! it for each accepted object that loses an operation: after which calls that is, where in the paths each lost
+//! operation waits then and for whose end, the lines with which `pathserve paths` shows it, and small changes that
+//! would do. A path that is proposed was put into the source, and the source was read, analysed and, for what is lost,
+//! searched again: with it the object is accepted, or every operation of it kept.
 //!
 //! That the texts are safe to make, and end, is proved, and `place_of` is exact; what notes say is tested by the cases
 //! of `cases/check`, `cases/run` and `cases/audit`.

@@ -1,5 +1,4 @@
-//! Parts as lists of pages, from a shelf to the files of a hand and back; the value files of a folder; and what a call
-//! is, without how it is run.
+//! Parts as lists of pages, from a shelf to the files of a hand and back; and what a call is, without how it is run.
 //!
 //! The bytes of a part are cut into at most 8 pages, each in a file of its own. A `PageList` names the files of one
 //! part, `Pins` those of each part of an object, and `PartPins` those of the parts that a call reads or changes, in
@@ -11,13 +10,9 @@
 //! format, into files of a hand; `save_parts` stores the bytes of the pages that published pins name.
 //! `specs/Opened.antt` and `specs/Saved.antt` say what of that is done where a device fails.
 //!
-//! `folder` says which files of a folder are value files, and with which number a run begins; `found` has the numbers
-//! that an earlier run left. `values` is what is asked of these files: which are there, and that one is removed or
-//! moved. `clear` moves away those that an earlier run left, and removes those of a run that has ended;
-//! `specs/Deeds.antt` says what each asks, and so that it asks nothing else.
-//!
-//! A `Ticket` says which operation was called, with which arguments, over which pins. An `Outcome` tells how its run
-//! ended: its reply, the new page lists, and the files that nobody needs. Who shares an object needs no more of a call.
+//! A `Call` is one that was accepted: whose it is, of which operation, with which arguments. A `Ticket` says over which
+//! pins it runs. An `Outcome` tells how its run ended: its reply, the new page lists, and the files that nobody needs. An
+//! `Entry` is what a history has of it. Who shares an object needs no more of a call.
 //! `specs/CallPins.antt` says what a call is, `specs/Given.antt` what a body gives on bytes, and `specs/Truths.antt` when
 //! an outcome is true.
 #![tactic(auto)]

@@ -4,6 +4,11 @@
 //! own, and then closes each object, saves its parts and writes its trace. It does so by a `Host`, whose verbs are
 //! `open`, `listen`, `serve` and `close`. What a connection says and hears is `session_core`'s; what becomes of one object,
 //! from its start to its end, `keep_core`'s.
+//!
+//! `folder` says which files of a folder are value files, and with which number a run begins; `found` has the numbers
+//! that an earlier run left. `values` is what is asked of these files: which are there, and that one is removed or
+//! moved. `clear` moves away those that an earlier run left, and removes those of a run that has ended;
+//! `specs/Deeds.antt` says what each asks, and so that it asks nothing else.
 #![tactic(auto)]
 
 pub mod backed;
