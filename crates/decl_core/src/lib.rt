@@ -2,7 +2,7 @@
 //! writes, and which objects are accepted.
 //!
 //! `object`, `hold`, `stmt`, `expr` and `kinds` are what an object declares. What the words of its holds
-//! (`hold::Rules`) mean is in `guest_core`, how they are read in `hold_read`; nothing of an object's operations, paths
+//! (`hold::Rules`) mean is in `guest_core`, how they are read in `decl_read`; nothing of an object's operations, paths
 //! or parts knows of them.
 //!
 //! `footprint` tells the parts that an operation reads and writes, `analyse` whether every pair of operations that
