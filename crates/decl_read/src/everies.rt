@@ -98,7 +98,7 @@ fn is_bare(operations: &[Arc<Operation>], op: OpId) -> bool
 }
 
 /// What is called again and again, behind what was before.
-#[tactic(auto, unfolding(hold_read::specs::HoldReading::every_in))]
+#[tactic(auto, unfolding(crate::specs::HoldReading::every_in))]
 fn every<'t>(
     operations: &[Arc<Operation>],
     holds: &[Hold],

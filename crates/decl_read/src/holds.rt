@@ -62,7 +62,7 @@ fn number_of(operations: &[Arc<Operation>], text: &[u8]) -> Option<OpId>
 }
 
 /// An operation that has to be named here, and the tokens behind it.
-#[tactic(auto, unfolding(hold_read::specs::HoldReading::operation_at))]
+#[tactic(auto, unfolding(crate::specs::HoldReading::operation_at))]
 pub(crate) fn operation<'t>(
     operations: &[Arc<Operation>],
     tokens: &'t [Token],
@@ -184,7 +184,7 @@ fn is_taken(holds: &[Hold], op: OpId, before: &[OpId], undo: OpId) -> bool
 }
 
 /// An operation that ends a hold, behind those before.
-#[tactic(auto, unfolding(hold_read::specs::HoldReading::undo_in))]
+#[tactic(auto, unfolding(crate::specs::HoldReading::undo_in))]
 fn undo<'t>(
     operations: &[Arc<Operation>],
     holds: &[Hold],
@@ -209,7 +209,7 @@ fn undo<'t>(
 }
 
 /// A comma and an operation that ends a hold, behind those before.
-#[tactic(auto, unfolding(hold_read::specs::HoldReading::next_undo_in))]
+#[tactic(auto, unfolding(crate::specs::HoldReading::next_undo_in))]
 fn next_undo<'t>(
     operations: &[Arc<Operation>],
     holds: &[Hold],
@@ -250,7 +250,7 @@ fn more_undos<'t>(
 }
 
 /// The operations that end a hold.
-#[tactic(auto, unfolding(hold_read::specs::HoldReading::undos_in))]
+#[tactic(auto, unfolding(crate::specs::HoldReading::undos_in))]
 fn undos<'t>(
     alloc: Global,
     operations: &[Arc<Operation>],
@@ -268,7 +268,7 @@ fn undos<'t>(
 }
 
 /// Whether anybody may end a hold: where `by any` stands.
-#[tactic(auto, unfolding(hold_read::specs::HoldReading::loose_in, hold_read::specs::HoldReading::loose_by))]
+#[tactic(auto, unfolding(crate::specs::HoldReading::loose_in, crate::specs::HoldReading::loose_by))]
 fn loose<'t>(tokens: &'t [Token]) -> TextRead<'t, bool>
     ensures { Gives (λ x. (x.0, lexemes x.1.now)) result (loose_in (lexemes tokens.now)) }
 {
@@ -282,7 +282,7 @@ fn loose<'t>(tokens: &'t [Token]) -> TextRead<'t, bool>
 }
 
 /// A hold, behind those before.
-#[tactic(auto, unfolding(hold_read::specs::HoldReading::hold_in))]
+#[tactic(auto, unfolding(crate::specs::HoldReading::hold_in))]
 fn hold<'t>(
     alloc: Global,
     operations: &[Arc<Operation>],

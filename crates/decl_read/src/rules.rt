@@ -52,7 +52,7 @@ fn ends_object(tokens: &[Token]) -> bool
 }
 
 /// The holds of an object of these operations, and what it calls again and again, up to its end.
-#[tactic(auto, unfolding(hold_read::specs::HoldReading::rules_in))]
+#[tactic(auto, unfolding(crate::specs::HoldReading::rules_in))]
 pub(crate) fn rules(
     alloc: Global,
     operations: &[Arc<Operation>],
@@ -89,7 +89,7 @@ fn ruled(alloc: Global, object: &Object, tokens: &[Token]) -> Result<Rules, Text
 }
 
 /// What each of these objects says of them, behind what those before said.
-#[tactic(auto, unfolding(hold_read::specs::HeldSources::all_rules_in))]
+#[tactic(auto, unfolding(crate::specs::HeldSources::all_rules_in))]
 pub(crate) fn all_rules(
     alloc: Global,
     so_far: Vec<Rules>,
