@@ -14,13 +14,13 @@ from gate.tried import TOP, new_folder
 
 USES = (
     "value_core decl_core decl_read device_core page_core apply_core "
-    "run_core word_core guest_core desk_core"
+    "run_core word_core guest_core board_core desk_core"
 )
 MAIN = r'''//! Times of a desk, and the memory that it takes.
 #![tactic(auto)]
 
 use decl_read::read::read_objects;
-use desk_core::answer::Collected;
+use board_core::answer::Collected;
 use guest_core::answer::Cancelled;
 use desk_core::desk::Desk;
 use decl_core::analyse::{Accepted, analyse};

@@ -16,12 +16,12 @@ from gate.tried import TOP, new_folder
 
 USES = (
     "path_tree value_core decl_core decl_read device_core page_core apply_core "
-    "run_core desk_core office_core"
+    "run_core board_core desk_core office_core"
 )
 MAIN = r'''//! Times of an office.
 #![tactic(auto)]
 
-use desk_core::receipt::Receipt;
+use board_core::receipt::Receipt;
 use decl_read::read::read_objects;
 use decl_core::analyse::{Accepted, analyse};
 use office_core::office::Office;
