@@ -1,13 +1,13 @@
 //! Lines that are none of a trace, or have no place where they stand.
 
 use crate::called::{misfit_of, operation_named, unknown};
-use crate::finding::{Both, Diagnostic, NO_PIECE, Piece};
 use crate::reply::{call_of, of_call, of_number};
 use crate::rules::{
     DATA, FORM, FirstWords, NOTHING, NUMBER, SESSION, Want, WordRule, WordRules, told_of, wrong_in,
 };
 use crate::story::{FaultyLine, value_of};
 use decl_core::object::{Operation, Part};
+use note_core::diagnostic::{Both, Diagnostic, NO_PIECE, Piece};
 use note_core::line_words::LineWords;
 use note_core::said::{Message, say};
 use note_core::span::Span;

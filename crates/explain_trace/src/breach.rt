@@ -1,10 +1,10 @@
 //! Starts that a path does not let.
 
 use crate::called::operation_named;
-use crate::finding::{Diagnostic, NO_PIECE, Piece, push};
 use crate::reply::of_call;
 use crate::story::{FaultyLine, SeenCall, Story};
 use decl_core::object::Operation;
+use note_core::diagnostic::{Diagnostic, NO_PIECE, Piece, push};
 use note_core::page::Page;
 use note_core::said::say;
 use note_core::span::Span;

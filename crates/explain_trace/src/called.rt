@@ -1,10 +1,10 @@
 //! Calls that an object does not take: of an operation that it has not, or with other arguments.
 
-use crate::finding::{Both, Diagnostic, Piece};
 use crate::forms::verb_of;
 use crate::rules::Want;
 use decl_core::object::{Object, Operation};
 use note_core::alike::are_alike;
+use note_core::diagnostic::{Both, Diagnostic, Piece};
 use note_core::line_words::LineWords;
 use note_core::said::say;
 use note_core::span::text_at;
@@ -34,7 +34,7 @@ pub(crate) fn unknown<'a>(
     let span = words.span(number);
     let said = say("there is no operation `%` in object `$`", help);
     let name = Piece::Bytes(object.name.as_bytes());
-    let found = Diagnostic::there(words, span, said).with(name, Piece::Names(object));
+    let found = Diagnostic::there(words, span, said).with(name, Piece::Operations(object));
     for operation in &object.operations {
         let other = operation.name.as_bytes();
         if are_alike(other, text_at(words.text, span)) {

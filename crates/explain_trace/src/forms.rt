@@ -1,12 +1,12 @@
 //! Lines of scripts: what is wrong with one that says nothing.
 
 use crate::called::operation_named;
-use crate::finding::{Both, Diagnostic, NO_PIECE, Piece};
 use crate::rules::{
     DATA, FORM, FirstWords, NOTHING, NUMBER, SESSION, Want, WordRule, WordRules, told_of, wrong_in,
 };
 use decl_core::object::Object;
 use note_core::alike::are_alike;
+use note_core::diagnostic::{Both, Diagnostic, NO_PIECE, Piece};
 use note_core::line_words::LineWords;
 use note_core::said::{Message, say};
 use value_core::words::is_same_word;

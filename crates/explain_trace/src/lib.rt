@@ -13,7 +13,6 @@
 mod bad;
 mod breach;
 mod called;
-mod finding;
 mod forms;
 pub mod listed;
 pub mod prompt;

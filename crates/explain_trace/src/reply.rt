@@ -1,9 +1,9 @@
 //! Ends that tell another reply than the object gives, and ends of calls that do not run.
 
-use crate::finding::{Both, Diagnostic, NO_PIECE, Piece, push, push_both};
 use crate::story::{FaultyLine, SeenCall, call_number, reply_to};
 use decl_core::footprint::{is_in, reads};
 use decl_core::id::MOST_PARTS;
+use note_core::diagnostic::{Both, Diagnostic, NO_PIECE, Piece, push, push_both};
 use note_core::line_words::LineWords;
 use note_core::place::place_of;
 use note_core::said::say;

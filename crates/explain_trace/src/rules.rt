@@ -1,6 +1,6 @@
 //! What the words of lines have to be, and what is said where one is something else.
 
-use crate::finding::{Diagnostic, NO_PIECE, Piece};
+use note_core::diagnostic::{Diagnostic, NO_PIECE, Piece};
 use note_core::finding::first_other;
 use note_core::line_words::LineWords;
 use note_core::said::{Message, say};

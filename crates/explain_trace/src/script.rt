@@ -1,12 +1,12 @@
 //! The line that ended a script, and the calls before it that its object does not take.
 
 use crate::called::wrong_call;
-use crate::finding::{Both, push_both};
 use crate::forms::wrong_in_line;
 use crate::trace::push_verdict;
 use check_core::head::named_object;
 use check_core::open::{OpenedScript, open_script};
 use decl_core::object::Object;
+use note_core::diagnostic::{Both, push_both};
 use note_core::files::Files;
 use note_core::lacking::{push_lacking, push_unnamed};
 use note_core::line_words::words_at;

@@ -2,13 +2,13 @@
 
 use crate::bad::bad_line;
 use crate::breach::push_breach;
-use crate::finding::push_both;
 use crate::reply::{not_running, push_wrong_reply};
 use crate::script::{explained, line_at};
 use crate::story::{FaultyLine, story_before};
 use audit_core::audit::audit;
 use audit_core::verdict::AuditVerdict;
 use decl_core::analyse::Accepted;
+use note_core::diagnostic::push_both;
 use note_core::files::Files;
 use note_core::line_words::words_at;
 use note_core::page::Page;

@@ -1,9 +1,9 @@
 //! A change of a source, tried.
 
 use crate::case::{Case, count_of, op_of};
+use crate::diagnostic::{Allocated, Diagnostic, Piece, push_found, text_of, with_one};
 use crate::fault::is_want_of_memory;
 use crate::page::push_new_line;
-use crate::remark::{Allocated, Phrase, Remark, Words, push_found, text_of, with_one};
 use crate::span::{Span, behind, front};
 use decl_core::analyse::{ObjectRefusal, analyse};
 use decl_core::object::Object;
@@ -21,7 +21,7 @@ const MOST_STATES: usize = 4_096;
 pub(crate) struct Rewrite<'a> {
     pub span: Span,
     /// The text; a line of its own begins with a line feed.
-    pub text: Phrase<'a>,
+    pub text: Diagnostic<'a>,
     /// What is said of it where it does; for `%` stands the text.
     pub sentence: &'static str,
 }
@@ -112,11 +112,11 @@ fn push_change(
     change: Rewrite<'_>,
     text: &[u8],
 ) -> Allocated<()> {
-    let remark = Remark {
+    let found = Diagnostic {
         place: Some(change.span),
-        said: with_one(change.sentence, Words::Text(text)),
+        ..with_one(change.sentence, Piece::Bytes(text))
     };
-    push_found(out, case, Some(remark))?;
+    push_found(out, case, Some(found))?;
     match text {
         [b'\n', ..] => push_new_line(out, text.trim_ascii()),
         _ => Ok(()),

@@ -1,11 +1,11 @@
 //! The explanation of a source, and the reading of one for what is asked of it.
 
 use crate::case::{Case, case_of, op_of};
+use crate::diagnostic::Allocated;
 use crate::fault::{is_want_of_memory, push_fault};
 use crate::page::Page;
 use crate::proposal::push_proposal;
 use crate::refusal::{Conflict, push_conflict};
-use crate::remark::Allocated;
 use crate::stuck_explain::push_losses;
 use decl_core::analyse::{ObjectRefusal, analyse};
 use decl_core::object::Object;

@@ -9,6 +9,9 @@
 //! shows one of them, and `lacking` what is said of an object that the file lacks. `kept` keeps a text while it is read, and
 //! `files` names the two texts of a run.
 //!
+//! What is found of a text is data (`diagnostic`): a place, a sentence, what helps, and what stands for the signs in both.
+//! One function writes it, whoever finds it.
+//!
 //! `fault::push_fault` tells where the fault of a source stands, what is wrong in a sentence, and what would help. Of
 //! holds that are not taken `rules::explain_held` tells it, and `pairs::explain_pairs` that for each `a; b` that could be
 //! held and is not. What is said stands in tables (`misplaced`, `names`, `paths`, `signs`, `rules`): a row has tests of
@@ -29,6 +32,7 @@ pub mod alike;
 mod around;
 mod case;
 mod change;
+pub mod diagnostic;
 pub mod explain;
 pub mod fault;
 pub mod files;
@@ -47,7 +51,6 @@ mod paths;
 pub mod place;
 mod proposal;
 mod refusal;
-mod remark;
 mod rows;
 pub mod rules;
 pub mod said;

@@ -7,7 +7,7 @@ pub(crate) const MOST_OPERATIONS: usize = 32;
 
 /// Operations of an object, each once, in the order in which they came.
 #[derive(Clone, Copy)]
-pub(crate) struct OpSet {
+pub struct OpSet {
     row: [OpId; MOST_OPERATIONS],
     count: usize,
 }

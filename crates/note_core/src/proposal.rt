@@ -2,9 +2,9 @@
 
 use crate::case::{count_of, front_tokens};
 use crate::change::{Rewrite, Trial, push_tried};
+use crate::diagnostic::{Allocated, Diagnostic, Joint, Piece, push_found, with_one};
 use crate::op_set::{MOST_OPERATIONS, OpSet, no_ops};
 use crate::refusal::{Conflict, NO_ROOM, said_of};
-use crate::remark::{Allocated, Joint, Phrase, Words, push_hint, with_one};
 use crate::span::Span;
 use decl_core::exclude_footprint::footprint;
 use decl_core::object::Object;
@@ -24,7 +24,7 @@ fn chosen_of(object: &Object, chosen: OpSet, writes: bool) -> OpSet {
 }
 
 // A path that lets one of the chosen operations run at a time, but those that change nothing together.
-fn path_over<'a>(object: &Object, chosen: OpSet) -> Phrase<'a> {
+fn path_over<'a>(object: &Object, chosen: OpSet) -> Diagnostic<'a> {
     let writing = chosen_of(object, chosen, true);
     let reading = chosen_of(object, chosen, false);
     let sentence = match (writing.all().is_empty(), reading.all().is_empty()) {
@@ -32,9 +32,9 @@ fn path_over<'a>(object: &Object, chosen: OpSet) -> Phrase<'a> {
         (true, false) => "\n  path 1:([$]) end;\n",
         (false, false) => "\n  path 1:(%, [$]) end;\n",
     };
-    Phrase {
-        second: Words::Names(reading, Joint::Comma),
-        ..with_one(sentence, Words::Names(writing, Joint::Comma))
+    Diagnostic {
+        second: Piece::Names(reading, Joint::Comma),
+        ..with_one(sentence, Piece::Names(writing, Joint::Comma))
     }
 }
 
@@ -63,5 +63,5 @@ pub(crate) fn push_proposal(out: &mut Vec<u8>, conflict: Conflict<'_>) -> Alloca
             Trial::Fails => break,
         }
     }
-    push_hint(out, case, said_of(conflict, NO_ROOM))
+    push_found(out, case, Some(said_of(conflict, NO_ROOM)))
 }

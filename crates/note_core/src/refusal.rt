@@ -2,7 +2,7 @@
 
 use crate::around::{Around, why_in};
 use crate::case::{Case, name_of, path_tokens};
-use crate::remark::{Allocated, Phrase, Remark, Words, at_token, push_found, push_hint};
+use crate::diagnostic::{Allocated, Diagnostic, Piece, at_token, push_found, with_one};
 use crate::tokens::{find_name, section};
 use crate::touch::touch_of;
 use path_tree::node::OpId;
@@ -67,18 +67,17 @@ pub(crate) const NO_ROOM: OneOrTwo = [
 ];
 
 /// What is said of the two, `%` and `$`, and of the part, `@`.
-pub(crate) fn said_of<'a>(conflict: Conflict<'a>, sentences: OneOrTwo) -> Phrase<'a> {
+pub(crate) fn said_of<'a>(conflict: Conflict<'a>, sentences: OneOrTwo) -> Diagnostic<'a> {
     let [one, two] = sentences;
-    Phrase {
-        sentence: if conflict.first == conflict.second {
-            one
-        } else {
-            two
-        },
-        first: Words::Name(conflict.first),
-        second: Words::Name(conflict.second),
-        third: Words::Text(conflict.part),
-    }
+    let sentence = if conflict.first == conflict.second {
+        one
+    } else {
+        two
+    };
+    with_one(sentence, Piece::Name(conflict.first)).with(
+        Piece::Name(conflict.second),
+        Piece::Bytes(conflict.part),
+    )
 }
 
 // What is said of the two, by whether each of them changes the part.
@@ -103,12 +102,12 @@ fn writes(conflict: Conflict<'_>, op: OpId) -> bool {
 }
 
 // What is said of the place where an operation touches the part.
-fn of_touch<'a>(conflict: Conflict<'a>, op: OpId) -> Option<Remark<'a>> {
+fn of_touch<'a>(conflict: Conflict<'a>, op: OpId) -> Option<Diagnostic<'a>> {
     let touch = touch_of(entry_of(conflict, op), conflict.part)?;
     let sentences = if touch.writes { CHANGES } else { READS };
-    Some(Remark {
+    Some(Diagnostic {
         place: Some(touch.span),
-        said: said_of(conflict, sentences),
+        ..said_of(conflict, sentences)
     })
 }
 
@@ -138,7 +137,7 @@ fn of_both<'a>(
     path: &[Token],
     first: usize,
     second: usize,
-) -> Option<Remark<'a>> {
+) -> Option<Diagnostic<'a>> {
     match why_in(conflict.case.tokens, path, first, second) {
         Around::Burst(number) => at_token(path, number, said_of(conflict, IN_BURST)),
         Around::Bound(number) => at_token(path, number, said_of(conflict, IN_BOUND)),
@@ -147,7 +146,7 @@ fn of_both<'a>(
 }
 
 // What the path of this number says of the two, if it names one of them.
-fn of_path<'a>(conflict: Conflict<'a>, number: usize) -> Option<Remark<'a>> {
+fn of_path<'a>(conflict: Conflict<'a>, number: usize) -> Option<Diagnostic<'a>> {
     let path = path_tokens(conflict.case.tokens, number);
     match named_in(conflict, path) {
         (Some(first), Some(second)) => of_both(conflict, path, first, second),
@@ -163,7 +162,7 @@ fn entry_of<'a>(conflict: Conflict<'a>, op: OpId) -> &'a [Token] {
 }
 
 // What is said of the object.
-fn of_object<'a>(conflict: Conflict<'a>) -> Option<Remark<'a>> {
+fn of_object<'a>(conflict: Conflict<'a>) -> Option<Diagnostic<'a>> {
     let sentence = sentence_of(
         conflict.first == conflict.second,
         writes(conflict, conflict.first),
@@ -173,7 +172,7 @@ fn of_object<'a>(conflict: Conflict<'a>) -> Option<Remark<'a>> {
 }
 
 // The remark of this number, if there is one.
-fn remark_of<'a>(conflict: Conflict<'a>, number: usize) -> Option<Remark<'a>> {
+fn remark_of<'a>(conflict: Conflict<'a>, number: usize) -> Option<Diagnostic<'a>> {
     let is_same = conflict.first == conflict.second;
     match number {
         0 => of_object(conflict),
@@ -202,5 +201,5 @@ pub(crate) fn push_conflict(out: &mut Vec<u8>, conflict: Conflict<'_>) -> Alloca
     if names_both(conflict) {
         return Ok(());
     }
-    push_hint(out, conflict.case, said_of(conflict, IN_NO_PATH))
+    push_found(out, conflict.case, Some(said_of(conflict, IN_NO_PATH)))
 }

@@ -1,7 +1,9 @@
 //! The lines with which `pathserve paths` shows what is lost.
 
 use crate::case::{Case, all_ops, limit_at, paths_of};
-use crate::remark::{Allocated, Joint, Phrase, Words, push_hint, push_phrase, with_one};
+use crate::diagnostic::{
+    Allocated, Diagnostic, Joint, NO_PIECE, Piece, push_found, push_phrase, with_one,
+};
 use crate::span::{span_of, text_at};
 use crate::stuck_explain::Loss;
 use crate::tokens::{ends, first_tokens, is_any_name, tokens_from};
@@ -30,14 +32,14 @@ fn setting_of(token: &Token, is_behind: bool) -> &'static str {
 }
 
 // The text of the token of this number of the paths: of a constant before a colon its value.
-fn text_at_token<'a>(case: Case<'a>, paths: &[Token], number: usize) -> Phrase<'a> {
+fn text_at_token<'a>(case: Case<'a>, paths: &[Token], number: usize) -> Diagnostic<'a> {
     let here = tokens_from(paths, number);
     let [token, ..] = here else {
-        return with_one("", Words::Nothing);
+        return with_one("", NO_PIECE);
     };
     let words = match limit_at(case.tokens, here) {
-        Some((_, value)) if is_any_name(token) => Words::Number(value),
-        _ => Words::Text(text_at(case.page.source, span_of(token))),
+        Some((_, value)) if is_any_name(token) => Piece::Number(value as u64),
+        _ => Piece::Bytes(text_at(case.page.source, span_of(token))),
     };
     let is_behind = ends(first_tokens(paths, number), Symbol::End);
     with_one(setting_of(token, is_behind), words)
@@ -60,7 +62,7 @@ fn push_each(
     sentence: &'static str,
 ) -> Allocated<()> {
     for op in ops {
-        push_phrase(out, object, with_one(sentence, Words::Name(*op)))?;
+        push_phrase(out, object, with_one(sentence, Piece::Name(*op)))?;
     }
     Ok(())
 }
@@ -68,7 +70,7 @@ fn push_each(
 // Adds the lines.
 fn push_lines(out: &mut Vec<u8>, loss: Loss<'_>) -> Allocated<()> {
     let object = loss.case.object;
-    let names = Words::Names(all_ops(object), Joint::Space);
+    let names = Piece::Names(all_ops(object), Joint::Space);
     push_phrase(out, object, with_one("      | ops %\n", names))?;
     push_paths(out, loss.case)?;
     push_each(
@@ -84,7 +86,7 @@ fn push_lines(out: &mut Vec<u8>, loss: Loss<'_>) -> Allocated<()> {
 pub(crate) fn push_shown(out: &mut Vec<u8>, loss: Loss<'_>) -> Allocated<()> {
     let is_few = loss.calls.len() <= MOST_SHOWN;
     let sentence = if is_few { FEW } else { MANY };
-    push_hint(out, loss.case, with_one(sentence, Words::Nothing))?;
+    push_found(out, loss.case, Some(with_one(sentence, NO_PIECE)))?;
     if is_few {
         push_lines(out, loss)
     } else {

@@ -1,9 +1,11 @@
 //! The explanation of the objects of a source that lose operations.
 
 use crate::case::{Case, all_ops, count_of};
+use crate::diagnostic::{
+    Allocated, Diagnostic, Joint, Piece, at_token, push_found, push_phrase, with_one,
+};
 use crate::explain::{Aspect, push_source};
 use crate::op_set::{OpSet, no_ops};
-use crate::remark::{Allocated, Joint, Phrase, Words, at_token, push_found, push_phrase, with_one};
 use crate::shown::push_shown;
 use crate::waiting::push_waiting;
 use crate::ways::push_ways;
@@ -21,16 +23,16 @@ pub(crate) struct Loss<'a> {
 }
 
 // So many calls of an operation, as they stand in a sentence behind others, or first.
-fn run_of<'a>(op: OpId, count: usize, is_first: bool) -> Phrase<'a> {
+fn run_of<'a>(op: OpId, count: usize, is_first: bool) -> Diagnostic<'a> {
     let sentence = match (is_first, count > 1) {
         (true, false) => "`$`",
         (true, true) => "% times `$`",
         (false, false) => ", `$`",
         (false, true) => ", % times `$`",
     };
-    Phrase {
-        second: Words::Name(op),
-        ..with_one(sentence, Words::Number(count))
+    Diagnostic {
+        second: Piece::Name(op),
+        ..with_one(sentence, Piece::Number(count as u64))
     }
 }
 
@@ -65,9 +67,9 @@ fn push_loss(out: &mut Vec<u8>, loss: Loss<'_>, is_stuck: bool) -> Allocated<()>
 // Adds what is said first of a loss.
 fn push_first(out: &mut Vec<u8>, loss: Loss<'_>, sentence: &'static str) -> Allocated<()> {
     let calls = calls_text(loss.case, loss.calls)?;
-    let said = Phrase {
-        second: Words::Names(loss.lost, Joint::And),
-        ..with_one(sentence, Words::Text(&calls))
+    let said = Diagnostic {
+        second: Piece::Names(loss.lost, Joint::And),
+        ..with_one(sentence, Piece::Bytes(&calls))
     };
     push_found(out, loss.case, at_token(loss.case.tokens, 1, said))
 }

@@ -1,8 +1,8 @@
 //! Where the operations that are lost wait.
 
 use crate::case::{count_of, name_of, path_tokens};
+use crate::diagnostic::{Allocated, Diagnostic, Joint, Piece, at_token, push_found, with_one};
 use crate::op_set::{OpSet, no_ops};
-use crate::remark::{Allocated, Joint, Phrase, Remark, Words, at_token, push_found, with_one};
 use crate::stuck_explain::Loss;
 use crate::tokens::find_name;
 use path_count::counters::compile;
@@ -57,15 +57,15 @@ fn of_wait<'a>(
     op: OpId,
     ops: OpSet,
     needs: OpSet,
-) -> Option<Remark<'a>> {
+) -> Option<Diagnostic<'a>> {
     let sentence = match ops.all() {
         [first] if *first == op => "here `%` waits for an end of `$`",
         [first, ..] if *first == op => "here `%` wait for an end of `$`",
         _ => return None,
     };
-    let said = Phrase {
-        second: Words::Names(needs, Joint::Or),
-        ..with_one(sentence, Words::Names(ops, Joint::And))
+    let said = Diagnostic {
+        second: Piece::Names(needs, Joint::Or),
+        ..with_one(sentence, Piece::Names(ops, Joint::And))
     };
     let path = path_tokens(loss.case.tokens, number);
     at_token(path, find_name(path, name_of(loss.case.object, op))?, said)

@@ -2,9 +2,9 @@
 
 use crate::case::{Case, count_of, limit_at, paths_of};
 use crate::change::{Rewrite, Trial, push_tried};
+use crate::diagnostic::{Allocated, Diagnostic, Joint, NO_PIECE, Piece, push_found, with_one};
 use crate::op_set::{OpSet, no_ops};
 use crate::proposal::place_for_path;
-use crate::remark::{Allocated, Joint, Phrase, Words, push_hint, with_one};
 use crate::span::{Span, span_of, text_at};
 use crate::stuck_explain::Loss;
 use crate::tokens::{begins, is_any_name, is_symbol, tokens_from};
@@ -37,7 +37,7 @@ fn mend_at<'a>(mend: Mend, case: Case<'a>, here: &[Token]) -> Option<Rewrite<'a>
         (Mend::Lower, _) => match limit_at(case.tokens, here) {
             Some((span, limit)) if limit > 1 => Some(Rewrite {
                 span,
-                text: with_one("%", Words::Number(limit - 1)),
+                text: with_one("%", Piece::Number((limit - 1) as u64)),
                 sentence: "with % here no operation of `#` can be lost",
             }),
             _ => None,
@@ -52,9 +52,9 @@ fn mend_at<'a>(mend: Mend, case: Case<'a>, here: &[Token]) -> Option<Rewrite<'a>
                     start: first.start,
                     end: second.end,
                 },
-                text: Phrase {
-                    second: Words::Text(text_at(source, span_of(first))),
-                    ..with_one("%; $", Words::Text(text_at(source, span_of(second))))
+                text: Diagnostic {
+                    second: Piece::Bytes(text_at(source, span_of(first))),
+                    ..with_one("%; $", Piece::Bytes(text_at(source, span_of(second))))
                 },
                 sentence: "with `%` here, the other way round, no operation of `#` can be lost",
             })
@@ -63,7 +63,7 @@ fn mend_at<'a>(mend: Mend, case: Case<'a>, here: &[Token]) -> Option<Rewrite<'a>
             if is_symbol(token, Symbol::Semicolon) && !is_symbol(before, Symbol::End) => {
             Some(Rewrite {
                 span: span_of(token),
-                text: with_one(",", Words::Nothing),
+                text: with_one(",", NO_PIECE),
                 sentence: "with `,` in the place of this `;` no operation of `#` can be lost",
             })
         }
@@ -105,19 +105,17 @@ fn ends_of(case: Case<'_>, first: OpSet, op: OpId) -> Allocated<OpSet> {
 }
 
 // A path that lets fewer calls be under way, from one of the first operations to one of the last.
-fn path_from<'a>(calls: usize, first: OpSet, last: OpSet) -> Phrase<'a> {
+fn path_from<'a>(calls: usize, first: OpSet, last: OpSet) -> Diagnostic<'a> {
     let sentence = match (first.all().len() > 1, last.all().len() > 1) {
         (false, false) => "\n  path %:($; @) end;",
         (false, true) => "\n  path %:($; (@)) end;",
         (true, false) => "\n  path %:(($); @) end;",
         (true, true) => "\n  path %:(($); (@)) end;",
     };
-    Phrase {
-        sentence,
-        first: Words::Number(calls.saturating_sub(1)),
-        second: Words::Names(first, Joint::Comma),
-        third: Words::Names(last, Joint::Comma),
-    }
+    with_one(sentence, Piece::Number(calls.saturating_sub(1) as u64)).with(
+        Piece::Names(first, Joint::Comma),
+        Piece::Names(last, Joint::Comma),
+    )
 }
 
 // A path that lets one call fewer of those be under way that lead to the loss.
@@ -201,5 +199,5 @@ pub(crate) fn push_ways(out: &mut Vec<u8>, loss: Loss<'_>) -> Allocated<()> {
     } else {
         "no single small change was found that mends it: let all clients take things in one order, or fewer of them begin"
     };
-    push_hint(out, loss.case, with_one(help, Words::Nothing))
+    push_found(out, loss.case, Some(with_one(help, NO_PIECE)))
 }
