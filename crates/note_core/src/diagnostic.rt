@@ -219,17 +219,17 @@ fn piece_text(alloc: Global, about: Option<&Object>, piece: Piece<'_>) -> Alloca
 
 // The texts of its pieces.
 #[derive(Drop)]
-struct Texts {
+struct PieceTexts {
     first: Vec<u8>,
     second: Vec<u8>,
     third: Vec<u8>,
 }
 
-fn texts_of(alloc: Global, found: Diagnostic<'_>) -> Allocated<Texts> {
+fn texts_of(alloc: Global, found: Diagnostic<'_>) -> Allocated<PieceTexts> {
     let first = piece_text(alloc, found.about, found.first)?;
     let second = piece_text(alloc, found.about, found.second)?;
     let third = piece_text(alloc, found.about, found.third)?;
-    Ok(Texts {
+    Ok(PieceTexts {
         first,
         second,
         third,
@@ -237,7 +237,7 @@ fn texts_of(alloc: Global, found: Diagnostic<'_>) -> Allocated<Texts> {
 }
 
 // What stands for the signs of its sentences.
-fn words_of<'a>(texts: &'a Texts, about: Option<&'a Object>) -> MessageWords<'a> {
+fn words_of<'a>(texts: &'a PieceTexts, about: Option<&'a Object>) -> MessageWords<'a> {
     MessageWords {
         first: &texts.first,
         second: &texts.second,
