@@ -17,7 +17,8 @@ import tempfile
 import time
 from collections.abc import Iterator
 
-from gate.kept import Server, Talk
+from gate.kept import Server
+from gate.talk import Talk
 from gate.tried import check, given_words, holds
 
 SOURCE = """object buffer;

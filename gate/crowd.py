@@ -1,17 +1,22 @@
-"""A crowd of clients with names, in one thread, that call kept objects and come back where their server was killed; and
-what their answers come to. Nothing here knows how the server works: what is looked at is what docs/KEEPING.md promises.
+"""Clients of a server that ends under them, and is started again. A crowd has names, calls kept objects, all in one
+thread, comes back, and asks again; then what all were answered is judged. A crew is of any clients, each in a thread.
+Nothing here knows how the server works: what is looked at is what docs/KEEPING.md promises.
 """
 import collections
 import errno
 import random
+import re
 import selectors
 import socket
+import threading
 import time
-from collections.abc import Callable
+from collections.abc import Callable, Iterable
 from typing import Any, NamedTuple
 
-from gate.kept import Server
-from gate.tried import check, holds, there
+from gate import served
+from gate.kept import Mounted, Server
+from gate.talk import Talk
+from gate.tried import Wrong, check, holds, there
 
 ACCOUNTS, FUNDS = 8, 100
 NAMES = ("counter", "ledger", "buffer", "echo")
@@ -47,6 +52,13 @@ end;
 # So many calls a client has sent at most that have no last line: of each name the last 16 calls are known.
 AHEAD = (1, 1, 2, 5, 16)
 LONG = "n" * 1000
+# A server lives for so long under a crowd, in seconds; a start that is killed, for so long.
+LIVES, STARTS = (0.01, 0.3), (0.0, 0.06)
+
+
+def source_of(*names: str) -> str:
+    """The declarations of these objects of SOURCE."""
+    return "".join(it[0] for it in re.finditer(r"(?ms)^object (\w+);.*?^end;\n", SOURCE) if it[1] in names)
 
 
 class Done(NamedTuple):
@@ -83,6 +95,8 @@ class Client:
         # killed; and it makes so many calls at most, where that is said.
         self.numbers, self.may_lose, self.kills, self.lacked = numbers, may_lose, kills, 0
         self.most: "int | None" = None
+        # Whether its server ends in order: then it takes no more calls.
+        self.may_be_gone = False
 
     def next_call(self) -> str:
         raise NotImplementedError
@@ -123,6 +137,8 @@ class Client:
             # It takes no key, and is asked for again.
             self.lacked, self.said = self.lacked + 1, 0
             self.say_all()
+        elif self.may_be_gone and words == ["no", "Gone"]:
+            pass
         else:
             again = words[0] == "repeat"
             words = words[again:]
@@ -279,8 +295,8 @@ class Crowd:
         for line in lines:
             client.hear(line.decode("ascii"), self.goes_on)
 
-    def killed(self) -> None:
-        """The server was killed now. What stands in a connection is read: it was answered."""
+    def gone(self) -> None:
+        """The server has ended now. What stands in a connection is read: it was answered."""
         now = time.monotonic()
         for it in self.clients:
             while it.it is not None:
@@ -294,6 +310,19 @@ class Crowd:
 
     def is_done(self) -> bool:
         return all(it.most is not None and it.key > it.most for it in self.clients)
+
+    def live(self, ways: "Iterable[Way]", seconds: float = 0.2) -> None:
+        """Has all talk while the server ends in each of these ways, one after the other; then each learns what
+        became of its calls."""
+        try:
+            for way in ways:
+                self.run(self.draw.uniform(*LIVES), hangs_up=20)
+                way(self)
+            self.run(seconds)
+            self.settle()
+        finally:
+            self.close()
+        holds(all(it.done for it in self.clients), "a client was never answered")
 
     def settle(self, seconds: float = 30) -> None:
         """Has each client learn what became of its calls, and makes no more; calls that wait are cancelled."""
@@ -320,6 +349,106 @@ class Crowd:
             if it.it is not None:
                 self.drop(it)
         self.selector.close()
+
+
+# How a life of a server ends under its crowd, and the next one begins.
+
+
+Way = Callable[[Crowd], None]
+
+
+def killed(lose: "Callable[[], object] | None" = None) -> Way:
+    """By `kill -9`; one time in five the start behind it is killed, too. `lose` takes what no sync has stored."""
+
+    def way(crowd: Crowd) -> None:
+        crowd.server.kill()
+        crowd.gone()
+        if lose:
+            lose()
+        if crowd.draw.random() < 0.2:
+            crowd.server.begin()
+            time.sleep(crowd.draw.uniform(*STARTS))
+            crowd.server.kill()
+            if lose:
+                lose()
+        crowd.server.start()
+
+    return way
+
+
+def ended(file: "str | None" = None) -> Way:
+    """In order; the next start has this FILE, where one is given."""
+
+    def way(crowd: Crowd) -> None:
+        for it in crowd.clients:
+            it.may_be_gone = True
+        check(crowd.server.end()[1], 0, "the status of an end in order")
+        crowd.gone()
+        for it in crowd.clients:
+            it.may_be_gone = False
+        if file:
+            crowd.server.file.write_text(file, encoding="ascii")
+        crowd.server.start()
+
+    return way
+
+
+def filled(disk: Mounted) -> Way:
+    """By `kill -9`, on a disk without a free byte: the start behind it uses what stands ready, or, where nothing does
+    yet, is refused until there is room. The crowd goes on with what is left of the disk."""
+
+    def way(crowd: Crowd) -> None:
+        disk.fill(0)
+        crowd.server.kill()
+        crowd.gone()
+        try:
+            crowd.server.start()
+        except Wrong:
+            disk.empty()
+            crowd.server.start()
+
+    return way
+
+
+class Crew:
+    """Clients of a server, each in a thread of its own, and what went wrong with them. They look themselves whether
+    they are to stop."""
+
+    def __init__(self) -> None:
+        self.stops = False
+        self.threads: list[threading.Thread] = []
+        self.faults: list[str] = []
+
+    def run(self, work: Callable[..., object], *words: Any, name: str = "") -> None:
+        """Has a client work."""
+
+        def body() -> None:
+            try:
+                work(*words)
+            except Exception as fault:  # whatever it is, it is told, and the others go on
+                self.faults.append(f"{name or f'{work.__name__}{words}'}: {type(fault).__name__} {fault}")
+
+        self.threads.append(threading.Thread(target=body, daemon=True))
+        self.threads[-1].start()
+
+    def going_on(self) -> int:
+        """How many of them have not ended."""
+        return sum(it.is_alive() for it in self.threads)
+
+    def kill(self, server: Server, times: int, draw: random.Random, least: float, most: float) -> None:
+        """Kills their server so often, each time behind a rest of so many seconds, and starts it again."""
+        for _ in range(times):
+            time.sleep(draw.uniform(least, most))
+            server.revive()
+
+    def join(self, seconds: float = 60) -> None:
+        """Waits until all have ended. It raises where one did wrong, or goes on."""
+        end = time.monotonic() + seconds
+        for it in self.threads:
+            it.join(max(0.0, end - time.monotonic()))
+        holds(not self.faults, f"{len(self.faults)} faults: {self.faults[:3]}")
+        holds(not self.going_on(), "clients do not end")
+        self.threads = []
 
 
 # What the answers come to.
@@ -407,16 +536,23 @@ def are_right(server: Server, crowd: Crowd) -> int:
     """Judges all answers, and what the objects hold then. It answers how many calls were answered."""
     clients = crowd.clients
     for it in clients:
-        opened = "no InUse"
-        while opened == "no InUse":
-            # (its connection before may not have been seen to end)
-            opened = server.says(f"open {it.object} as {it.name}")[0]
-        check(opened, f"opened {it.object} next {it.key}", f"what {it.name} is told")
+        with Talk(server) as again:
+            check(again.open(it.object, it.name), it.key, f"the next key of {it.name}")
         keys = [done.key for done in it.done]
         check(keys, sorted(keys), f"the order of the calls of {it.name}")
         numbers = [done.number for done in it.done]
         check(numbers, sorted(numbers), f"the numbers of the calls of {it.name}")
     return tickets_are_right(server, clients) + ledger_is_right(server, clients) + buffer_is_right(server, clients)
+
+
+def polite(server: served.Server, calls: int = 20) -> float:
+    """A client that behaves is served by a server of SOURCE: the seconds that this takes."""
+    begun = time.monotonic()
+    with Talk(server, "open counter", "opened counter") as it:
+        check(it.calls(*["pick"] * calls)[0].split(" ")[0], "done")
+        it.say("quit")
+        it.hears("bye", "")
+    return time.monotonic() - begun
 
 
 def fill_ledger(server: Server) -> None:

@@ -12,9 +12,6 @@ slow_audit.py works out what is to be said, and shares nothing with the program.
 from the seeds, so each run draws the same.
 
 Without seeds also the scripts of cases/run are run, with a line `trace` at their end: each trace that the program gives is legal.
-
-The program is the one that ./pathserve runs, or FILE. The last line is `draw_audits: N passed, M failed`; the exit status is 0
-where M is 0 and N is not.
 """
 import dataclasses
 import pathlib

@@ -4,10 +4,10 @@ usage: gate/draw_explanations [--program FILE] [SEED ..]
 
 Standard output and the status have to be the same with and without. Standard error has to begin at the line and the
 column of the byte of the fault, as Python counts them; where nothing is refused it has at most notes on clients that are
-gone within a sequence, and without `--explain` nothing points to them. Each path that is proposed is written into the source where it is said to belong, and the object has to be accepted then. The sources are
+gone within a sequence, and on what can be refused before a `;`, and without `--explain` nothing points to them. Each path that is proposed is written into the source where it is said to belong, and the object has to be accepted then. The sources are
 those of gate/draw_objects, and follow from their seeds.
 
-The program is the one that ./pathserve runs, or FILE. The last line is `draw_explanations: N passed, M failed`: sources. The exit
+ The last line is `draw_explanations: N passed, M failed`: sources. The exit
 status is 0 where M is 0 and N is not.
 """
 import pathlib
@@ -30,8 +30,8 @@ PROPOSAL = re.compile(rb"(?m)^SOURCE:(\d+):(\d+): with this path, put here, obje
 # What is said in place of a path.
 HINT = b"--explain tells more\n"
 NO_ROOM = b"no further path has room"
-# What is said of a client that is gone within a sequence.
-NEVER = b"` never calls `"
+# What is said of a client that is gone within a sequence, and of what can be refused there.
+NOTES = re.compile(rb"` never calls `|: a refused call counts\n")
 
 
 def drawn_source(seed: int) -> bytes:
@@ -82,9 +82,10 @@ def fault_of(folder: pathlib.Path, source: bytes) -> str | None:
     if not explained[2].isascii():
         return "not ASCII"
     if status == 0:
-        # Of what is accepted it is told alone what a client leaves that is gone within a sequence, and nobody is pointed to it.
+        # Of what is accepted it is told alone what a client leaves that is gone within a sequence, and what can be refused
+        # there, and nobody is pointed to it.
         notes = [it for it in explained[2].splitlines() if it.startswith(b"SOURCE:")]
-        if hinted[2] or len(notes) != explained[2].count(NEVER) or (notes and b";" not in source):
+        if hinted[2] or len(notes) != len(NOTES.findall(explained[2])) or (notes and b";" not in source):
             return "another note at what is accepted"
         return None
     if hinted[2] != (HINT if explained[2] else b""):

@@ -6,14 +6,13 @@ usage: gate/draw_kept [--program FILE] [--cases N] [--from SEED] [--jobs N] [--t
 In each conversation up to six clients speak at once, with and without names, over drawn objects
 (gate/drawn_objects.py): calls with and without keys, cancels, lines that say nothing or are too long, lines that are
 sent ahead, in pieces or without their end; they hang up, send no more, come back, and the server is killed or ended and
-started again. What each is told is compared line by line, in an order that is no matter of chance: each step is done
-when the one before it is. At the end of every few conversations the journals are compared with what the slow server
-holds: values, clients, their keys and last calls; and `pathserve audit FILE DIR` has to find the folder whole.
+started again; one in three journals of one that was killed becomes one of a program before, without check lines. What
+each is told is compared line by line, in an order that is no matter of chance: each step is done when the one before it
+is. At the end of every few conversations the journals are compared with what the slow server holds: values, clients,
+their keys and last calls; and `pathserve audit FILE DIR` has to find the folder whole.
 
 N conversations are drawn from the seeds SEED (1) on, 200 where no number is given, N at a time side by side (the
-processors). Of one that fails the last steps are told, 12 of them or as many as `--tell` says. The program is the one
-that ./pathserve runs, or FILE. The last line is `draw_kept: N passed, M failed`; the exit status is 0 where M is 0 and
-N is not.
+processors). Of one that fails the last steps are told, 12 of them or as many as `--tell` says.
 """
 import concurrent.futures
 import os
@@ -25,6 +24,7 @@ import tempfile
 from collections.abc import Iterable, Sequence
 from typing import Any
 
+from gate import sums
 from gate.drawn_objects import OBJECTS
 from gate.kept import ROOMS, Server, options
 from gate.seeds import Drawer
@@ -115,7 +115,8 @@ class World:
     """A server over a folder, and the slow one."""
 
     def __init__(self, room: pathlib.Path, seed: int) -> None:
-        self.draw = Drawer(seed)
+        # (which journals grow old changes nothing of what is said)
+        self.draw, self.ages = Drawer(seed), Drawer(seed)
         count = 1 + self.draw.below(3)
         self.objects = [OBJECTS[it] for it in sorted({self.draw.below(len(OBJECTS)) for _ in range(count)})]
         sync = self.draw.of(("always", "always", "1", "60000"))
@@ -303,6 +304,9 @@ class World:
         if is_killed:
             self.server.kill()
             self.slow.die([it.speaker for it in self.voices])
+            for made in self.objects:
+                if self.ages.one_in(3):
+                    self.grow_old(self.server.folder / f"{made.name}.journal")
         else:
             self.end()
         for it in self.voices:
@@ -314,10 +318,15 @@ class World:
         self.slow.start()
         self.start()
 
+    def grow_old(self, journal: pathlib.Path) -> None:
+        """A journal becomes one of a program before, which had no check lines."""
+        self.steps.append(f"{journal.name} is an old one")
+        journal.write_bytes(sums.as_before(journal.read_bytes()))
+
     def end(self) -> None:
         """The server ends in order."""
         for it in self.voices:
-            self.slow.leave(it.speaker)
+            self.slow.end(it.speaker)
         counts = "".join(f"{it.made.name} entries {it.ended}\n" for it in self.slow.halls.values())
         check(self.server.end(), (counts, 0), "what the server said at its end")
         check(self.server.error(), "", "standard error")
@@ -331,8 +340,8 @@ class World:
         self.server.kill()
 
     def compare_one(self, hall: Hall) -> None:
-        text = (self.server.folder / f"{hall.made.name}.journal").read_bytes().partition(b"\0")[0].decode()
-        lines = [it.split(" ", 2) for it in text.splitlines()]
+        text = (self.server.folder / f"{hall.made.name}.journal").read_bytes()
+        lines = [it.decode().split(" ", 2) for it in sums.are_right(text)]
         values = {it[1]: it[2] for it in lines if it[0] == "part"}
         saved = {name: kind.bytes_of(hall.contents[name]).hex() for name, kind in hall.made.parts.items()}
         check(values, saved, f"the values of {hall.made.name}")

@@ -6,9 +6,6 @@ usage: gate/draw_objects [--program FILE] [SEED ..]
 The slow analyser follows the definitions, pair by pair, part by part and node by node, over what was noted while the text
 was drawn: it reads no text, and shares nothing with the program. The sources follow from their seeds, so each run draws
 the same ones. Over all seeds each kind of answer has to come up often.
-
-The program is the one that ./pathserve runs, or FILE. The last line is `draw_objects: N passed, M failed`; the exit status is 0
-where M is 0 and N is not.
 """
 import collections
 import pathlib

@@ -6,9 +6,6 @@ usage: gate/draw_paths [--program FILE] [SEED ..]
 slow_world.py says what a path allows: it counts starts and ends over the whole trace anew for each question, and shares
 nothing with the program. The lines follow from their seeds, so each run draws the same ones. Over all seeds each form of a
 path and each kind of answer has to come up often.
-
-The program is the one that ./pathserve runs, or FILE. The last line is `draw_paths: N passed, M failed`; the exit status is 0
-where M is 0 and N is not.
 """
 import collections
 import subprocess

@@ -16,8 +16,6 @@ was written has to be a front of what the slow server tells it; and where answer
 written before all lines of journals are stored that were added up to there: so a crash at any moment loses nothing that was
 answered. Behind a sync that failed nothing is written. What journals were handed has to be the slow server's history, with
 its values and keys. Where the server ended in order, all is heard and all is written that can be, and all is stored.
-
-The last line is `draw_schedules: N passed, M failed`; the exit status is 0 where M is 0 and N is not.
 """
 import collections
 import concurrent.futures
@@ -29,6 +27,7 @@ import tempfile
 from collections.abc import Iterable, Mapping, Sequence as Sequence_
 from typing import NamedTuple
 
+from gate import sums
 from gate.cases import TOP
 from gate.crash_journal import Epoch, Wrong
 from gate.draw_kept import World, text_of
@@ -215,8 +214,8 @@ class Wire:
 
 
 class Journal:
-    """What was handed to a journal since its last front, how many lines were handed to it in all and stored, and the epochs
-    before."""
+    """What was handed to a journal since its last front, how many lines were handed to it in all and stored, check lines
+    apart, and the epochs before."""
 
     def __init__(self, front: bytes) -> None:
         self.front, self.text, self.handed, self.stored, self.is_new = front, b"", 0, 0, True
@@ -294,7 +293,7 @@ class Judge:
 
     def hear_ends(self, _: object, __: object) -> None:
         for who in sorted(self.wires, key=lambda it: it % self.places):
-            self.slow.leave(self.wires[who].speaker)
+            self.slow.end(self.wires[who].speaker)
         self.slow.go_on()
 
     def hear_ticks(self, *_: object) -> None:
@@ -325,7 +324,7 @@ class Judge:
     def hear_added(self, at: int, text: bytes) -> None:
         journal = self.journals[at]
         journal.text += text
-        journal.handed += text.count(b"\n")
+        journal.handed += sums.counted(text)
 
     def hear_stored(self, at: int, _: object) -> None:
         self.journals[at].stored = self.journals[at].handed

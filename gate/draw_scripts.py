@@ -8,9 +8,6 @@ slow_world.py and slow_holds.py work out the answers, and share nothing with the
 each run draws the same ones. Those of the later seeds have keys, sessions that come back, then calls that are done in one line,
 lines that ask why calls wait, and at last objects with holds: how often each answer to these comes in all scripts is said, and
 one that comes too seldom is a failure where no seeds are given.
-
-The program is the one that ./pathserve runs, or FILE. The last line is `draw_scripts: N passed, M failed`; the exit status is 0
-where M is 0 and N is not.
 """
 import collections
 import difflib

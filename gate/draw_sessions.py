@@ -8,9 +8,6 @@ has to be answered in the order of the lines: a call by `accepted N` and the las
 order of the cancels. A call under a key that a call of the session has already is answered by the last line of that call. Half of the
 clients have a name: these come back when all have ended, and ask again for each of their calls. The server has to end by itself with
 status 0, with legal traces in which each call stands as it was told. How often each kind of line was answered is said.
-
-The program is the one that ./pathserve runs, or FILE. The last line is `draw_sessions: N passed, M failed`; the exit status is 0
-where M is 0 and N is not.
 """
 import collections
 import random
@@ -20,9 +17,8 @@ import threading
 import time
 from collections.abc import Iterator, Mapping, Sequence
 
-from gate.drawn_objects import OBJECTS
+from gate.drawn_objects import OBJECTS, call_of
 from gate.served import Server, Told, traced_wrongly
-from gate.slow_world import written
 from gate.tried import Wrong, given_words, new_folder, there, whole
 
 SEEDS = (1, 2, 3)
@@ -99,8 +95,7 @@ class Speaker(Client):
         return Line(f"call {self.calls[-1]}", "call")
 
     def call(self) -> str:
-        op = self.random.choice(list(self.made.operations))
-        return " ".join([op, *(written(self.random.choice(it)) for it in self.made.operations[op].draws)])
+        return call_of(self.random, self.made)
 
     def keyed(self) -> Line:
         """A call under a key: the next one, one that a call has already, or one that is wrong."""

@@ -5,7 +5,7 @@ import random
 
 from gate.slow_holds import Hold
 from gate.slow_world import (
-    MOST, Any, Array, Bound, Burst, Contents, Object, Queue, Refusal, Sequence, Table, append, element, first, lookup, set_element, whole,
+    MOST, Any, Array, Bound, Burst, Contents, Object, Queue, Refusal, Sequence, Table, append, element, first, lookup, set_element, whole, written,
 )
 
 EXAMPLES = pathlib.Path(__file__).resolve().parent.parent / "examples" / "objects"
@@ -35,6 +35,12 @@ LENGTHS = random.Random(1024).sample(range(200, 1025), 3)
 def example(name: str) -> str:
     """The text of an object of examples/objects."""
     return (EXAMPLES / f"{name}.pp").read_text(encoding="ascii")
+
+
+def call_of(draw: random.Random, made: Object) -> str:
+    """A drawn call of an object, as a client says it."""
+    op = draw.choice(list(made.operations))
+    return " ".join([op, *(written(draw.choice(it)) for it in made.operations[op].draws)])
 
 
 def cell_bump(c: Contents, x: int) -> None:

@@ -1,6 +1,6 @@
 // A library to preload: calls of the system fail in turn, or are noted.
 //
-// FAIL_CALL names a call (open, read, write, seek, size, sync, rename, link, unlink, accept, recv, send, wait,
+// FAIL_CALL names a call (open, read, write, seek, size, sync, rename, link, unlink, accept, recv, send, poll, wait,
 // watch), FAIL_NUMBER counts those of one kind from 1, FAIL_ERRNO is the error that the one of that number gives, or
 // 0 where the program is killed in its place, or -1 where a write does half of it and then the program is killed.
 // With FAIL_REST each later one fails too. FAIL_NOTE is a file that is made when that happened.
@@ -339,6 +339,13 @@ int accept4(int file, struct sockaddr *address, socklen_t *length, int flags) {
 
 int accept(int file, struct sockaddr *address, socklen_t *length) {
     return accept4(file, address, length, 0);
+}
+
+int epoll_create1(int flags) {
+    if (fails("poll", NULL)) {
+        return -1;
+    }
+    return (int)syscall(SYS_epoll_create1, flags);
 }
 
 int epoll_wait(int set, struct epoll_event *events, int most, int time) {

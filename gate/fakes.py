@@ -13,6 +13,21 @@ from gate.tried import Wrong
 
 Self = TypeVar("Self", bound="Fake")
 
+OPENED = ("open cell", b"opened cell\n")
+# Of each reply follows how often the calls before it were done.
+METER = """object meter;
+  path 1:(add, [total]) end;
+  var v : array [1] of integer;
+  entry function add(x : integer) : integer; begin v[0] := v[0] + x; add := v[0] end;
+  entry function total : integer; begin total := v[0] end;
+end;
+"""
+
+
+def opened(key: int, answer: bytes = b"") -> tuple[str, bytes]:
+    """The answer to a client with a name, or another one."""
+    return "open cell as ann", answer or f"opened cell next {key}\n".encode()
+
 
 class Fake:
     """Takes so many connections, each in a thread, or one after the other (`in_turn`), until it is closed. What it does on

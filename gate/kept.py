@@ -1,19 +1,18 @@
-"""A server of kept objects as trials see it: it is started, killed, ended and audited; and connections that say and
-hear lines."""
+"""A server of kept objects as trials see it: it is started, killed, ended and audited."""
 import contextlib
 import os
 import pathlib
+import resource
+import shutil
 import subprocess
 from collections.abc import Callable, Iterable, Mapping, Sequence
-from typing import TypeVar
 
 from gate import served, tried
-from gate.tried import SECONDS, Trial, Wrong, check, in_folder, program, title_of
+from gate.tried import SECONDS, Trial, check, in_folder, title_of
 
 # Folders are made in memory, where there is such a place: what a disk does is worked out (gate/losing.py), or tried by
 # itself.
 ROOMS = "/dev/shm" if os.access("/dev/shm", os.W_OK) else None
-Self = TypeVar("Self", bound="Talk")
 
 
 class Server(served.Server):
@@ -27,22 +26,39 @@ class Server(served.Server):
                          place=room / "place" if at_path else port, errors=room / "error", survives=survives)
         self.room = room
         self.file.write_text(source, encoding="ascii")
-        self.folder.mkdir(exist_ok=True)
+        self.folder.mkdir(0o700, exist_ok=True)
 
     def end(self) -> tuple[str, int]:
         """Ends its input: what it said behind its first line, and its status."""
         return self.ended()[:2]
 
+    def ends(self, *names: str) -> None:
+        """It ends in order, and leaves a folder that is legal, with these objects, where they are given."""
+        check(self.end()[1], 0, "the status")
+        self.is_whole(*names)
+
+    def refused_in_vain(self, seconds: float = SECONDS, but: str = "lock") -> served.Ended:
+        """A start that comes to nothing, and leaves the folder as it was, but for files whose names end so."""
+        before = contents(self.folder, but)
+        found = self.refused(seconds)
+        check(contents(self.folder, but) == before, True, "that the folder is as it was")
+        return found
+
+    def lines(self, name: str) -> bytes:
+        """The lines of the journal of an object."""
+        return (self.folder / f"{name}.journal").read_bytes().split(b"\0")[0]
+
+    def epoch(self, name: str) -> int:
+        """The epoch of which they tell."""
+        with (self.folder / f"{name}.journal").open("rb") as file:
+            return int(file.readline().split()[-1])
+
     def audit(self) -> tuple[str, int]:
-        ran = subprocess.run([program(), "audit", self.file, self.folder], capture_output=True, timeout=SECONDS)
-        return ran.stdout.decode(), ran.returncode
+        return served.run("audit", self.file, self.folder)[:2]
 
     def is_whole(self, *names: str) -> None:
         """Raises where the folder is not legal."""
-        said, status = self.audit()
-        found = [it.split(" ")[0] for it in said.splitlines() if it.endswith(" whole")]
-        if status or len(found) != len(said.splitlines()) or names and tuple(found) != names:
-            raise Wrong(f"audit says {said!r}, status {status}")
+        served.is_whole(self.file, self.folder, *names)
 
     def replies(self, name: str, *calls: str) -> list[str]:
         """The words of the last line of each of these calls, behind its number."""
@@ -51,51 +67,61 @@ class Server(served.Server):
         return [" ".join([it.split(" ")[0], *it.split(" ", 2)[2:]]) for it in ends]
 
 
-class Talk:
-    """A connection on which a client says lines and hears lines."""
+def contents(folder: pathlib.Path, but: str = "lock") -> dict[str, object]:
+    """What stands in a folder: of a file its bytes without those that are 0 at its end, and its length; of a link
+    where it leads; of what cannot be read its mode. Left out are `lock`, which each start makes that gets so far,
+    and names that end so."""
+    found: dict[str, object] = {}
+    for it in sorted(it for it in folder.iterdir() if it.name != "lock" and not it.name.endswith(but)):
+        found[it.name] = os.readlink(it) if it.is_symlink() else it.stat().st_mode
+        if it.is_file() and not it.is_symlink():
+            with contextlib.suppress(PermissionError):
+                text = it.read_bytes()
+                found[it.name] = text.rstrip(b"\0"), len(text)
+    return found
 
-    def __init__(self, server: served.Server, *opening: str, seconds: float = SECONDS) -> None:
-        self.socket = server.connect(seconds)
-        self.stream = self.socket.makefile("rb")
-        if opening:
-            self.say(opening[0])
-            self.hears(*opening[1:])
 
-    def __enter__(self: Self) -> Self:
+class Mounted:
+    """A small file system in memory, which can be filled. It is its owner's alone; where this machine lets none be
+    mounted it is not there."""
+
+    def __init__(self, folder: pathlib.Path, size: str, owner: int = 0) -> None:
+        self.folder, self.ballast = folder, folder / "ballast"
+        folder.mkdir(exist_ok=True)
+        words = ["mount", "-t", "tmpfs", "-o", f"size={size},mode=700,uid={owner},gid={owner}", "tmpfs", str(folder)]
+        self.is_there = bool(shutil.which("mount")) and subprocess.run(words, capture_output=True).returncode == 0
+
+    def __enter__(self) -> "Mounted":
         return self
 
     def __exit__(self, *_: object) -> None:
-        self.close()
+        if self.is_there:
+            subprocess.run(["umount", "-l", str(self.folder)], check=True)
 
-    def say(self, *lines: str) -> None:
-        self.socket.sendall("".join(f"{line}\n" for line in lines).encode())
+    def left(self) -> int:
+        """How many bytes are free."""
+        found = os.statvfs(self.folder)
+        return found.f_bavail * found.f_frsize
 
-    def hear(self) -> str:
-        """The next line, or nothing at the end."""
-        try:
-            return self.stream.readline().decode().removesuffix("\n")
-        except ConnectionResetError:
-            return ""
+    def fill(self, rest: int) -> None:
+        """Leaves so many bytes of it."""
+        with contextlib.suppress(OSError), open(self.ballast, "ab") as file:
+            file.write(bytes(max(0, self.left() - rest)))
 
-    def hears(self, *lines: str) -> None:
-        for line in lines:
-            check(self.hear(), line, "a line")
+    def empty(self) -> None:
+        self.ballast.unlink(missing_ok=True)
 
-    def calls(self, *lines: str) -> list[str]:
-        """The last lines of these calls, each without its number."""
-        self.say(*(f"call {it}" for it in lines))
-        found = []
-        for _ in lines:
-            line = self.hear()
-            while line.startswith("accepted "):
-                line = self.hear()
-            found.append(" ".join([line.split(" ")[0], *line.split(" ", 2)[2:]]))
-        return found
 
-    def close(self) -> None:
-        with contextlib.suppress(OSError):
-            self.stream.close()
-        self.socket.close()
+def raised(files: int) -> bool:
+    """Whether this process and those that it starts may have so many files."""
+    hard = resource.getrlimit(resource.RLIMIT_NOFILE)[1]
+    if hard < files:
+        with contextlib.suppress(OSError, ValueError):
+            resource.setrlimit(resource.RLIMIT_NOFILE, (files, files))
+            return True
+        return False
+    resource.setrlimit(resource.RLIMIT_NOFILE, (files, hard))
+    return True
 
 
 def options(words: list[str], **given: int) -> tuple[dict[str, int], list[str]]:
@@ -114,3 +140,14 @@ def trials_of(tool: str, works: Iterable[Callable[..., object]], **more: object)
 def run(tool: str, works: Iterable[Callable[..., object]], words: Sequence[str], **more: object) -> int:
     """Runs the trials of these functions whose titles have these words, and says what came of them."""
     return tried.run(tool, trials_of(tool, works, **more), words, has_times=True)
+
+
+def part(tool: str, works: Iterable[Callable[..., object]], **numbers: int) -> tuple[Callable[[], int], tried.Loads]:
+    """`main` and `load_tests` of a part whose trials are these functions. Each is given these numbers, or those that
+    its command line has in their place."""
+
+    def main() -> int:
+        given, words = options(tried.given_words(), **numbers)
+        return run(tool, works, words, **given)
+
+    return main, tried.loads(lambda: trials_of(tool, works, **numbers))

@@ -7,23 +7,12 @@ import os
 import pathlib
 import random
 import struct
-import subprocess
 from collections.abc import Iterable, Iterator, Sequence
-
-from gate.tried import TOP
 
 HEAD = struct.Struct("=5Q")
 SECTOR = 512
 # A change of a file: its letter, the place, and the bytes.
 Change = tuple[str, int, bytes]
-
-
-def build(folder: "str | pathlib.Path") -> pathlib.Path:
-    """The library that fails and notes, built in a folder."""
-    library = pathlib.Path(folder) / "libfail.so"
-    words = ["cc", "-O2", "-shared", "-fPIC", "-o", str(library), str(TOP / "gate" / "fail.c"), ]
-    subprocess.run(words, check=True)
-    return library
 
 
 def records(log: pathlib.Path) -> Iterator[tuple[str, int, int, bytes]]:

@@ -3,7 +3,7 @@
 usage: gate/man_page [--program FILE]            writes docs/pathserve.1
        gate/man_page --check [--program FILE]    writes nothing; status 1 where the page is not what would be written
 
-The program is the one that ./pathserve runs, or FILE. Its help has all the texts but two: the files of a
+ Its help has all the texts but two: the files of a
 folder, which docs/FORMATS.md has, and the version, which stands in the help of the program as `pathserve N.N.N`.
 `man -l docs/pathserve.1` shows the page.
 """

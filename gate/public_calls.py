@@ -20,7 +20,6 @@ program stands on it that fails.
   prints of each function the first file of cases that runs it.
 
 It shows that a function was entered, not which of its answers it gave. A function without a body (a law) is not run.
-The last line is `public_calls: N passed, M failed`; the exit status is 0 where M is 0 and N is not.
 """
 import argparse
 import bisect

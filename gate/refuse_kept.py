@@ -5,14 +5,15 @@ usage: gate/refuse_kept [--program FILE] [--runs N] [--jobs N] [--first N] [KIND
 The n-th open, read, write, seek, change of a size, sync or rename of a file of the folder fails, once or from there on;
 or the n-th accept, read or write of a connection, wait or watch does; or the server is killed in the place of that
 call, or behind half of a write; or the n-th growth of memory is refused. A server whose journal cannot be written ends
-with status 3, one without memory with 4, or it goes on. A start behind that knows each call that was answered, each
-once, as gate/crowd.py judges. Four clients make twelve calls each; in `epochs` a change of epochs comes in between.
-In `options` its command line is all that it reads: FILE is not there.
+with status 3, one without memory with 4, or it goes on. Before `read fault` and `write fault` standard error has which
+file it was, and why. A start behind that knows each call that was answered, each once, as gate/crowd.py judges. Four
+clients make twelve calls each; in `epochs` a change of epochs comes in between. In `first` it is a first start, with two
+`--past`: where that is refused nothing is left, and the same command starts it then. In `options` its command line is
+all that it reads: FILE is not there.
 
 Of each kind so many numbers are tried, further and further apart, that there are N runs in all, 150 where no number is
 given; with `--runs 0` each number is tried, from the first one given on. KIND leaves out all kinds whose names do not
-have these words. Where there is no `cc` nothing is run. The program is the one that ./pathserve runs, or FILE. The last
-line is `refuse_kept: N passed, M failed`; the exit status is 0 where M is 0 and N is not.
+have these words. Where there is no `cc` nothing is run.
 """
 import concurrent.futures
 import contextlib
@@ -20,7 +21,7 @@ import errno
 import os
 import pathlib
 import random
-import socket
+import re
 import subprocess
 import tempfile
 import threading
@@ -28,10 +29,11 @@ import time
 from collections.abc import Iterable
 from typing import NamedTuple
 
-from gate import crowd, losing, refusing
+from gate import crowd, served
 from gate.crowd import Crowd
-from gate.kept import ROOMS, Server, Talk, options
-from gate.tried import Wrong, check, given_words, holds, lacks, program, whole
+from gate.kept import ROOMS, Server, options
+from gate.talk import Talk
+from gate.tried import Wrong, check, given_words, holds, lacks, preload, program, whole
 
 
 class Kind(NamedTuple):
@@ -48,9 +50,16 @@ Libraries = tuple[pathlib.Path, pathlib.Path]
 DISK = ("open", "read", "write", "seek", "size", "sync", "rename", "link", "unlink")
 CONNECTIONS = (("accept", "EMFILE"), ("accept", "ECONNABORTED"), ("accept", "EINTR"), ("recv", "ECONNRESET"),
                ("recv", "EINTR"), ("recv", "EIO"), ("send", "EPIPE"), ("send", "EINTR"), ("send", "EIO"),
-               ("wait", "EINTR"), ("watch", "ENOSPC"))
+               ("wait", "EINTR"), ("watch", "ENOSPC"), ("poll", "EMFILE"))
 OVER_EPOCHS = ("write ENOSPC", "write half", "write killed", "sync EIO", "rename EIO", "rename killed", "open EMFILE",
                "size ENOSPC", "link EIO", "link killed", "unlink EIO", "memory")
+OVER_FIRST = ("open EIO", "open EMFILE", "write EIO", "write ENOSPC", "write ENOSPC for ever", "seek EIO", "sync EIO",
+              "sync EIO for ever", "rename EIO", "watch ENOSPC", "poll EMFILE", "memory")
+PAST = ("--past", "buffer:put:2", "--past", "echo:say:3")
+# What stands before `read fault` and `write fault`, and what says why.
+WHY = re.compile(r"(?:(?:/\S+: this (?:file|folder) cannot be (?:opened|made|read|written|stored|renamed)"
+                 r"|connections cannot be waited for)(?:: (?P<cause>.+))?|\w+\.\w+ not saved)")
+CAUSES = {errno.EIO: "the disk failed", errno.ENOSPC: "the disk is full", errno.EMFILE: "there are too many open files"}
 CALLS, PUMPED, ROUNDS = 12, 3300, 2400
 KILLED = -9
 
@@ -72,7 +81,17 @@ def kinds() -> list[Kind]:
     found.append(Kind("memory", {}, (0, 4)))
     again = [it for it in found if it.name in OVER_EPOCHS]
     over_epochs = [it._replace(name=f"epochs, {it.name}", play="epochs") for it in again]
-    return [*found, *over_epochs, Kind("options, memory", {}, (3, 4), "options")]
+    over_first = [it._replace(name=f"first, {it.name}", play="first") for it in found if it.name in OVER_FIRST]
+    return [*found, *over_epochs, *over_first, Kind("options, memory", {}, (3, 4), "options")]
+
+
+def is_told(kind: Kind, error: str) -> None:
+    """The line before `read fault` or `write fault` says of what it is, and for which cause."""
+    lines = error.splitlines()
+    holds(len(lines) > 1 and lines[-1] in ("read fault", "write fault"), f"status 3, standard error {error!r}")
+    found = WHY.fullmatch(lines[-2])
+    cause = "a limit of its user is reached" if kind.name.endswith("watch ENOSPC") else CAUSES[int(kind.env["FAIL_ERRNO"])]
+    holds(found and (lines[-2].endswith(" not saved") or found["cause"] == cause), f"standard error {error!r} does not tell {cause!r}")
 
 
 class Run:
@@ -85,7 +104,8 @@ class Run:
     def go(self) -> "Run":
         with tempfile.TemporaryDirectory(prefix="refuse-", dir=ROOMS) as folder:
             try:
-                (self.read if self.kind.play == "options" else self.tried)(pathlib.Path(folder))
+                plays = {"options": self.read, "first": self.first}
+                plays.get(self.kind.play, self.tried)(pathlib.Path(folder))
             except (Wrong, OSError, ValueError, IndexError, EOFError, subprocess.TimeoutExpired) as wrong:
                 self.wrong = f"{type(wrong).__name__} {wrong}"
         return self
@@ -100,20 +120,58 @@ class Run:
     def read(self, folder: pathlib.Path) -> None:
         """Its command line is read."""
         pasts = [it for operation in ("say", "get") for it in ("--past", f"echo:{operation}:2")]
-        words: list[str | pathlib.Path] = [program(), "keep", folder / "none.pp", folder, "1", "--sync", "100", *pasts]
-        ran = subprocess.run(words, env={**os.environ, **self.env(folder)}, capture_output=True, text=True, timeout=60)
+        words = (folder / "none.pp", folder, "1", "--sync", "100", *pasts)
+        said, status, error = served.run("keep", *words, env={**os.environ, **self.env(folder)})
         self.was_refused = (folder / "note").exists()
-        holds(ran.returncode in self.kind.statuses, f"status {ran.returncode}, standard error {ran.stderr!r}")
-        check(ran.stdout, "", "what it said")
+        holds(status in self.kind.statuses, f"status {status}, standard error {error!r}")
+        check(said, "", "what it said")
         # (behind the command line what is told of FILE may lack)
-        last = {3: "read fault", 4: "out of memory"}[ran.returncode]
-        check(ran.stderr.splitlines()[-1:], [last], "the last line of standard error")
-        holds(self.was_refused or ran.returncode == 3, "nothing was refused, and it is out of memory")
+        last = {3: "read fault", 4: "out of memory"}[status]
+        check(error.splitlines()[-1:], [last], "the last line of standard error")
+        holds(self.was_refused or status == 3, "nothing was refused, and it is out of memory")
+
+    def first(self, folder: pathlib.Path) -> None:
+        """It is a first start."""
+        server = Server(folder, crowd.SOURCE, *PAST, at_path=True)
+        try:
+            self.begun_first(folder, server)
+        finally:
+            if server.begun and server.runs():
+                server.kill()
+
+    def begun_first(self, folder: pathlib.Path, server: Server) -> None:
+        server.env = self.env(folder)
+        server.begin()
+        line = server.line()
+        heard: list[str] = []
+        if line:
+            check(line, f"listening {server.place}\n", "the first line")
+            with contextlib.suppress(OSError):
+                heard = server.says("open counter", "call add 7")
+        status = server.end()[1]
+        self.was_refused = (folder / "note").exists()
+        self.ended_so(status, server.error())
+        server.env = {}
+        if line:
+            server.words = server.words[: -len(PAST)]
+        else:
+            check([it.name for it in server.folder.iterdir() if it.name != "lock"], [], "what a start leaves that is refused")
+        server.start()
+        if "done 1" in heard:
+            check(server.replies("counter", "read"), ["done 7"])
+        check(server.end()[1], 0, "the status at the end")
+        server.is_whole(*crowd.NAMES)
+
+    def ended_so(self, status: int | None, error: str) -> None:
+        """It may end with this status, and says why."""
+        holds(status in self.kind.statuses, f"status {status}, standard error {error!r}")
+        if status == 3:
+            is_told(self.kind, error)
+        holds(status != 4 or error == "out of memory\n", f"status 4, standard error {error!r}")
 
     def tried(self, folder: pathlib.Path) -> None:
         # What was kept before has to be there too.
-        server = Server(folder, crowd.SOURCE, at_path=True)
-        server.start()
+        server = Server(folder, crowd.SOURCE, at_path=True).start()
         crowd.fill_ledger(server)
         server.kill()
         clients = Crowd(server, 4, random.Random(self.number))
@@ -148,10 +206,8 @@ class Run:
             status = server.awaited()
             server.close()
         error = server.error()
-        clients.killed()
-        holds(status in self.kind.statuses, f"status {status}, standard error {error!r}")
-        holds(status != 3 or "fault" in error, f"status 3, standard error {error!r}")
-        holds(status != 4 or error == "out of memory\n", f"status 4, standard error {error!r}")
+        clients.gone()
+        self.ended_so(status, error)
         holds(status or self.was_refused or clients.is_done(), "nothing was refused, and clients have no answers")
         server.env = {}
         server.start()
@@ -203,9 +259,7 @@ class Pumping(threading.Thread):
 
     @staticmethod
     def pump(it: Talk) -> None:
-        text = f"call say '{crowd.LONG}'\n".encode() * PUMPED
-        saying = threading.Thread(target=send, args=(it.socket, text), daemon=True)
-        saying.start()
+        saying = it.shout(f"call say '{crowd.LONG}'", PUMPED)
         left = PUMPED
         while left:
             line = it.hear()
@@ -225,11 +279,6 @@ class Pumping(threading.Thread):
                 # (a name that could not come in may have asked for less)
                 it.say(f"call #{key} say 'e{key}'")
                 check(it.hear(), f"repeat {answer.removeprefix('repeat ')}", f"the answer of eve's call {key}")
-
-
-def send(it: socket.socket, text: bytes) -> None:
-    with contextlib.suppress(OSError):
-        it.sendall(text)
 
 
 def spread(count: int) -> list[int]:
@@ -267,7 +316,7 @@ def main() -> int:
     wanted = [it for it in kinds() if all(word in it.name for word in words)]
     lanes = concurrent.futures.ThreadPoolExecutor(given["jobs"])
     with tempfile.TemporaryDirectory(prefix="refuse-") as folder, lanes as pool:
-        libraries = losing.build(folder), refusing.build(folder)
+        libraries = preload("fail.c", folder), preload("refuse.c", folder)
         passed = failed = 0
         for kind in wanted:
             runs = max(1, given["runs"] // len(wanted))

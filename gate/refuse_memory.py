@@ -2,7 +2,7 @@
 
 usage: gate/refuse_memory [--program FILE] [--jobs N] [WORDS OF A TITLE ..]
 
-The program is the one that ./pathserve runs, or FILE. It runs on each case of cases/ with `--- growths` with its first
+ It runs on each case of cases/ with `--- growths` with its first
 growth (malloc, realloc) refused, then with its second, and so on until a run makes no such growth. It must then either
 answer as if nothing had been refused, or end with status 4, `out of memory` on standard error and a prefix of its
 answers. A script may also tell `failed N memory` of a call in whose steps memory was refused: its answers are then those
@@ -10,7 +10,6 @@ of the whole run up to the steps of that call. What `--explain` tells may lack; 
 may stand before `out of memory`. A crash, a hang or another answer is a failure.
 N runs go side by side (the processors). Where there is no `cc` nothing is run. With words, only the cases whose names
 have one of them.
-The last line is `refuse_memory: N passed, M failed`; the exit status is 0 where M is 0 and N is not.
 """
 import argparse
 import collections
@@ -25,8 +24,7 @@ from collections.abc import Callable, Iterator
 from typing import NamedTuple
 
 from gate import cases
-from gate.refusing import build
-from gate.tried import TOP, given_words, lacks, program, whole
+from gate.tried import TOP, given_words, lacks, preload, program, whole
 
 SECONDS = 60
 MOST_GROWTHS = 100_000
@@ -139,7 +137,7 @@ def main() -> int:
     counts = []
     with tempfile.TemporaryDirectory() as name, concurrent.futures.ThreadPoolExecutor(given.jobs) as pool:
         folder = pathlib.Path(name)
-        library = build(folder)
+        library = preload("refuse.c", folder)
         wanted = (it for it in program_runs(folder) if not given.names or any(name in it.name for name in given.names))
         for tried in wanted:
             counts.append(each_growth(pool, 2 * given.jobs, library, folder, tried))

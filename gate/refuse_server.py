@@ -10,8 +10,7 @@ call whose end was told, with that reply. Where clients could come the trace is 
 also where memory was refused; with status 0 no value file is left. A session that ends before its client has status 4. What the one client was told has to be a front of what it is told where nothing is refused, but for `no Memory` and
 `failed N memory`, which change nothing. N runs go side by side (the processors).
 
-The program is the one that ./pathserve runs, or FILE. Where there is no `cc` nothing is run.
-The last line is `refuse_server: N passed, M failed`; the exit status is 0 where M is 0 and N is not.
+ Where there is no `cc` nothing is run.
 """
 import argparse
 import concurrent.futures
@@ -25,9 +24,8 @@ from collections.abc import Sequence
 from typing import Any, Union
 
 from gate.clients import Connection, Wrong
-from gate.refusing import build
 from gate.served import Server, ended_calls, traced_wrongly
-from gate.tried import TOP, given_words, lacks, program, whole
+from gate.tried import TOP, given_words, lacks, preload, program, whole
 
 LINES = ("cancel 1", "open cell", "call put 7", "call get", "dance", "call bump 5", "cancel 1", "call get", "call put 1 2", "quit")
 CALLS = [it.removeprefix("call ") for it in LINES if it.startswith("call ")]
@@ -341,7 +339,7 @@ def main() -> int:
     # Once, before the threads ask.
     program()
     with tempfile.TemporaryDirectory() as folder, concurrent.futures.ThreadPoolExecutor(given.jobs) as pool:
-        library = build(folder)
+        library = preload("refuse.c", folder)
         plays: tuple[Play, ...] = (One, Two, Again)
         counts = [each_growth(pool, 8 * given.jobs, library, play, given.numbers) for play in plays]
     passed, failed = (sum(it[at] for it in counts) for at in (0, 1))

@@ -2,9 +2,6 @@
 
 usage: gate/run_cases [--program FILE] [FOLDER|FILE|WORDS OF A TITLE ..]
        gate/run_cases --input TITLE    prints the inputs of the cases of this title, and runs nothing
-
-The program is the one that ./pathserve runs, or FILE. The last line is `run_cases: N passed, M failed`; the exit status is 0
-where M is 0 and N is not.
 """
 import concurrent.futures
 import contextlib

@@ -5,9 +5,8 @@ usage: gate/run_sessions [--program FILE] [FOLDER|FILE|WORDS OF A TITLE ..]
 After each case in which a server ends with status 0, `pathserve audit` has to call the trace of each of its objects legal, with as
 many entries as the server says, and each call whose end a connection was told has to stand in it so.
 
-The program is the one that ./pathserve runs, or FILE. A case in which nothing comes for a while, or that lasts too long, fails; where many
-have failed the others are not run, and cases whose client is in C where there is no `cc`. The last line is `run_sessions: N passed, M failed`; the exit status is 0 where M is 0 and
-N is not.
+ A case in which nothing comes for a while, or that lasts too long, fails; where many
+have failed the others are not run, and cases whose client is in C where there is no `cc`.
 """
 import concurrent.futures
 import contextlib

@@ -84,7 +84,8 @@ class Process:
         return there(self.begun, "the process of a server")
 
     def begin_by(self, words: Sequence[object], **more: Any) -> None:
-        """Starts it by this command: standard input and output are pipes, and so is standard error where it is no file."""
+        """Starts it by this command: standard input and output are pipes, and so is standard error where it is no
+        file."""
         pipe = subprocess.PIPE
         with contextlib.ExitStack() as stack:
             errors: int | BinaryIO = stack.enter_context(self.errors.open("wb")) if self.errors else pipe
@@ -157,9 +158,10 @@ class Server(Process):
     """`pathserve serve` or `pathserve keep` of the objects of a file over a folder. It is at the port, or the path of a
     socket, `place`, or at another port each time that it is started.
 
-    `env` is more in its environment, `files` how many it may have open, `user` who runs it, and `by` the command that
-    is called in the place of the program. Standard error goes to the file `errors`, or to a pipe. A server that
-    `survives` is not killed by a write past a limit on the size of its files: that fails, as one on a full disk does."""
+    `env` is more in its environment, `files` how many it may have open, `user` who runs it, and `by` the command
+    that is called in the place of the program. Standard error goes to the file `errors`, or to a pipe. A server that
+    `survives` is not killed by a write past a limit on the size of its files: that fails, as one on a full disk
+    does."""
 
     def __init__(self, command: str, file: pathlib.Path, folder: pathlib.Path, *words: object, place: object = None,
                  env: Mapping[str, str] | None = None, files: int | None = None, user: int | None = None,
@@ -193,13 +195,19 @@ class Server(Process):
                       env={**os.environ, **self.env}, restore_signals=not self.survives,
                       user=self.user, group=self.user, extra_groups=None if self.user is None else [])
 
-    def start(self) -> None:
+    def start(self: Self) -> Self:
         """Starts it, and waits until it listens."""
         self.begin()
         line = self.line()
         if line != f"listening {self.place}\n":
             said, status, error = self.ended()
             raise Wrong(f"the server said {line + said + error!r}, status {status}")
+        return self
+
+    def revive(self) -> None:
+        """Kills it, and starts it again."""
+        self.kill()
+        self.start()
 
     def refused(self, seconds: float = SECONDS) -> Ended:
         """Starts it, once more where it runs, which comes to nothing."""
@@ -210,8 +218,11 @@ class Server(Process):
         finally:
             self.begun, self.place = begun, place
 
-    def connect(self, seconds: float = SECONDS) -> socket.socket:
+    def connect(self, seconds: float = SECONDS, buffer: int = 0) -> socket.socket:
+        """A connection; the system holds so many bytes for it, about, where that is said."""
         made = socket.socket(socket.AF_UNIX if self.at_path else socket.AF_INET)
+        if buffer:
+            made.setsockopt(socket.SOL_SOCKET, socket.SO_RCVBUF, buffer)
         made.settimeout(seconds)
         try:
             made.connect(self.place if self.at_path else ("127.0.0.1", self.port))
@@ -230,8 +241,9 @@ class Server(Process):
 
 
 class Told:
-    """What one connection was told: the object that it opened and its next key there, and how each of its calls ended. A call has
-    to end before the next one is accepted, or anything else is answered but a cancel; and a repeat has to say what was said before."""
+    """What one connection was told: the object that it opened and its next key there, and how each of its calls
+    ended. A call has to end before the next one is accepted, or anything else is answered but a cancel; and a repeat
+    has to say what was said before."""
 
     def __init__(self) -> None:
         self.object: str | None = None
@@ -262,32 +274,45 @@ class Told:
 
 
 def ended_calls(trace: str) -> dict[int, str]:
-    """What a trace says of how each call ended."""
-    found = {}
+    """What a trace says of how each call ended, or several epochs, one behind the other, each of which counts from
+    its base."""
+    found, base = {}, 0
     for line in trace.splitlines():
         words = line.split(" ", 2)
-        if words[0] == "end":
-            found[int(words[1])] = words[2]
+        if words[0] == "base":
+            base = int(words[1])
+        elif words[0] == "end":
+            found[base + int(words[1])] = words[2]
     return found
 
 
-def audited(objects: pathlib.Path, trace: pathlib.Path) -> str:
-    """What `pathserve audit` says of a trace."""
-    words: list[str | pathlib.Path] = [program(), "audit", objects, trace]
-    return subprocess.run(words, capture_output=True, text=True, check=False, timeout=SECONDS).stdout
+def run(command: str, *words: object, seconds: float = SECONDS, **more: Any) -> Ended:
+    """What the program says for these words, and ends with, where nothing is said to it."""
+    given: dict[str, Any] = {"stdin": subprocess.DEVNULL, "stdout": subprocess.PIPE, "stderr": subprocess.PIPE, **more}
+    ran = subprocess.run([str(it) for it in (program(), command, *words)], text=True, check=False, timeout=seconds, **given)
+    return Ended(ran.stdout, ran.returncode, ran.stderr)
+
+
+def is_whole(objects: pathlib.Path, folder: pathlib.Path, *names: str) -> None:
+    """Raises where a folder of kept objects is not legal, or has others than these, where they are given."""
+    said, status, _ = run("audit", objects, folder)
+    found = [it.split(" ")[0] for it in said.splitlines() if it.endswith(" whole")]
+    if status or len(found) != len(said.splitlines()) or names and tuple(found) != names:
+        raise Wrong(f"audit says {said!r}, status {status}")
 
 
 def traced_wrongly(objects: pathlib.Path, folder: pathlib.Path, name: str, all_told: Iterable[Told],
                    entries: int) -> list[str]:
-    """What the trace of an object in a folder has wrong: it has to be legal, with so many entries, and to end each call as it
-    was told."""
-    trace = folder / f"{name}.trace"
-    if not trace.exists():
+    """What the trace of an object in a folder has wrong, or its epochs, where it is kept: they have to be legal,
+    with so many entries, and to end each call as it was told."""
+    trace, epochs = folder / f"{name}.trace", sorted(folder.glob(f"{name}.*.trace"))
+    if not epochs and not trace.exists():
         return [f"{name}: no trace"]
-    ends = ended_calls(trace.read_text(encoding="ascii"))
-    said = audited(objects, trace)
-    is_whole = said == f"legal {entries}\n" and len(ends) == entries
-    wrong = [] if is_whole else [f"{name}: {entries} entries, {len(ends)} ends in the trace, audit says {said!r}"]
+    ends = ended_calls("".join(it.read_text(encoding="ascii") for it in epochs or [trace]))
+    said = run("audit", objects, folder if epochs else trace).said
+    legal = rf"(?m)^{name} epochs \d+ entries {entries} whole$" if epochs else f"^legal {entries}\n$"
+    is_legal = re.search(legal, said) and len(ends) == entries
+    wrong = [] if is_legal else [f"{name}: {entries} entries, {len(ends)} ends in the trace, audit says {said!r}"]
     for number, told in ((number, end) for it in all_told if it.object == name for number, end in it.ends.items()):
         if told == "cancelled" and number in ends:
             wrong.append(f"{name}: call {number} was told cancelled, and ended")

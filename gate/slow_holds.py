@@ -53,14 +53,16 @@ class HeldWorld:
         return held
 
     def take_past(self, held: list[Held], number: int, ending: Ending) -> None:
-        """What is held past the end of a call."""
+        """What is held past the end of a call: what one leaves that was not done is what was held."""
+        if ending[0] != "done":
+            return
         call = self.world.calls[number - 1]
         fits = fitting(held, self.hold_by(call.op), call.arguments)
         if fits:
             own = [it for it in fits if it.session == call.session]
             held.remove(own[-1] if own else fits[0])
         for hold in self.made.holds:
-            if hold.op == call.op and ending[0] == "done":
+            if hold.op == call.op:
                 held.append(Held(number, call.session, hold, [*call.arguments, *([] if ending[1] is None else [ending[1]])]))
 
     def refused(self, session: int, op: str, arguments: Sequence[Datum], is_new: bool = True) -> "list[str] | None":

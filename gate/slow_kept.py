@@ -139,6 +139,24 @@ class Hall:
         call.speaker.tell("cancelled", call.number)
 
 
+def there_are(names: Iterable[str]) -> str:
+    """What stands behind the word of a refusal for people: these names, in 1,000 bytes."""
+    text, room, sign = "there are", 980, " "
+    for name in names:
+        room -= len(sign) + len(name)
+        if room < 0:
+            return f"{text} .."
+        text, sign = f"{text}{sign}{name}", ", "
+    return text
+
+
+def declared(made: Object, op: str) -> str:
+    """How an operation is declared, each parameter with its kind."""
+    names, kind = there(re.search(rf"entry (?:procedure|function) {op}\b(\([^)]*\))?( : \w+)?;", made.text)).groups("")
+    params = [f"{name} : {end}" for it in names[1:-1].split("; ") for front, _, end in [it.partition(" : ")] for name in front.split(", ")]
+    return f"{op}({'; '.join(params)}){kind}" if names else f"{op}{kind}"
+
+
 class Slow:
     """All objects of a server, and what clients say."""
 
@@ -215,7 +233,7 @@ class Slow:
             return speaker.tell("no", "Opened")
         hall = self.halls.get(name.lower())
         if hall is None:
-            return speaker.tell("no", "NoObject")
+            return speaker.tell("no", "NoObject", there_are(self.halls))
         if client is None:
             speaker.hall = hall
             return speaker.tell("opened", name.lower())
@@ -233,9 +251,9 @@ class Slow:
             if key != used + 1:
                 return self.again(speaker, key, op, arguments)
         if op not in hall.made.operations:
-            return speaker.tell("no", "UnknownOp")
+            return speaker.tell("no", "UnknownOp", there_are(hall.made.operations))
         if not hall.made.operations[op].takes(arguments):
-            return speaker.tell("no", "BadArgs")
+            return speaker.tell("no", "BadArgs", declared(hall.made, op))
         return self.ended(hall.called(speaker, op, arguments))
 
     @staticmethod
@@ -288,6 +306,13 @@ class Slow:
         speaker.held = []
         if speaker.guest:
             speaker.guest.speaker = None
+
+    def end(self, speaker: "Speaker") -> None:
+        """The server ends in order: one with a name whose call waits is told nothing more, and its call is forgotten with
+        the server."""
+        if speaker.has_left or not speaker.waits or not speaker.guest:
+            return self.leave(speaker)
+        speaker.has_left, speaker.held, speaker.guest.speaker = True, [], None
 
     def die(self, speakers: Iterable[Speaker]) -> None:
         """The server is killed: nobody is told anything, and who waits is forgotten."""

@@ -2,6 +2,7 @@
 trials, which are run, told of and counted in one way, and by `python3 -m unittest` too."""
 import pathlib
 import shutil
+import subprocess
 import sys
 import time
 import unittest
@@ -13,8 +14,8 @@ from typing import Any, Optional, TypeVar, Union
 
 from tools.ready import TOP, given_words, new_folder, program
 
-__all__ = ["TOP", "Trial", "Wrong", "check", "given_words", "holds", "in_folder", "lacks", "loads", "new_folder",
-           "program", "run", "there", "title_of", "until", "whole"]
+__all__ = ["TOP", "Trial", "Wrong", "check", "given_words", "holds", "in_folder", "is_one_of", "lacks", "loads",
+           "new_folder", "preload", "program", "run", "there", "title_of", "until", "whole"]
 # How long anything may take that a trial waits for, in seconds.
 SECONDS = 120
 T = TypeVar("T")
@@ -34,6 +35,10 @@ def check(found: object, wanted: object, what: str = "it") -> None:
 def holds(it: object, what: str) -> None:
     if not it:
         raise Wrong(what)
+
+
+def is_one_of(found: object, *wanted: object) -> None:
+    holds(found in wanted, f"{found!r}, not {' or '.join(map(repr, wanted))}")
 
 
 def there(it: Optional[T], what: str = "what is looked for") -> T:
@@ -58,6 +63,14 @@ def lacks(tool: str) -> bool:
         return False
     print(f"not run: {tool}")
     return True
+
+
+def preload(source: Union[str, pathlib.Path], folder: Union[str, pathlib.Path]) -> pathlib.Path:
+    """A library that is loaded before a program: this source in C, a file beside this one, say, built in a folder."""
+    file = TOP / "gate" / source
+    built = pathlib.Path(folder) / f"lib{file.stem}.so"
+    subprocess.run(["cc", "-O2", "-shared", "-fPIC", "-o", built, file, "-ldl"], check=True)
+    return built
 
 
 class Trial(unittest.TestCase):

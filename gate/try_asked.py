@@ -8,8 +8,6 @@ to crates of this repository. Last each of its crates that has wrong bodies is l
 imports from a crate below, each `Type::name` of an imported type, and each definition that it imports have to be among
 what its digest is made of; what stands where is found here by other means than there. And no source may have a form that
 the reader of sources does not know. Nothing is proved.
-
-The last line is `try_asked: N passed, M failed`; the exit status is 0 where M is 0 and N is not.
 """
 import collections
 import pathlib

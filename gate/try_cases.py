@@ -1,8 +1,6 @@
 """Reads small files of cases: those that say what they mean, and those that the reader has to refuse.
 
 usage: gate/try_cases
-
-The last line is `try_cases: N passed, M failed`; the exit status is 0 where M is 0 and N is not.
 """
 import pathlib
 import tempfile

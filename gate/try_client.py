@@ -4,30 +4,32 @@ usage: gate/try_client CMD [WORD ..]        the client that this command drives
        gate/try_client [--program FILE]     each client of the repository (gate/drivers); and all of them at once over
                                             `pathserve keep`, which is killed by `kill -9` meanwhile
 
-CMD drives a client by lines. It first writes `can` and what the client can beside calls: `values` (it reads replies as
-values of its language), `within` (a call has a time), `name` (it has a name, and keys), `ahead` (it sends calls without
-waiting for those before them). What needs anything else is left out, and said. Then it reads a line, does it, and writes
-what came of it, at once; up to the end of its input:
+CMD is one file that can be run (a script that begins with `#!`, say, and runs the rest), and drives a client by lines. It
+first writes `can` and what the client can beside calls: `values` (it reads replies as values of its language), `within`
+(a call has a time), `name` (it has a name, and keys), `ahead` (it sends calls without waiting for those before them),
+`tells` (it tells why in words), `host` (it reaches other hosts), `pauses` (it tries a server again behind pauses of 50 ms
+to 1 s, at random), `alive` (it sets SO_KEEPALIVE). What needs anything else is left out, and said. Then it reads a line,
+does it, and writes what came of it, at once; up to the end of its input:
 
-  open PLACE OBJECT MS CLIENT   opens OBJECT at this port or path, which is tried for MS milliseconds, by the name CLIENT,
-                                or without one where that is `-`: `opened`, or how it failed
+  open PLACE OBJECT MS CLIENT   opens OBJECT at this port, HOST:PORT or path, which is tried for MS milliseconds, by the
+                                name CLIENT, or without one where that is `-`: `opened`, or how it failed
   call MS OP ARG ..             calls; where MS is not 0, the call is cancelled that still waits after MS milliseconds:
                                 how it ended
   ahead K                       the next K lines are `call 0 ..`: once the last one is read all are sent ahead; K lines,
                                 how each ended
-  close                         quits: `closed`
+  told                          what the message was of the last one that failed, in one line
+  close                         quits: `closed`, and behind it what is left that should not be (timers, threads)
 
 ARG is an integer or a text, as a server reads them. How a call ended is one of
 
   done, done VALUE       its reply, which the driver writes from a value of its language as a server would
   refused WORD, failed WORD, cancelled
-  no WORD                the server did not take the call, or did not open the object
+  no WORD                the server did not take the call, or did not open the object; what is for people is left out
   no server              nobody answers, or the server opens nothing, so nothing was called
   lost                   it is not known whether the call was done
   expired                the session of this name is not as the client left it (docs/CLIENTS.md)
 
-A call of a client whose connection was lost makes a new one. The last line is `try_client: N passed, M failed`; the exit
-status is 0 where M is 0 and N is not.
+A call of a client whose connection was lost makes a new one.
 """
 import collections
 import concurrent.futures
@@ -47,9 +49,9 @@ import time
 from collections.abc import Callable, Iterable, Sequence
 from typing import Any, TypeVar
 
-from gate import kept
-from gate.fakes import HOLDS, RESETS, Fake, FakeMeter, FakeServer, Rows
-from gate.tried import TOP, Wrong, given_words, lacks, new_folder, there, whole
+from gate import crowd, kept
+from gate.fakes import HOLDS, METER, OPENED, RESETS, Fake, FakeMeter, FakeServer, Rows, opened
+from gate.tried import TOP, Wrong, check, given_words, holds, is_one_of, lacks, new_folder, there, until, whole
 
 DRIVERS = TOP / "gate" / "drivers"
 # How long anything may take, and how much longer than its time a call, in seconds.
@@ -58,11 +60,6 @@ SECONDS, LATER = 20, 5
 LANES = 3
 
 T = TypeVar("T")
-
-
-def check(found: object, *wanted: object) -> None:
-    if found not in wanted:
-        raise Wrong(f"{found!r}, not {' or '.join(map(repr, wanted))}")
 
 
 class Client:
@@ -94,11 +91,25 @@ class Client:
         return self.hear(seconds)
 
     def open(self, server: Fake, name: str = "-", wait: int = 9000, wanted: str = "opened") -> None:
-        check(self.say(f"open {server.port} {server.name} {wait} {name}"), wanted)
+        self.open_at(server.port, wanted, server.name, name, wait)
+
+    def open_at(self, place: object, wanted: str, called: str = "cell", name: str = "-", wait: int = 9000) -> None:
+        begun = time.monotonic()
+        check(self.say(f"open {place} {called} {wait} {name}"), wanted)
+        took = time.monotonic() - begun
+        if took > wait / 1000 + LATER:
+            raise Wrong(f"to open for {wait} ms took {took:.1f} s")
+
+    def told(self, *wanted: str) -> None:
+        """The last message has these words, in any case."""
+        if "tells" in self.can:
+            said = self.say("told")
+            if any(it.lower() not in said.lower() for it in wanted):
+                raise Wrong(f"it told {said!r}, without {' or '.join(map(repr, wanted))}")
 
     def call(self, text: str, *wanted: str, within: int = 0) -> None:
         begun = time.monotonic()
-        check(self.say(f"call {within} {text}"), *wanted)
+        is_one_of(self.say(f"call {within} {text}"), *wanted)
         took = time.monotonic() - begun
         if within and took > within / 1000 + LATER:
             raise Wrong(f"a call of {within} ms took {took:.1f} s")
@@ -122,13 +133,8 @@ class Client:
         there(self.ran.stdout).close()
 
 
-OPENED = ("open cell", b"opened cell\n")
 QUIT = ("quit", b"bye\n")
 GET = "call get"
-
-
-def opened(key: int, answer: bytes | None = None) -> tuple[str, bytes]:
-    return ("open cell as ann", answer or f"opened cell next {key}\n".encode())
 
 
 # Tries: each has a title, what the client has to be able to, and what is done.
@@ -163,7 +169,8 @@ answered("a procedure", [(GET, b"accepted 1\ndone 1\n")], "done")
 answered("a number of 64 bits", [(GET, b"accepted 18446744073709551615\ndone 18446744073709551615 5\n")], "done 5")
 for last in ("refused N known", "failed N device", "failed N memory", "failed N damaged", "cancelled N"):
     answered(last, [(GET, f"accepted 3\n{last}\n".replace("N", "3").encode())], last.replace(" N", ""))
-for word in ("UnknownOp", "BadArgs", "Full", "HistoryFull", "Memory", "Gone", "LineTooLong"):
+WORDS = ("UnknownOp", "BadArgs", "Full", "HistoryFull", "Memory", "Gone", "LineTooLong")
+for word in WORDS:
     answered(f"no {word}", [(GET, f"no {word}\n".encode())], f"no {word}")
 answered("an answer in pieces", [(GET, b"accepted 12\ndone 12 'a b'\n")], "done 'a b'", pause=0.002)
 answered("the reply of another call", [(GET, b"accepted 12\ndone 1 5\n")], "lost")
@@ -199,10 +206,78 @@ def _(client: Client) -> None:
         check(server.heard[-1], "quit\n")
 
 
+# What stands behind a word, for people, in at most 1,000 bytes: the word decides.
+TEXTS = ("there are get, put", "lines", "put(item : text)", "done 1 5", "no Full", "it''s  'x y' InUse", ".." * 500)
+
+
+@attempt("a word, and a text for people behind it")
+def _(client: Client) -> None:
+    rows = [(GET, f"no {word} {text}\n".encode()) for word in WORDS[:-1] for text in TEXTS]
+    with FakeServer([OPENED, *rows, (GET, b"accepted 1\ndone 1 5\n"), (GET, b"no LineTooLong a line\n")]) as server:
+        client.open(server)
+        for word in WORDS[:-1]:
+            for text in TEXTS:
+                client.call("get", f"no {word}")
+                client.told(word, text, "get")
+        client.call("get", "done 5")
+        client.call("get", "no LineTooLong")
+
+
 @attempt("an object that is not there")
 def _(client: Client) -> None:
-    with FakeServer([("open cell", b"no NoObject\n")]) as server:
-        client.open(server, wanted="no NoObject")
+    for text in ("", " there are buffer, queue", " InUse"):
+        with FakeServer([("open cell", f"no NoObject{text}\n".encode())]) as server:
+            client.open(server, wanted="no NoObject")
+            client.told("NoObject", text.strip(), "open cell")
+
+
+@attempt("another host", "host")
+def _(client: Client) -> None:
+    for host in ("127.0.0.1", "localhost"):
+        with FakeServer([OPENED, (GET, b"accepted 1\ndone 1 5\n")]) as server:
+            client.open_at(f"{host}:{server.port}", "opened")
+            client.call("get", "done 5")
+
+
+@attempt("a connection that is looked at while it stands still", "alive")
+def _(client: Client) -> None:
+    with FakeServer([OPENED, (GET, b"accepted 1\ndone 1 5\n"), HOLDS]) as server:
+        client.open(server)
+        client.call("get", "done 5")
+        until(lambda: 0 < next_look(server) <= 10, "it is not looked at after 10 s", LATER)
+
+
+def next_look(server: Fake) -> float:
+    """The seconds until the system asks for a sign of the other side of the first connection to this server; 0 where it does not."""
+    own = server.open[0].getpeername()[1]
+    for table in ("tcp", "tcp6"):
+        for line in pathlib.Path("/proc/net", table).read_text(encoding="ascii").splitlines():
+            _, local, remote, _, _, timer, *_ = line.split()
+            if local.endswith(f":{own:04X}") and remote.endswith(f":{server.port:04X}"):
+                kind, when = timer.split(":")
+                return int(when, 16) / os.sysconf("SC_CLK_TCK") if kind == "02" else 0
+    return 0
+
+
+class Closing(Fake):
+    """Closes each connection at once, and knows when it came."""
+
+    def __init__(self) -> None:
+        self.came: list[float] = []
+        super().__init__()
+
+    def serve(self, it: socket.socket, number: int) -> None:
+        self.came.append(time.monotonic())
+
+
+@attempt("pauses between tries", "pauses")
+def _(client: Client) -> None:
+    with Closing() as server:
+        client.open(server, wait=2000, wanted="no server")
+        # (the last try is at the end of its time; a machine that has much else to do makes each longer)
+        gaps = [later - sooner for sooner, later in itertools.pairwise(server.came)][:-1]
+        if len(gaps) > 25 or max(gaps) > 1 + LATER or max(gaps) - min(gaps) < 0.1:
+            raise Wrong(f"the pauses are {gaps}")
 
 
 @attempt("no server")
@@ -323,6 +398,7 @@ comes_back("a server that may have been started anew, at the first call", "lost"
 comes_back("a server that has the first call", "done 34", [opened(2), ("call #1 get", b"repeat done 9 34\n")], key=1)
 comes_back("a key that is too far", "expired", [opened(7), HOLDS])
 comes_back("a key that somebody else has used", "expired", [opened(6), ("call #5 get", b"no KeyReused\n")])
+comes_back("a key that somebody else has used, as is told in words", "expired", [opened(6), ("call #5 get", b"no KeyReused get 7\n")])
 comes_back("a server that is gone", "lost", wait=500)
 comes_back("a server that has not the call, and stops", "no Gone", [opened(5), ("call #5 get", b"no Gone\n")])
 comes_back("a server that has the call, and stops", "lost", [opened(6), ("call #5 get", b"no Gone\n")], wait=500)
@@ -360,10 +436,36 @@ def _(client: Client) -> None:
         client.call("add 5", "done 10")
 
 
-@attempt("a name that stays in use", "name")
+@attempt("a name that stays in use", "name", "within")
 def _(client: Client) -> None:
-    with FakeMeter(in_use=9999) as server:
+    for wait in (0, 150, 1200):
+        with FakeMeter(in_use=9999) as server:
+            client.open(server, "ann", wait=wait, wanted="no InUse")
+            client.told("InUse", "open meter as ann")
+
+
+@attempt("a name that is in use for a while, as is told in words", "name")
+def _(client: Client) -> None:
+    use = ("open cell as ann", b"no InUse another connection has it\n")
+    with FakeServer([use, use, use, opened(5), ("call #5 get", b"accepted 9\ndone 9 1\n")]) as server:
+        client.open(server, "ann")
+        client.call("get", "done 1")
+
+
+@attempt("a name that is in use, and nothing is said any more", "name", "within")
+def _(client: Client) -> None:
+    with FakeServer([("open cell as ann", b"no InUse\n"), ("open cell as ann", b""), HOLDS]) as server:
         client.open(server, "ann", wait=150, wanted="no InUse")
+
+
+@attempt("the first call of a name over a connection that ended behind `open`", "name")
+def _(client: Client) -> None:
+    rows = [opened(1), ("call #1 get", b"accepted 1\ndone 1 5\n")]
+    for end in ((), (RESETS,)):
+        with FakeServer([opened(1), *end], rows) as server:
+            client.open(server, "ann")
+            time.sleep(0.3)
+            client.call("get", "done 5")
 
 
 @attempt("a name that is in use when it comes back", "name")
@@ -426,9 +528,17 @@ def _(client: Client) -> None:
         check(client.ahead("add 5", "pop", "add 5"), ["done 5", "no UnknownOp", "done 10"])
 
 
-@attempt("calls sent ahead under keys, of which some are not taken", "ahead", "name")
-def _(client: Client) -> None:
-    with FakeMeter(together=7) as server:
+class Telling(FakeMeter):
+    """A meter that says why in words, too."""
+
+    def called(self, line: str, words: list[str], named: bool) -> bytes:
+        answer = super().called(line, words, named)
+        return answer.replace(b"\n", b" there is add\n") if answer.startswith(b"no ") else answer
+
+
+def not_all_taken(client: Client, server: FakeMeter) -> None:
+    """Of calls that are sent ahead under keys some are not taken."""
+    with server:
         client.open(server, "ann")
         server.together = 1
         for _ in range(3):
@@ -437,6 +547,13 @@ def _(client: Client) -> None:
             wanted = ["done {}", "no UnknownOp", "done {}", "done {}", "no UnknownOp", "no UnknownOp", "done {}"]
             numbers = iter(range(had + 5, had + 25, 5))
             check(found, [it.format(next(numbers)) if "{}" in it else it for it in wanted])
+
+
+TRIES += [
+    ("calls sent ahead under keys, of which some are not taken", ("ahead", "name"), lambda client: not_all_taken(client, FakeMeter(together=7))),
+    ("calls sent ahead under keys, of which some are not taken, as is told in words", ("ahead", "name"),
+     lambda client: not_all_taken(client, Telling(together=7))),
+]
 
 
 @attempt("calls sent ahead without a name, whose connection breaks", "ahead")
@@ -463,11 +580,30 @@ def _(client: Client) -> None:
 # The clients of the repository.
 
 
+def barred(words: Sequence[str]) -> None:
+    """A socket that this user may not open: it is said at once, and in the words of the system."""
+    # (root may open each, but where it gives that up)
+    drops = ["setpriv", "--bounding-set=-dac_override,-dac_read_search"] if os.getuid() == 0 else []
+    with new_folder("barred-") as room, socket.socket(socket.AF_UNIX) as it:
+        it.bind(str(room / "socket"))
+        it.listen()
+        (room / "socket").chmod(0)
+        client = Client([*drops, *words])
+        try:
+            begun = time.monotonic()
+            client.open_at(room / "socket", "no server", wait=9000)
+            if time.monotonic() - begun > LATER:
+                raise Wrong(f"it took {time.monotonic() - begun:.1f} s")
+            client.told("permission denied", str(room / "socket"))
+        finally:
+            client.end()
+
+
 class Crew:
     """Clients of one kind, each of which does one try at a time."""
 
-    def __init__(self, name: str, words: Iterable[object], build: Sequence[str | pathlib.Path] = ()) -> None:
-        self.name, self.words, self.build = name, list(map(str, words)), build
+    def __init__(self, name: str, words: Iterable[object], *builds: Sequence[str | pathlib.Path]) -> None:
+        self.name, self.words, self.builds = name, list(map(str, words)), builds
         self.idle: queue.LifoQueue[Client] = queue.LifoQueue()
         self.made: list[Client] = []
 
@@ -492,8 +628,8 @@ class Crew:
 
     def tries(self) -> list[tuple[str, str | None]]:
         """What came of each try: a title, and what is wrong."""
-        if self.build:
-            ran = subprocess.run(self.build, capture_output=True, text=True, timeout=10 * SECONDS, check=False)
+        for build in self.builds:
+            ran = subprocess.run(build, capture_output=True, text=True, timeout=10 * SECONDS, check=False)
             if ran.returncode or ran.stderr:
                 return [(f"{self.name}: it is built", ran.stdout + ran.stderr)]
         can = self.one(lambda client: client.can)
@@ -509,6 +645,8 @@ class Crew:
             except Exception as error:  # whatever a client does wrong is told, and the others are tried
                 return it[0], f"{type(error).__name__}: {str(error)[:600]}"
 
+        if os.getuid() != 0 or not lacks("setpriv"):
+            mine.append(("a socket that one may not open", ("within",), lambda client: barred(self.words)))
         with concurrent.futures.ThreadPoolExecutor(LANES) as lanes:
             # (those that wait for a time first)
             found = list(lanes.map(tried, sorted(mine, key=lambda it: "within" not in it[1])))
@@ -518,6 +656,7 @@ class Crew:
 def clients(room: pathlib.Path) -> list[Crew]:
     """The clients of the repository, as the tools are there to run them."""
     build: list[str | pathlib.Path]
+    jar: list[str | pathlib.Path]
     drive = ["env", f"PYTHONPATH={TOP / 'clients' / 'python'}", sys.executable, DRIVERS / "drive.py"]
     found = [Crew("Python", drive), Crew("asyncio", [*drive, "aio"])]
     if not lacks("node"):
@@ -525,92 +664,74 @@ def clients(room: pathlib.Path) -> list[Crew]:
     if not lacks("javac"):
         # (a machine that starts at once, and takes little of the others)
         fast = ["-XX:TieredStopAtLevel=1", "-XX:+UseSerialGC"]
-        sources = [TOP / "clients" / "java" / "PathClient.java", DRIVERS / "Drive.java"]
-        build = ["javac", *(f"-J{it}" for it in fast), "-Xlint:all", "-Werror", "-d", room, *sources]
+        words = [*(f"-J{it}" for it in fast), "-Xlint:all", "-Werror"]
+        jar = [TOP / "clients" / "java" / "make_jar", room, *words]
+        build = ["javac", *words, "-cp", room / "pathclient.jar", "-d", room, DRIVERS / "Drive.java"]
         # (what takes longest comes first)
-        found.insert(0, Crew("Java", ["java", *fast, "-cp", room, "Drive"], build))
+        found.insert(0, Crew("Java", ["java", *fast, "-cp", f"{room}:{room / 'pathclient.jar'}", "Drive"], jar, build))
     if not lacks("cc"):
         build = ["cc", "-Wall", "-Wextra", "-Werror", "-o", room / "client", TOP / "examples" / "clients" / "client.c"]
         found.append(Crew("C", [sys.executable, DRIVERS / "drive_c.py", room / "client"], build))
     return found
 
 
-METER = """object meter;
-  path 1:(add, [total]) end;
-  var v : array [1] of integer;
-  entry function add(x : integer) : integer; begin v[0] := v[0] + x; add := v[0] end;
-  entry function total : integer; begin total := v[0] end;
-end;
-"""
 # How often the server is killed while clients add 1, and how often each does at least. A start may take long on a machine
 # that has much else to do.
 KILLS, ADDS, PATIENCE = 4, 30, 60
 
 
-def live(crews: Sequence[Crew], room: pathlib.Path) -> None:
-    """All clients at once over `pathserve keep` at a socket, which is killed meanwhile: nothing that was answered is lost,
-    and under a name no call is done twice."""
-    server = kept.Server(room, METER, at_path=True)
-    server.start()
-    sure: collections.Counter[str] = collections.Counter()
-    unsure: collections.Counter[str] = collections.Counter()
-    faults: list[str] = []
-    had: set[str] = set()
-    is_over = threading.Event()
+class Live(crowd.Crew):
+    """Clients that add one to a meter, and how often each was answered, and was not."""
 
-    def work(crew: Crew, client: Client) -> None:
+    def __init__(self, place: str) -> None:
+        super().__init__()
+        self.place = place
+        self.sure: collections.Counter[str] = collections.Counter()
+        self.unsure: collections.Counter[str] = collections.Counter()
+        self.had: set[str] = set()
+
+    def adds(self, crew: Crew, client: Client) -> None:
         named = "name" in client.can
-        while client.say(f"open {server.place} meter {500 * PATIENCE} {crew.name.lower() if named else '-'}") == "no server":
+        while client.say(f"open {self.place} meter {500 * PATIENCE} {crew.name.lower() if named else '-'}") == "no server":
             time.sleep(0.01)
         # (the first call of a session is one that may be done twice)
         while not client.say("call 0 total", PATIENCE).startswith("done "):
             time.sleep(0.01)
-        for turn in itertools.count():
-            if turn >= ADDS and is_over.is_set():
-                break
-            if turn % 3 == 0 and "ahead" in client.can:
-                said = client.ahead(*["add 1"] * 5, seconds=PATIENCE)
-            else:
-                said = [client.say("call 0 add 1", PATIENCE)]
-            for it in said:
-                if it.startswith("done ") and it not in had:
-                    had.add(it)
-                    sure[crew.name] += 1
-                elif it == "lost" and not named:
-                    unsure[crew.name] += 1
-                elif it == "no server" and not named:
-                    time.sleep(0.01)
-                else:
-                    raise Wrong(f"{crew.name}: {it!r}")
+        turn = 0
+        while turn < ADDS or not self.stops:
+            ahead = ["add 1"] * 5 if turn % 3 == 0 and "ahead" in client.can else []
+            for it in client.ahead(*ahead, seconds=PATIENCE) if ahead else [client.say("call 0 add 1", PATIENCE)]:
+                self.note(crew.name, it, named)
+            turn += 1
         client.close()
 
-    def worked(crew: Crew) -> None:
-        try:
-            crew.one(lambda client: work(crew, client))
-        except Exception as error:
-            faults.append(f"{type(error).__name__}: {error}")
+    def note(self, name: str, it: str, named: bool) -> None:
+        if it.startswith("done ") and it not in self.had:
+            self.had.add(it)
+            self.sure[name] += 1
+        elif it == "lost" and not named:
+            self.unsure[name] += 1
+        elif it == "no server" and not named:
+            time.sleep(0.01)
+        else:
+            raise Wrong(f"{name}: {it!r}")
 
-    def killed() -> None:
-        for _ in range(KILLS):
-            time.sleep(random.uniform(0.3, 0.7))
-            server.kill()
-            server.start()
-        is_over.set()
 
-    threads = [threading.Thread(target=worked, args=(it,), daemon=True) for it in crews]
-    killer = threading.Thread(target=killed, daemon=True)
-    for it in [*threads, killer]:
-        it.start()
-    for it in [*threads, killer]:
-        it.join(3 * PATIENCE)
+def live(crews: Sequence[Crew], room: pathlib.Path) -> None:
+    """All clients at once over `pathserve keep` at a socket, which is killed meanwhile: nothing that was answered is lost,
+    and under a name no call is done twice."""
+    server = kept.Server(room, METER, at_path=True).start()
+    all_clients = Live(server.place)
+    for crew in crews:
+        all_clients.run(lambda crew: crew.one(lambda client: all_clients.adds(crew, client)), crew, name=crew.name)
     try:
-        if faults or any(it.is_alive() for it in threads):
-            raise Wrong("; ".join(faults) or "a client does not end")
+        all_clients.kill(server, KILLS, random.Random(), 0.3, 0.7)
+        all_clients.stops = True
+        all_clients.join(3 * PATIENCE)
         total = int(server.replies("meter", "total")[0].split(" ")[1])
-        if not sure.total() <= total <= sure.total() + unsure.total():
-            raise Wrong(f"{sure.total()} were answered, {unsure.total()} lost, and {total} done")
-        server.end()
-        server.is_whole("meter")
+        sure, unsure = all_clients.sure, all_clients.unsure
+        holds(sure.total() <= total <= sure.total() + unsure.total(), f"{sure.total()} were answered, {unsure.total()} lost, and {total} done")
+        server.ends("meter")
         counts = ", ".join(f"{name} {count}" for name, count in sorted(sure.items()))
         print(f"over {KILLS} kills: {counts} calls, {unsure.total()} of C lost")
     finally:
@@ -630,7 +751,7 @@ def main() -> int:
             return 2
     with new_folder("client-") as room:
         if is_own and not shutil.which(words[0]):
-            print(f"not run: {words[0]}")
+            print(f"not run: {words[0]} (CMD is one file that can be run)")
             return 2
         crews = [Crew(pathlib.Path(words[0]).name, words)] if is_own else clients(room)
         try:

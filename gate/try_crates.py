@@ -1,15 +1,14 @@
 """Looks whether crates.txt and the folders of crates/ agree, whether each crate names what it is said to stand on,
-whether each type has a name of its own, whether each clause is short, and whether each edit can be made.
+whether each type and each definition has a name of its own, whether each clause is short, and whether each edit can be made.
 
 usage: gate/try_crates
 
 Each crate has a line, and a folder with its root file; each word behind the colon of a line stands as a word in a file of
 that crate's src/, specs/ or proofs/. A name of a struct, an enum, a trait or a type in src/ stands once in the
-repository. What a clause of a function says has at most eight arguments: more of them are the parts of a state, which
+repository; so does one of a definition of specs/, but for those of gate/same_names.txt, which has in how many files each of
+them stands: no more may come, and where fewer are left it has to say so. What a clause of a function says has at most eight arguments: more of them are the parts of a state, which
 has a name. Each line that an edit of wrong-bodies/, wrong-by-test/ or wrong-by-case/ takes away stands once in its file.
 Then small repositories are looked at in which this is not so.
-
-The last line is `try_crates: N passed, M failed`; the exit status is 0 where M is 0 and N is not.
 """
 import collections
 import pathlib
@@ -18,6 +17,7 @@ import sys
 import tempfile
 from collections.abc import Iterable, Iterator, Mapping
 
+from gate import parsed
 from gate.tried import TOP, whole
 from tools import repository
 
@@ -29,6 +29,7 @@ CLAUSE = re.compile(r"\b(?:ensures|requires)\b[*]?[^{;\n]*\{")
 SIGN = re.compile(r"(?:λ[^.]*\. )|[()\[\]{};]|[^\s()\[\]{};]+")
 BETWEEN = frozenset("≡ ≢ × ⊎ ↔ → ∷ ++ + - * / ^ == && || < ≤ > ≥ = : , ; if then else in ∸ λ".split())
 MOST = 8
+SAME_NAMES = "gate/same_names.txt"
 EDITS = ("wrong-bodies", "wrong-by-test", "wrong-by-case")
 
 
@@ -62,6 +63,34 @@ def faults_of_type(name: str, found: collections.Counter[str]) -> list[str]:
     if sum(found.values()) < 2:
         return []
     return [f"{name} names several types, in {', '.join(sorted(found.elements()))}: give each a name of its own"]
+
+
+def definitions_in(top: pathlib.Path, lines: Iterable[str]) -> dict[str, list[str]]:
+    """The names of the definitions of the crates, each with the files in which it is defined."""
+    found: dict[str, list[str]] = {}
+    for crate in lines:
+        for specs in parsed.specs_of(top / "crates" / crate):
+            for name in parsed.unique(name for it in specs.definitions for name in it.names):
+                found.setdefault(name, []).append(f"{crate}/{specs.path}")
+    return found
+
+
+def same_names(top: pathlib.Path) -> dict[str, int]:
+    """The names of definitions that may stand in several files, each with in how many."""
+    file = top / SAME_NAMES
+    rows = file.read_text(encoding="utf-8").splitlines() if file.is_file() else []
+    return {name: int(count) for name, count in (it.split() for it in rows if it and not it.startswith("#"))}
+
+
+def faults_of_definition(name: str, files: list[str], most: int) -> list[str]:
+    """What is wrong with a definition's name, by the files in which it is defined, and in how many it may be."""
+    if len(files) > most:
+        return [f"{name} is defined in {len(files)} files, and may be in {most} ({SAME_NAMES} has no more): {', '.join(files)}: "
+                "give what is the same one place, and what is not another name"]
+    if len(files) < most and most > 1:
+        left = f"write {len(files)}" if len(files) > 1 else "take its line out"
+        return [f"{SAME_NAMES} has {name} in {most} files, and it is in {len(files)}: {left}"]
+    return []
 
 
 def clauses_in(source: str) -> Iterator[tuple[int, str]]:
@@ -138,6 +167,9 @@ def faults_in(top: pathlib.Path) -> dict[str, list[str]]:
     found = types_in(top, lines)
     for name in sorted(found):
         said[f"the type {name}"] = faults_of_type(name, found[name])
+    defined, may = definitions_in(top, lines), same_names(top)
+    for name in sorted({*defined, *may}):
+        said[f"the definition {name}"] = faults_of_definition(name, defined.get(name, []), may.get(name, 1))
     return said
 
 
@@ -158,6 +190,11 @@ CLAUSES = {
 }
 """,
 }
+DEFINED = {
+    "low/specs/One.antt": "-- a number\nabbrev pub IsOne : ℕ → Type 0\nIsOne n = n ≡ 1\n",
+    "top/specs/Two.antt": "use Rattle.low.specs.One.{IsOne}\n\npub record IsOne (n : ℕ) : Type 0 where\n  pub IsTwo : n ≡ 2\n\nIsTwo : ℕ\n",
+}
+SEVERAL = "IsOne is defined in 2 files, and may be in 1 (gate/same_names.txt has no more): low/specs/One.antt, top/specs/Two.antt: "
 EDIT = "clause: ensures of one\nfile: src/lib.rt\nold: {old}\nnew: pub fn two() {{}}\n"
 SPOILT: tuple[tuple[str, Mapping[str, str], str, list[str]], ...] = (
     ("nothing", FILES, "low:\ntop: low std\n", []),
@@ -179,6 +216,12 @@ SPOILT: tuple[tuple[str, Mapping[str, str], str, list[str]], ...] = (
      ["top/wrong-by-case/it.edit: there is no file src/gone.rt"]),
     ("types of one name", {**FILES, **TYPES}, "low:\ntop: low\n",
      ["Row names several types, in low, low, top: give each a name of its own"]),
+    ("definitions of one name", {**FILES, **DEFINED}, "low:\ntop: low\n",
+     [f"{SEVERAL}give what is the same one place, and what is not another name"]),
+    ("definitions of one name that are listed", {**FILES, **DEFINED, SAME_NAMES: "# names\n\nIsOne 2\n"}, "low:\ntop: low\n", []),
+    ("fewer definitions than are listed", {**FILES, **DEFINED, SAME_NAMES: "IsGone 2\nIsOne 3\n"}, "low:\ntop: low\n",
+     ["gate/same_names.txt has IsGone in 2 files, and it is in 0: take its line out",
+      "gate/same_names.txt has IsOne in 3 files, and it is in 2: write 2"]),
 )
 
 
@@ -186,7 +229,8 @@ def spoilt_faults(files: Mapping[str, str], lines: str) -> list[str]:
     """What is said of a small repository."""
     with tempfile.TemporaryDirectory(prefix="crates-") as folder:
         top = pathlib.Path(folder)
-        for name, text in {**{f"crates/{it}": text for it, text in files.items()}, "crates.txt": lines}.items():
+        placed = {it if it.startswith("gate/") else f"crates/{it}": text for it, text in files.items()}
+        for name, text in {**placed, "crates.txt": lines}.items():
             (top / name).parent.mkdir(parents=True, exist_ok=True)
             (top / name).write_text(text, encoding="utf-8")
         return [line for said in faults_in(top).values() for line in said]

@@ -26,7 +26,8 @@ done with it:
 
 Beside that: each path, each item of a crate, and each flag that a page names is there; each limit of docs/LIMITS.md names a
 case or a test that is there; the crates of docs/ARCHITECTURE.md are those of crates.txt, and stand on lower layers alone;
-gate/README.md tells of each part of tools/test; README.md has at most 100 lines, names the command of .ci/run, and has no block that
+gate/README.md tells of each part of tools/test; no cell of a table is longer than the documents allow, and no page of those that
+would only grow; docs/PROOFS.md is as `gate/proofs` makes it; README.md has at most 100 lines, names the command of .ci/run, and has no block that
 proves; docs/pathserve.1 is of the program's help, and CHANGELOG.md begins with its version.
 The last line is `N passed, M failed`; the exit status is 0 where M is 0 and N is not.
 """
@@ -43,7 +44,7 @@ import time
 from collections.abc import Container, Sequence
 from typing import Any, TextIO
 
-from gate import cases, man_page, run_cases, run_sessions, sessions
+from gate import cases, man_page, proofs, run_cases, run_sessions, sessions
 from gate.served import free_port
 from gate.tried import TOP, given_words, program, whole
 from tools import repository, test
@@ -61,6 +62,13 @@ SERVES = re.compile(r"\./pathserve (?:serve|keep)\b")
 KILLS = "kill -9 %1"
 # What a document may name that is not in the repository: what is made, and what stands elsewhere.
 MADE = re.compile(r"crates/[A-Z*]|crates/\*|/out\b|docs/[A-Z]*\.md\.|OBJECT|\.svg$")
+# The most letters of a cell of a table, and of pages with another bound; one above this may only shrink.
+MOST_LETTERS = 400
+LETTERS: dict[str, int | None] = {
+    "docs/ARCHITECTURE.md": 300, "docs/MEASURED.md": None, "docs/FORMATS.md": 429, "docs/KEEPING.md": 539, "docs/SECURITY.md": 407,
+    "docs/SERVING.md": 449}
+# The most lines of pages to which each change adds something.
+LINES = {"README.md": 100, "docs/DECISIONS.md": 300, "docs/PROVING.md": 300}
 LAYERS = ("Text", "Objects", "Running", "Sharing", "Replay", "The program", "Test crates")
 
 # A block of a page: its line, its word and its text; and one that a case reads: its word, its number or none for each of them, the page.
@@ -487,7 +495,7 @@ def bare_name(name: str) -> bool:
 
 
 def try_items(count: Count, page: Page) -> None:
-    """Looks whether each file of a crate and each item of one that a page names is there."""
+    """Looks whether each file of a crate, and each item or definition of one, that a page names is there."""
     for line, text in page.prose:
         where = f"{page.name}:{line}"
         for crate, file, more in re.findall(r"\b([a-z_]+)/((?:specs|proofs|src)/[\w/]+\.(?:antt|rt))((?:, [A-Z]\w*\.antt)*)", text):
@@ -498,9 +506,28 @@ def try_items(count: Count, page: Page) -> None:
             folder = TOP / "crates" / crate / "src"
             if folder.exists():
                 source = "\n".join(it.read_text(encoding="utf-8") for it in folder.rglob("*.rt"))
-                for name in (it.strip() for it in (several or one).split(",")):
-                    there = re.search(rf"\b(fn|struct|enum|trait|type|const|mod) {name}\b", source)
+                defined = proofs.definitions_of(folder.parent)
+                for name in (it.strip().rpartition("::")[2] for it in (several or one).split(",")):
+                    there = name in defined or re.search(rf"\b(fn|struct|enum|trait|type|const|mod) {name}\b", source)
                     count.is_so(there, where, f"there is no {name} in {crate}")
+
+
+def try_sizes(count: Count, page: Page) -> None:
+    """Looks whether each cell of a page's tables can be read at a glance, and whether the page has too many lines."""
+    most = LETTERS.get(page.name, MOST_LETTERS)
+    for line, text in page.prose:
+        if most and text.startswith("|"):
+            longest = max(len(cell.strip()) for cell in re.split(r"(?<!\\)\|", text))
+            count.is_so(longest <= most, f"{page.name}:{line}", f"a cell of {longest} letters; {most} are the most")
+    lines = page.text.count("\n")
+    count.is_so(lines <= LINES.get(page.name, lines), page.name, f"{lines} lines; {LINES.get(page.name)} are the most")
+
+
+def try_proofs(count: Count) -> None:
+    """Looks whether docs/PROMISES.md and its like name what is there, and what is made of them is as it would be made now."""
+    for wrong in proofs.faults(proofs.Sources()):
+        count.is_so(False, wrong.partition(": ")[0], wrong.partition(": ")[2])
+    count.passed += 1
 
 
 def try_limits(count: Count) -> None:
@@ -520,13 +547,13 @@ def try_limits(count: Count) -> None:
 
 
 def try_wrong_bodies(count: Count) -> None:
-    """Looks whether each wrong body that docs/PROOFS.md names is there."""
-    text = (TOP / "docs" / "PROOFS.md").read_text(encoding="utf-8")
+    """Looks whether each wrong body that docs/PROMISES.md names is there."""
+    text = (TOP / "docs" / "PROMISES.md").read_text(encoding="utf-8")
     section = re.search(r"(?ms)^## Wrong bodies$(.*?)(?=^`rt plant`|\Z)", text)
     edits = {it.stem for folder in ("wrong-bodies", "wrong-by-test", "wrong-by-case") for it in (TOP / "crates").glob(f"*/{folder}/*.edit")}
     tests = "\n".join(it.read_text(encoding="utf-8") for it in (TOP / "crates").glob("*_vectors/src/*.rt"))
     for name in sorted(set(re.findall(r"`([a-z0-9]+(?:_[a-z0-9]+)+)`", section[1] if section else ""))):
-        count.is_so(name in edits or f"fn {name}(" in tests, "docs/PROOFS.md", f"there is no wrong body {name}")
+        count.is_so(name in edits or f"fn {name}(" in tests, "docs/PROMISES.md", f"there is no wrong body {name}")
 
 
 def try_crates(count: Count) -> None:
@@ -565,7 +592,6 @@ def try_parts(count: Count) -> None:
 def try_whole(count: Count) -> None:
     """What holds of README.md, CHANGELOG.md and the manual page as a whole."""
     readme = (TOP / "README.md").read_text(encoding="utf-8")
-    count.is_so(len(readme.split("\n")) <= 101, "README.md", "more than 100 lines")
     command = gate_command()
     count.is_so(f"`{command}`" in readme, "README.md", f"it does not name `{command}`, which .ci/run calls")
     pasted = [it for _, word, it in Page(TOP / "README.md").blocks if word == "sh" and set(it.splitlines()) & {command, "tools/prove"}]
@@ -596,6 +622,7 @@ def main() -> int:
         try_names(count, page)
         try_spans(count, page, help_text)
         try_items(count, page)
+        try_sizes(count, page)
         for line, word, text in page.blocks:
             where = f"{page.name}:{line}"
             if word == "case":
@@ -610,6 +637,7 @@ def main() -> int:
     if not said.pages:
         try_grammars(count, pages)
         try_limits(count)
+        try_proofs(count)
         try_wrong_bodies(count)
         try_crates(count)
         try_parts(count)

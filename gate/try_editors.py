@@ -3,9 +3,8 @@
 usage: gate/try_editors
 
 Each object of examples/objects and gate/tasks, and some lines that are hard to read, are taken apart by the rules of
-docs/LANGUAGE.md, and each byte of a token has to be what the TextMate grammar, read by its rules, and Vim's syntax file,
-read by Vim, say that it is. What needs Vim is left out where there is none. The last line is
-`try_editors: N passed, M failed`; the exit status is 0 where M is 0 and N is not.
+docs/LANGUAGE.md, and each byte of a token has to be what the TextMate grammar, read by its rules, and Vim's syntax
+file, read by Vim, say that it is. What needs Vim is left out where there is none.
 """
 import json
 import re

@@ -4,17 +4,17 @@ usage: gate/try_epochs [--program FILE]
 
 A row says which files lie in the folder, and what standard output and standard error get. What is expected comes from docs/FORMATS.md and
 docs/AUDIT.md. The numbers of the declarations, which the line `source` of a front has, are those of examples/objects/cell.pp and of SLOT;
-the rows on a changed declaration show that they are those.
-
-The program is the one that ./pathserve runs, or FILE. The last line is `try_epochs: N passed, M failed`; the exit status is 0
-where M is 0 and N is not.
+the rows on a changed declaration show that they are those. Each row is tried as it stands, as programs before wrote it, and with a format and
+check lines (gate/sums.py); then further ones spoil these.
 """
 import pathlib
-import subprocess
+import re
 import tempfile
 from collections.abc import Iterator, Mapping
 
-from gate.tried import TOP, given_words, program, whole
+from gate import served, sums
+from gate.tried import TOP, given_words, whole
+from tools import traced
 
 CELL = TOP / "examples/objects/cell.pp"
 SOURCE = "709919887b5d0865"
@@ -197,13 +197,106 @@ def slots() -> Iterator[Row]:
         yield f"cut: {cut!r}", files, f"slot epochs 2 entries {ended} whole", note
 
 
+# With check lines.
+
+
+def checked(text: str) -> tuple[str, list[int]]:
+    """The text of an epoch with a format and check lines, a round behind each end and each cancel; and the numbers that its lines have then, and
+    the next one would have. Of what is no epoch nothing is changed."""
+    lines, behind = text[: text.partition("\0")[0].rfind("\n") + 1].splitlines(keepends=True), text[text.partition("\0")[0].rfind("\n") + 1 :]
+    if not traced.epoch_of(text.encode()):
+        return text, list(range(1, len(lines) + 2))
+    front = next((at for at, it in enumerate(lines) if it.split(" ")[0] in ("start", "end", "cancel", "name")), len(lines))
+    rounds: list[list[str]] = [[]]
+    for it in lines[front:]:
+        rounds[-1].append(it)
+        if it.split(" ")[0] in ("end", "cancel"):
+            rounds.append([])
+    parts = [[lines[0].replace(" epoch", " format 2 epoch"), *lines[1:front]], *(it for it in rounds if it)]
+    made = sums.epoch(*("".join(it).encode() for it in parts)).decode()
+    numbers: list[int] = []
+    number = 0
+    for part in parts:
+        numbers += range(number + 1, number + len(part) + 1)
+        number += len(part) + 1
+    return made + behind, [*numbers, number + 1]
+
+
+def checked_row(row: Row) -> Row:
+    """A row whose epochs have check lines. What is said of a line is said by the number that it has."""
+    title, files, output, error = row
+    made = {name: checked(text) for name, text in files.items()}
+    found = re.fullmatch(r"(\w+) (?:epoch ([0-9]+)|(\S+)) line ([0-9]+) (.*)", output)
+    if found:
+        file = found[3] or next(it for it in made if traced.epoch_of(files[it].encode()) == (found[1], int(found[2])))
+        output = output.replace(f" line {found[4]} ", f" line {made[file][1][int(found[4]) - 1]} ")
+    return f"{title}, with check lines", {name: text for name, (text, _) in made.items()}, output, error
+
+
+FIRST, SECOND = (checked(it)[0] for it in (ONE, TWO))
+
+
+def altered(number: int, old: str, new: str, text: str = FIRST) -> str:
+    """An epoch in which something of a line, by its number, is something else."""
+    lines = text.splitlines(keepends=True)
+    assert old in lines[number - 1]
+    lines[number - 1] = lines[number - 1].replace(old, new, 1)
+    return "".join(lines)
+
+
+def spoilt() -> Iterator[Row]:
+    """Epochs of which a check line, or what it checks, is not as it was written."""
+    lines = FIRST.splitlines(keepends=True)
+    front, *stored = (at for at, it in enumerate(lines, 1) if traced.is_check(it.encode()))
+    bad = "cell cell.journal line {} bad"
+
+    def row(title: str, journal: str, said: str, error: str = "") -> Row:
+        return title, {"cell.journal": journal + ZEROS}, said, error
+
+    yield row("check lines", FIRST, "cell epochs 1 entries 2 whole")
+    yield row("a value that was changed", altered(3, "00000000", "00000001"), bad.format(front))
+    yield row("a name that was changed", altered(front + 1, "ann", "amn"), bad.format(stored[0]))
+    yield row("an argument that was changed", altered(stored[0] + 1, "bump 5", "bump 4"), bad.format(stored[1]))
+    for at in (front, *stored):
+        for old, new in ((" ", "  "), (" ", " 1"), ("\n", "0\n"), ("\n", " \n"), (lines[at - 1][-2], "x")):
+            yield row(f"check line {at} with {new!r}", altered(at, old, new), bad.format(at))
+    for at in (front, *stored[:-1]):
+        # (what the next one tells of does not begin there)
+        yield row(f"no check line {at}", "".join(lines[: at - 1] + lines[at:]), bad.format(stored[stored.index(at) + 1 if at in stored else 0] - 1))
+    yield row("a last round without its check line", "".join(lines[:-1]), "cell epochs 1 entries 2 whole")
+    yield row("a check line over two rounds", sums.epoch(*(it.encode() for it in (HEAD, "".join(plain(lines[front:]))))).decode(), "cell epochs 1 entries 2 whole")
+    yield row("an epoch without check lines", "".join(plain(lines)), bad.format(len(plain(lines)) + 1))
+    yield row("two ends of a front", "".join([*lines[:front], *lines[front - 1 :]]), bad.format(front + 1))
+    yield row("more synced than was there", altered(stored[0], lines[stored[0] - 1].split(" ")[1], "999"), bad.format(stored[0]))
+    for text in ("format 1", "format 02", "format", "format two"):
+        yield row(f"{text!r} in line 1", altered(1, "format 2", text), bad.format(1))
+    yield row("a format and a word", altered(1, "format 2", "format 2 2"), bad.format(front))
+    yield row("check lines and no format", altered(1, "format 2 ", ""), f"cell epoch 1 line {front} bad")
+    for count in range(1, front):
+        yield row(f"a front of {count} lines", "".join(lines[:count]), bad.format(count + 1))
+    cut = sum(map(len, lines[:front])) + 5
+    yield row("a crash within the last round", FIRST[: FIRST.rindex("end")] + "\0" * 20 + FIRST[FIRST.rindex("end") + 20 :], "cell epochs 1 entries 1 whole",
+              f"cell.journal: {len(FIRST) - FIRST.rindex('end') - 20} bytes behind the first byte 0 are not 0")
+    yield row("a block that is lost", FIRST[:cut] + "\0" * 9 + FIRST[cut + 9 :], f"cell cell.journal line {front}: {len(FIRST) - cut - 4} bytes behind it are not 0")
+    yield row("another format", altered(1, "format 2", "format 3"), "cell cell.journal has format 3")
+    for first, second in ((ONE, SECOND), (FIRST, TWO)):
+        yield "an epoch of a program before, and one with check lines", {"cell.000001.trace": first, "cell.journal": second + ZEROS}, "cell epochs 2 entries 3 whole", ""
+
+
+HEAD = front(1, 0, 0).replace(" epoch", " format 2 epoch")
+
+
+def plain(lines: list[str]) -> list[str]:
+    return [it for it in lines if not traced.is_check(it.encode())]
+
+
 def audited(source: pathlib.Path, files: Mapping[str, str]) -> tuple[int, str, str]:
     """The status of an audit of these files, and what standard output and standard error got."""
     with tempfile.TemporaryDirectory(prefix="epochs-") as folder:
         for name, text in files.items():
             (pathlib.Path(folder) / name).write_bytes(text.encode())
-        ran = subprocess.run([program(), "audit", "--no-explain", source, folder], capture_output=True, check=False)
-        return ran.returncode, ran.stdout.decode(), ran.stderr.decode().replace(folder + "/", "")
+        said, status, error = served.run("audit", "--no-explain", source, folder)
+        return status, said, error.replace(folder + "/", "")
 
 
 def two_objects() -> bool:
@@ -219,9 +312,8 @@ def unreadable() -> bool:
     """A journal that is a folder cannot be read."""
     with tempfile.TemporaryDirectory(prefix="epochs-") as folder:
         (pathlib.Path(folder) / "cell.journal").mkdir()
-        ran = subprocess.run([program(), "audit", "--no-explain", CELL, folder], capture_output=True, check=False)
-        error = ran.stderr.decode().replace(folder + "/", "")
-        return (ran.returncode, ran.stdout, error) == (3, b"", "cell.journal: this file cannot be read: it is a folder\nread fault\n")
+        said, status, error = served.run("audit", "--no-explain", CELL, folder)
+        return (status, said, error.replace(folder + "/", "")) == (3, "", "cell.journal: this file cannot be read: it is a folder\nread fault\n")
 
 
 def refused_source() -> bool:
@@ -239,7 +331,9 @@ def main() -> int:
     with tempfile.TemporaryDirectory(prefix="epochs-") as folder:
         source = pathlib.Path(folder) / "slot.pp"
         source.write_text(SLOT)
-        said = [(row, audited(at, row[1])) for at, rows in ((CELL, ROWS), (source, slots())) for row in rows]
+        rows = [(at, row) for at, found in ((CELL, ROWS), (source, slots())) for row in found]
+        rows += [*((at, checked_row(row)) for at, row in rows), *((CELL, row) for row in spoilt())]
+        said = [(row, audited(at, row[1])) for at, row in rows]
     for (title, _, output, error), found in said:
         wanted = (0 if output.endswith(" whole") else 1, output + "\n", error + "\n" if error else "")
         if found == wanted:

@@ -7,25 +7,21 @@ Nothing that was saved may be lost, and nothing that was not saved be removed: i
 in the saved part or in a value file that standard error names, also after a second start, which moves such files away. The disk is
 full for the n-th write of the end, for each n: by a limit on the size of files, which is set when all calls are done, and, where this machine
 lets one be mounted, on a small tmpfs. The program is run by another user where root calls this, for whom a folder can be read-only.
-
-The program is the one that ./pathserve runs, or FILE. The last line is `try_folders: N passed, M failed`; the exit status is 0
-where M is 0 and N is not.
 """
 import contextlib
 import os
 import pathlib
 import re
 import resource
-import shutil
 import socket
-import subprocess
 import sys
 import time
 from collections.abc import Iterable, Iterator, Mapping
+from typing import TypeVar
 
 from gate import served
-from gate.served import audited
-from gate.tried import Trial, Wrong, given_words, loads, new_folder, run
+from gate.kept import Mounted
+from gate.tried import Trial, given_words, holds, loads, new_folder, preload, run
 
 SOURCE = """object one;
   path 1:(put, get) end;
@@ -72,9 +68,7 @@ UNSAVED = re.compile(r"(\S+) not saved:((?: \d+\.val)+)\n")
 MOVED = re.compile(r"moved to left/(\d+):((?: \d+\.val)+)\n")
 
 
-def check(holds: object, said: str) -> None:
-    if not holds:
-        raise Wrong(said)
+Self = TypeVar("Self", bound="Server")
 
 
 class Server(served.Server):
@@ -85,9 +79,10 @@ class Server(served.Server):
         source, words = folder.parent / "objects.pp", ["--sessions", "8", "--stop-with-input", *more]
         super().__init__("serve", source, folder, *words, env=env, files=files, user=user, survives=True)
 
-    def start(self) -> None:
+    def start(self: Self) -> Self:
         self.begin()
         self.first = self.line()
+        return self
 
     def ask(self, *lines: str) -> str:
         """Says lines on a connection of its own, and gives what comes."""
@@ -96,7 +91,7 @@ class Server(served.Server):
     def settle(self) -> None:
         """Has each object do a call."""
         heard = self.ask("open one", f"call put 7 '{TEXT}'") + self.ask("open two", "call put 9")
-        check(heard.count("done 1\n") == 2, f"the clients heard {heard!r}")
+        holds(heard.count("done 1\n") == 2, f"the clients heard {heard!r}")
         self.await_rest()
 
     def await_rest(self) -> None:
@@ -158,11 +153,11 @@ def look_for_values(folder: pathlib.Path, error: str, values: Mapping[str, bytes
         if part in unsaved:
             pages = [(folder / it).read_bytes() for it in unsaved[part]]
             held = b"".join(pages)
-            check(held == values[part], f"{unsaved[part]} hold {held!r} of {part}")
-            check([len(it) for it in pages[:-1]] == [1024] * (len(held) // 1024), f"{unsaved[part]} are no pages of {part}")
-            check(not is_saved(folder, part, values), f"{part} is saved, and is said not to be")
+            holds(held == values[part], f"{unsaved[part]} hold {held!r} of {part}")
+            holds([len(it) for it in pages[:-1]] == [1024] * (len(held) // 1024), f"{unsaved[part]} are no pages of {part}")
+            holds(not is_saved(folder, part, values), f"{part} is saved, and is said not to be")
         else:
-            check(is_saved(folder, part, values), f"{part} is neither saved nor named by {error!r}")
+            holds(is_saved(folder, part, values), f"{part} is neither saved nor named by {error!r}")
     return unsaved
 
 
@@ -171,44 +166,44 @@ def look_at_ends(folder: pathlib.Path, said: str, error: str, unsaved: Iterable[
     for name, count in ENTRIES.items():
         untraced = f"{name}.trace not written\n" in error
         kept = not untraced and not any(part.startswith(f"{name}.") for part in unsaved)
-        check((f"{name} entries {count}\n" in said) == kept, f"{said!r} beside {error!r}")
+        holds((f"{name} entries {count}\n" in said) == kept, f"{said!r} beside {error!r}")
         trace = folder / f"{name}.trace"
         if untraced:
-            check((trace.read_bytes() if trace.exists() else None) == before.get(f"{name}.trace"), f"the old {name}.trace was changed")
+            holds((trace.read_bytes() if trace.exists() else None) == before.get(f"{name}.trace"), f"the old {name}.trace was changed")
         else:
-            legal = audited(folder.parent / "objects.pp", trace)
-            check(legal == f"legal {count}\n", f"{name}.trace is {legal!r}")
+            legal = served.run("audit", folder.parent / "objects.pp", trace).said
+            holds(legal == f"legal {count}\n", f"{name}.trace is {legal!r}")
 
 
 def repair(folder: pathlib.Path, unsaved: Mapping[str, list[str]]) -> None:
     """What docs/SERVING.md says of parts that were not saved: a start moves the value files away, a stop, and then the files of a part, one behind
     the other, are the part."""
     with Server(folder) as server:
-        check(server.first.startswith("listening "), "the second start failed")
+        holds(server.first.startswith("listening "), "the second start failed")
         _, status, error = server.ended(LASTS)
-    check(status == 0, f"the second run ended with {status}")
+    holds(status == 0, f"the second run ended with {status}")
     moved = MOVED.search(error)
-    check(moved, f"the second start said {error!r}")
+    holds(moved, f"the second start said {error!r}")
     assert moved
     for part, files in unsaved.items():
-        check(set(files) <= set(moved[2].split()), f"{files} were not moved: {error!r}")
+        holds(set(files) <= set(moved[2].split()), f"{files} were not moved: {error!r}")
         held = b"".join((folder / "left" / moved[1] / it).read_bytes() for it in files)
-        check(held == VALUES[part], f"left/{moved[1]} has not the value of {part}")
+        holds(held == VALUES[part], f"left/{moved[1]} has not the value of {part}")
         (folder / f"{part}.part").write_bytes(held)
         give(folder / f"{part}.part")
     with Server(folder) as server:
-        check(server.ask("open one", "call get").count("done 1 7\n") == 1, "the third run has not the value")
+        holds(server.ask("open one", "call get").count("done 1 7\n") == 1, "the third run has not the value")
         _, status, error = server.ended(LASTS)
-    check((status, error) == (0, ""), f"the third run ended with {status}, {error!r}")
-    check(not value_files(folder), "value files were left though all was saved")
+    holds((status, error) == (0, ""), f"the third run ended with {status}, {error!r}")
+    holds(not value_files(folder), "value files were left though all was saved")
     for part in VALUES:
-        check(is_saved(folder, part), f"{part} is lost after the third run")
+        holds(is_saved(folder, part), f"{part} is lost after the third run")
 
 
 def end_badly(folder: pathlib.Path, server: Server, before: Mapping[str, bytes]) -> dict[str, list[str]]:
     """Stops a server that cannot save all, and looks at what it left."""
     said, status, error = server.ended(LASTS)
-    check(status == 3 and error.endswith("write fault\n"), f"status {status}, {error!r}")
+    holds(status == 3 and error.endswith("write fault\n"), f"status {status}, {error!r}")
     unsaved = look_for_values(folder, error)
     look_at_ends(folder, said, error, unsaved, before)
     return unsaved
@@ -221,18 +216,18 @@ def try_two_servers() -> None:
         told = f"{folder}: another server has this folder\n"
         for more in (), ("--explain",):
             with Server(folder, *more) as second:
-                check(second.first == "", "a second server serves")
+                holds(second.first == "", "a second server serves")
                 said, status, error = second.ended(LASTS)
-            check((status, said, error) == (3, "", f"{told}read fault\n"), f"the second one ended with {status}, {said!r}, {error!r}")
-        check(contents(folder) == before, "the second server changed the folder")
-        check("done 2 7\n" in first.ask("open one", "call get"), "the first server does not go on")
+            holds((status, said, error) == (3, "", f"{told}read fault\n"), f"the second one ended with {status}, {said!r}, {error!r}")
+        holds(contents(folder) == before, "the second server changed the folder")
+        holds("done 2 7\n" in first.ask("open one", "call get"), "the first server does not go on")
         said, status, error = first.ended(LASTS)
-        check((status, said, error) == (0, "one entries 2\ntwo entries 1\n", ""), f"the first one ended with {status}, {said!r}, {error!r}")
+        holds((status, said, error) == (0, "one entries 2\ntwo entries 1\n", ""), f"the first one ended with {status}, {said!r}, {error!r}")
     # A folder is free as soon as its server has ended, however that was.
     with place() as folder:
         for is_killed in (False, True, False):
             with Server(folder) as server:
-                check(server.first.startswith("listening "), "the folder of a server that has ended is not free")
+                holds(server.first.startswith("listening "), "the folder of a server that has ended is not free")
                 if is_killed:
                     server.kill()
                 else:
@@ -248,7 +243,7 @@ def try_limits() -> None:
                 server.settle()
                 server.limit(size)
                 unsaved = end_badly(folder, server, {})
-            check(not [it for it in contents(folder) if it.endswith(".new")], "what could not be written is left")
+            holds(not [it for it in contents(folder) if it.endswith(".new")], "what could not be written is left")
             if unsaved:
                 repair(folder, unsaved)
 
@@ -258,65 +253,41 @@ def try_old_trace() -> None:
     with place() as folder:
         with Server(folder) as server:
             server.ask("open two", "call put 1")
-            check(server.ended(LASTS).status == 0, "the first run failed")
+            holds(server.ended(LASTS).status == 0, "the first run failed")
         before = contents(folder)
         with Server(folder, other=False) as server:
             server.ask("open two", "call put 2")
             server.await_rest()
             server.limit(20)
             said, status, error = server.ended(LASTS)
-        check((status, said) == (3, ""), f"{status}, {said!r}, {error!r}")
-        check("two.trace not written\n" in error and "two.v not saved" not in error, f"{error!r}")
-        check((folder / "two.trace").read_bytes() == before["two.trace"], "the old trace was changed")
-        check((folder / "two.v.part").read_bytes() == bytes.fromhex("0201000100000002"), "the part was not saved")
-
-
-@contextlib.contextmanager
-def small_disk() -> Iterator[pathlib.Path | None]:
-    """A folder on a small file system of its own, or none where this machine mounts none."""
-    with place() as folder:
-        mounted = shutil.which("mount") and not subprocess.run(
-            ["mount", "-t", "tmpfs", "-o", f"size=256k,uid={NOBODY},gid={NOBODY}", "none", folder], capture_output=True, check=False
-        ).returncode
-        try:
-            yield folder if mounted else None
-        finally:
-            if mounted:
-                subprocess.run(["umount", "-l", folder], check=False)
-
-
-def fill(folder: pathlib.Path, pages: int) -> None:
-    """Leaves so many pages of a small file system free."""
-    it = os.open(folder / "filling", os.O_CREAT | os.O_WRONLY)
-    with contextlib.suppress(OSError):
-        while os.write(it, b"x" * 4096):
-            pass
-    os.ftruncate(it, os.fstat(it).st_size // 4096 * 4096 - pages * 4096)
-    os.close(it)
+        holds((status, said) == (3, ""), f"{status}, {said!r}, {error!r}")
+        holds("two.trace not written\n" in error and "two.v not saved" not in error, f"{error!r}")
+        holds((folder / "two.trace").read_bytes() == before["two.trace"], "the old trace was changed")
+        holds((folder / "two.v.part").read_bytes() == bytes.fromhex("0201000100000002"), "the part was not saved")
 
 
 def try_full_disk() -> None:
     """One write more is possible each time, until all are."""
     failed = 0
     for pages in range(len(VALUES) + len(ENTRIES) + 1):
-        with small_disk() as folder:
-            if not folder:
+        with place() as folder, Mounted(folder, "256k", NOBODY) as disk:
+            if not disk.is_there:
                 return
             with Server(folder) as server:
                 server.settle()
-                fill(folder, pages)
+                disk.fill(4096 * pages)
                 said, status, error = server.ended(LASTS)
             unsaved = look_for_values(folder, error)
             look_at_ends(folder, said, error, unsaved, {})
             if status == 0:
-                check(not error and not value_files(folder), f"status 0, {error!r}")
+                holds(not error and not value_files(folder), f"status 0, {error!r}")
                 break
-            check(status == 3 and error.endswith("write fault\n"), f"status {status}, {error!r}")
+            holds(status == 3 and error.endswith("write fault\n"), f"status {status}, {error!r}")
             failed += 1
-            (folder / "filling").unlink()
+            disk.empty()
             if unsaved:
                 repair(folder, unsaved)
-    check(failed >= len(VALUES), f"the disk was full for {failed} writes alone")
+    holds(failed >= len(VALUES), f"the disk was full for {failed} writes alone")
 
 
 def try_read_only() -> None:
@@ -325,14 +296,14 @@ def try_read_only() -> None:
             server.settle()
             folder.chmod(0o555)
             unsaved = end_badly(folder, server, {})
-        check(set(unsaved) == set(VALUES), f"{set(unsaved)} were not saved")
+        holds(set(unsaved) == set(VALUES), f"{set(unsaved)} were not saved")
         before = contents(folder)
         with Server(folder, "--explain") as server:
             said, status, error = server.ended(LASTS)
             last = error.splitlines(keepends=True)[-2:]
             wanted = [f"{folder}: in this folder a part cannot be read, or no file can be made\n", "read fault\n"]
-            check((server.first, status, said, last) == ("", 3, "", wanted), f"a start in a read-only folder: {status}, {said!r}, {error!r}")
-        check(contents(folder) == before, "a start in a read-only folder changed it")
+            holds((server.first, status, said, last) == ("", 3, "", wanted), f"a start in a read-only folder: {status}, {said!r}, {error!r}")
+        holds(contents(folder) == before, "a start in a read-only folder changed it")
         folder.chmod(0o755)
         repair(folder, unsaved)
     # Read-only for a while only.
@@ -340,9 +311,9 @@ def try_read_only() -> None:
         server.settle()
         folder.chmod(0o555)
         heard = server.ask("open two", "call put 5")
-        check("failed 2 device\n" in heard, f"the client heard {heard!r}")
+        holds("failed 2 device\n" in heard, f"the client heard {heard!r}")
         folder.chmod(0o755)
-        check(server.ended(LASTS).status == 0, "the end failed")
+        holds(server.ended(LASTS).status == 0, "the end failed")
         look_for_values(folder, "")
 
 
@@ -350,25 +321,25 @@ def try_kill() -> None:
     with place() as folder:
         with Server(folder) as server:
             server.settle()
-            check(server.ended(LASTS).status == 0, "the first run failed")
+            holds(server.ended(LASTS).status == 0, "the first run failed")
         saved = contents(folder)
-        check(not value_files(folder), "value files were left though all was saved")
+        holds(not value_files(folder), "value files were left though all was saved")
         for turn in 1, 2:
             with Server(folder) as server:
                 server.ask("open two", f"call put {turn + 20}")
                 server.await_rest()
                 before = {it: (folder / it).read_bytes() for it in value_files(folder)}
                 server.kill()
-            check(before and bytes.fromhex(f"02010001{turn + 20:08x}") in before.values(), "the value is in no file")
+            holds(before and bytes.fromhex(f"02010001{turn + 20:08x}") in before.values(), "the value is in no file")
             with Server(folder) as server:
                 _, status, error = server.ended(LASTS)
             moved = MOVED.fullmatch(error)
-            check(status == 0 and moved and moved[1] == str(turn), f"the next start ended with {status}, {error!r}")
+            holds(status == 0 and moved and moved[1] == str(turn), f"the next start ended with {status}, {error!r}")
             for name, held in before.items():
-                check((folder / "left" / str(turn) / name).read_bytes() == held, f"{name} is lost")
+                holds((folder / "left" / str(turn) / name).read_bytes() == held, f"{name} is lost")
             for part in VALUES:
-                check(is_saved(folder, part), f"{part} is lost")
-        check({it for it in contents(folder) if not it.startswith("left/")} == set(saved), "other files are there")
+                holds(is_saved(folder, part), f"{part} is lost")
+        holds({it for it in contents(folder) if not it.startswith("left/")} == set(saved), "other files are there")
 
 
 def try_before() -> None:
@@ -379,20 +350,20 @@ def try_before() -> None:
                 (folder / f"{part}.part").write_bytes(held)
                 give(folder / f"{part}.part")
             with Server(folder, other=False) as server:
-                check("done 1 7\n" in server.ask("open one", "call get"), "the value of before is not taken up")
+                holds("done 1 7\n" in server.ask("open one", "call get"), "the value of before is not taken up")
                 server.await_rest()
                 server.limit(size)
                 error = server.ended(LASTS).error
             unsaved = look_for_values(folder, error)
             wanted = {part for part, held in VALUES.items() if len(held) > size}
-            check(set(unsaved) == wanted, f"{sorted(unsaved)} were not saved, and {sorted(wanted)} are longer than {size}")
+            holds(set(unsaved) == wanted, f"{sorted(unsaved)} were not saved, and {sorted(wanted)} are longer than {size}")
             for part in unsaved:
-                check((folder / f"{part}.part").read_bytes() == BEFORE[part], f"the saved {part} was changed")
+                holds((folder / f"{part}.part").read_bytes() == BEFORE[part], f"the saved {part} was changed")
             with Server(folder) as server:
-                check("done 1 7\n" in server.ask("open one", "call get"), "the second run has not the value")
-                check(server.ended(LASTS).status == 0, "the second run failed")
+                holds("done 1 7\n" in server.ask("open one", "call get"), "the second run has not the value")
+                holds(server.ended(LASTS).status == 0, "the second run failed")
             for part in VALUES:
-                check(is_saved(folder, part), f"{part} is lost after the second run")
+                holds(is_saved(folder, part), f"{part} is lost after the second run")
 
 
 def ask_or_not(server: Server, *lines: str) -> str:
@@ -409,20 +380,20 @@ def try_few_files() -> None:
         server.settle()
         with socket.create_connection(("127.0.0.1", server.port), LASTS) as first:
             first.sendall(b"open two\n")
-            check(first.recv(64) == b"opened two\n", "the first client is not served")
+            holds(first.recv(64) == b"opened two\n", "the first client is not served")
             _, most = resource.prlimit(server.child.pid, resource.RLIMIT_NOFILE)
             resource.prlimit(server.child.pid, resource.RLIMIT_NOFILE, (3, most))
             # A thread that waits for a connection has a file for it, but none for its second side.
-            check(ask_or_not(server, "open one") == "", "a client is served for which there is no file")
+            holds(ask_or_not(server, "open one") == "", "a client is served for which there is no file")
             resource.prlimit(server.child.pid, resource.RLIMIT_NOFILE, (most, most))
             first.sendall(b"call put 9\nquit\n")
             heard = b""
             while piece := first.recv(64):
                 heard += piece
-            check(heard == b"accepted 2\ndone 2\nbye\n", f"the first client heard {heard!r}")
-        check(server.ask("open one", "call get").endswith("done 2 7\nbye\n"), "a later client is not served")
+            holds(heard == b"accepted 2\ndone 2\nbye\n", f"the first client heard {heard!r}")
+        holds(server.ask("open one", "call get").endswith("done 2 7\nbye\n"), "a later client is not served")
         said, status, error = server.ended(LASTS)
-        check((status, said, error) == (3, "one entries 2\ntwo entries 2\n", "read fault\n"), f"{status}, {said!r}, {error!r}")
+        holds((status, said, error) == (3, "one entries 2\ntwo entries 2\n", "read fault\n"), f"{status}, {said!r}, {error!r}")
         look_for_values(folder, error)
 
 
@@ -432,58 +403,27 @@ def try_fewer_files() -> None:
     with place() as folder:
         with Server(folder, other=False) as server:
             server.settle()
-            check(server.ended(LASTS).status == 0, "the first run failed")
+            holds(server.ended(LASTS).status == 0, "the first run failed")
         for files in range(4, 25):
             with Server(folder, other=False, files=files) as server:
                 heard = ask_or_not(server, "open two", f"call put {files}") if server.first else ""
                 said, status, error = server.ended(LASTS)
             if "done 1\n" in heard:
                 values["two.v"] = bytes.fromhex(f"02010001{files:08x}")
-            check(status in (0, 3) and error.endswith("read fault\n" if status else ""), f"{files} files: {status}, {error!r}")
+            holds(status in (0, 3) and error.endswith("read fault\n" if status else ""), f"{files} files: {status}, {error!r}")
             look_for_values(folder, error, values)
             for name, count in re.findall(r"(\w+) entries (\d+)\n", said):
-                legal = audited(folder.parent / "objects.pp", folder / f"{name}.trace")
-                check(legal == f"legal {count}\n", f"{files} files: {name}.trace is {legal!r}")
+                legal = served.run("audit", folder.parent / "objects.pp", folder / f"{name}.trace").said
+                holds(legal == f"legal {count}\n", f"{files} files: {name}.trace is {legal!r}")
             ends.add((bool(server.first), heard[-10:], status))
-        check(not value_files(folder), "value files were left though all was saved")
+        holds(not value_files(folder), "value files were left though all was saved")
     wanted = {(False, "", 3), (True, "", 3), (True, "one 1\nbye\n", 0)}
-    check(wanted <= ends, f"with few files came {ends}")
-
-
-# A library to preload: the read of a listing whose number is LISTING fails, and no thread is made once the file NO_THREAD is there.
-LACKING = """#define _GNU_SOURCE
-#include <dlfcn.h>
-#include <errno.h>
-#include <pthread.h>
-#include <stdlib.h>
-#include <sys/syscall.h>
-#include <unistd.h>
-static long reads;
-ssize_t getdents64(int fd, void *buffer, size_t size) {
-    const char *fails = getenv("LISTING");
-    if (fails && ++reads == atol(fails)) {
-        errno = EIO;
-        return -1;
-    }
-    return syscall(SYS_getdents64, fd, buffer, size);
-}
-int pthread_create(pthread_t *thread, const pthread_attr_t *how, void *(*begin)(void *), void *given) {
-    const char *none = getenv("NO_THREAD");
-    if (none && access(none, F_OK) == 0) {
-        return EAGAIN;
-    }
-    int (*make)(pthread_t *, const pthread_attr_t *, void *(*)(void *), void *) = dlsym(RTLD_NEXT, "pthread_create");
-    return make(thread, how, begin, given);
-}
-"""
+    holds(wanted <= ends, f"with few files came {ends}")
 
 
 def lacking(folder: pathlib.Path, **more: object) -> dict[str, str]:
-    """The environment of a server that is run with that library."""
-    library = folder.parent / "lacking.so"
-    words: list[str | pathlib.Path] = ["cc", "-O2", "-shared", "-fPIC", "-x", "c", "-o", library, "-", "-ldl"]
-    subprocess.run(words, input=LACKING, text=True, check=True)
-    return {"LD_PRELOAD": str(library), **{name: str(it) for name, it in more.items()}}
+    """The environment of a server that is run with gate/lack.c."""
+    return {"LD_PRELOAD": str(preload("lack.c", folder.parent)), **{name: str(it) for name, it in more.items()}}
 
 
 def try_unlisted() -> None:
@@ -494,12 +434,12 @@ def try_unlisted() -> None:
                 server.settle()
                 server.kill()
             before = contents(folder)
-            check(value_files(folder), "a server that was killed left no value file")
+            holds(value_files(folder), "a server that was killed left no value file")
             with Server(folder, env=lacking(folder, LISTING=fails)) as server:
-                check(server.first == "", f"a server whose listing fails at read {fails} serves")
+                holds(server.first == "", f"a server whose listing fails at read {fails} serves")
                 said, status, error = server.ended(LASTS)
-            check((status, said) == (3, "") and error.endswith("read fault\n"), f"{status}, {said!r}, {error!r}")
-            check(contents(folder) == before, f"a listing that fails at read {fails} changed the folder")
+            holds((status, said) == (3, "") and error.endswith("read fault\n"), f"{status}, {said!r}, {error!r}")
+            holds(contents(folder) == before, f"a listing that fails at read {fails} changed the folder")
 
 
 def try_no_thread() -> None:
@@ -514,14 +454,14 @@ def try_no_thread() -> None:
                 # Nothing is sent while a call waits, since there is no thread for that.
                 it.settimeout(QUIET)
                 with contextlib.suppress(TimeoutError):
-                    check(it.recv(64) is None, "a thread was made all the same")
+                    holds(it.recv(64) is None, "a thread was made all the same")
                 it.settimeout(LASTS)
                 said, status, error = server.ended(LASTS)
                 heard = b""
                 while piece := it.recv(64):
                     heard += piece
-        check(heard == b"opened buffer\naccepted 1\ncancelled 1\n", f"the client heard {heard!r}")
-        check((status, said, error) == (0, "buffer entries 0\n", ""), f"{status}, {said!r}, {error!r}")
+        holds(heard == b"opened buffer\naccepted 1\ncancelled 1\n", f"the client heard {heard!r}")
+        holds((status, said, error) == (0, "buffer entries 0\n", ""), f"{status}, {said!r}, {error!r}")
 
 
 TRIES = (

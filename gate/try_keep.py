@@ -1,9 +1,6 @@
 """Begins `pathserve keep` on folders of `serve`, and ends it: what paths had counted before, parts, open files.
 
 usage: gate/try_keep [--program FILE] [WORDS OF A TITLE ..]
-
-The program is the one that ./pathserve runs, or FILE. The last line is `try_keep: N passed, M failed`; the exit status is 0
-where M is 0 and N is not.
 """
 import contextlib
 import pathlib
@@ -14,8 +11,9 @@ import socket
 import subprocess
 from collections.abc import Callable, Iterable, Iterator, Sequence
 
+from gate import served
 from gate.served import Server, free_port
-from gate.tried import TOP, Trial, check, given_words, in_folder, loads, program, run, there, title_of
+from gate.tried import TOP, Trial, check, given_words, holds, in_folder, loads, program, run, there, title_of
 
 SECONDS = 60
 BUFFER = """object buffer;
@@ -53,7 +51,7 @@ class Place:
         top.mkdir(exist_ok=True)
         self.file, self.folder = top / "objects.pp", top / "data"
         self.file.write_text(source, encoding="ascii")
-        self.folder.mkdir()
+        self.folder.mkdir(0o700)
 
     @contextlib.contextmanager
     def served(self, command: str, *words: object, start: Sequence[object] = (), ends: tuple[int, str] = (0, "")) -> Iterator[Callable[..., list[str]]]:
@@ -113,7 +111,7 @@ def a_past_stands_before_the_parts(place: Place) -> None:
         check([it for it in heard if it.startswith("done")], [f"done {n} '{it}'" for n, it in zip(range(9, 17), [*"bc", *range(6)])], "gets")
     check(place.said, "buffer entries 15\n", "the end")
     with place.served("keep") as say:
-        check(say("open buffer", "call get", quits=False)[1:], ["accepted 65553"], "a get behind the next start")
+        check(say("open buffer", "call get", quits=False)[1:], ["accepted 65554"], "a get behind the next start")
 
 
 def several_pasts_are_one_behind_another(place: Place) -> None:
@@ -133,7 +131,6 @@ def a_long_past_is_made_short(place: Place) -> None:
         check(say("open buffer", "call get", "call get", "call put 'a'")[1:4], ["accepted 1", "refused 1 empty", "accepted 2"], "gets")
     front = next(place.folder.glob("*.journal")).read_bytes().split(b"\0")[0].decode()
     check(front.count("past "), 1, "the lines of its past")
-    check(place.refused("--past", "buffer:put:1")[2], 2, "the status of the next start with a past")
 
 
 def more_calls_than_counters_take_do_not_fit(place: Place) -> None:
@@ -146,7 +143,7 @@ def a_past_that_does_not_fit_changes_nothing(place: Place) -> None:
     was = place.parts()
     for past in ("put:9", "get:1"):
         check(place.refused("--past", f"buffer:{past}"), (NO_FIT, "", 1), past)
-    check((place.parts(), (place.folder / "buffer.journal").read_bytes()), (was, b""), "the folder")
+    check((place.parts(), (place.folder / "buffer.journal").exists()), (was, False), "the folder")
     with place.served("serve") as say:
         check(say("open buffer", "call put 'd'")[1:3], ["accepted 1", "done 1"])
 
@@ -158,13 +155,13 @@ def what_is_not_there_is_told(place: Place) -> None:
 
 
 def a_journal_tells_its_past_itself(place: Place) -> None:
+    """The same words go on starting it: they say nothing, which is told."""
     place.filled("a")
     with place.served("keep", "--past", "buffer:put:1") as say:
         say("open buffer")
-    journal = (place.folder / "buffer.journal").read_bytes()
-    said = "error: invalid value 'buffer:put:1' for '--past <OBJECT:OPERATION:K>': what was done before is read from buffer.journal alone"
-    check(place.refused("--past", "buffer:put:1"), ("", said + USAGE, 2))
-    check((place.folder / "buffer.journal").read_bytes() == journal, True, "that the journal stays")
+    told = "--past {}: buffer has a journal, which has its past\n"
+    with place.served("keep", "--past", "buffer:put:1", "--past=Buffer:get:9", ends=(0, told.format("buffer:put:1") + told.format("Buffer:get:9"))) as say:
+        check(say("open buffer", "call get")[2].split()[2], "'a'", "a get")
 
 
 def another_object_may_have_its_first_start(place: Place) -> None:
@@ -222,30 +219,33 @@ def a_part_that_cannot_be_saved_is_told(place: Place) -> None:
 
 
 def other_parts_begin_from_what_was_saved(place: Place) -> None:
-    """An object gets another part: its journal is moved away, its parts stay, and its past is told once more."""
+    """An object gets another part: its journal and traces are moved away, its parts stay, and its past is told once more."""
     place.filled("a")
     with place.served("keep", "--past", "buffer:put:1") as say:
         say("open buffer", "call put 'b'")
     place.file.write_text(BUFFER.replace("var items", "var more : array [1] of integer; items"), encoding="ascii")
-    check(place.refused(), ("buffer.journal line 3 bad\n", "", 1), "over the journal")
+    check(place.refused(), ("object buffer was changed: part more is new\n", "", 1), "over the journal")
     (place.folder / "buffer.journal").rename(place.folder / "buffer.old")
+    check(place.refused(), ("object buffer has ended epochs and no journal: put it back, or move them away\n", "", 1), "beside its traces")
+    for it in place.folder.glob("*.trace"):
+        it.rename(it.with_suffix(".old"))
     with place.served("keep", "--past", "buffer:put:2") as say:
         heard = say("open buffer", *["call get"] * 3, quits=False)
         check([it.split()[-1] for it in heard if it.startswith("done")], ["'a'", "'b'"], "gets")
 
 
 def ended_epochs_are_kept_up_to_a_size(place: Place) -> None:
-    """Of three epochs of 60,000 calls the second one and the one that goes on are there: two that have ended have more
-    than 3 MB."""
+    """Of two epochs of 60,000 calls the second one is there, and the shorter one that has ended with the server: two long
+    ones have more than 3 MB."""
     place.file.write_text(CELL, encoding="ascii")
     with place.served("keep", "--traces", "3", "--sync", "1000") as say:
         for turn in range(130):
             check(say("open cell", *["call set 7"] * 1_000)[-2].split()[0], "done", f"the last answer of turn {turn}")
-    check(sorted(it.name for it in place.folder.glob("*.trace")), ["cell.000002.trace"], "the traces")
-    ran = subprocess.run([program(), "audit", place.file, place.folder], capture_output=True, text=True, timeout=SECONDS, check=False)
-    found = re.fullmatch(r"cell epochs 2 entries (\d+) whole\n", ran.stdout)
+    check(sorted(it.name for it in place.folder.glob("*.trace")), ["cell.000002.trace", "cell.000003.trace"], "the traces")
+    said = served.run("audit", place.file, place.folder).said
+    found = re.fullmatch(r"cell epochs 3 entries (\d+) whole\n", said)
     # (an epoch ends behind a round, in which many calls may be done)
-    check(bool(found and 60_000 < int(found[1]) <= 70_000), True, f"what the audit says, {ran.stdout!r},")
+    check(bool(found and 60_000 < int(found[1]) <= 70_000), True, f"what the audit says, {said!r},")
 
 
 def of_a_name_the_last_16_calls_are_known(place: Place) -> None:
@@ -282,7 +282,7 @@ def the_limit_of_open_files_is_raised(place: Place) -> None:
             limits = pathlib.Path(f"/proc/{place.server.child.pid}/limits").read_text(encoding="ascii")
             found[command] = there(re.search(r"Max open files +(\d+)", limits))[1]
         place.folder = place.folder.with_name("more")
-        place.folder.mkdir(exist_ok=True)
+        place.folder.mkdir(0o700, exist_ok=True)
     check(found, {"keep": str(hard), "serve": "100"}, "the limits")
 
 
@@ -320,9 +320,23 @@ def one_that_waits_asks_why(place: Place) -> None:
         refuses = "path 1 node 1 turn 1"
         asked = ["why 1 Waiting 1", f"{refuses} needs put", "who 2", "session s1 for T calls 1 name bob", f"waits 1 s1 get for T {refuses}"]
         there = ["list 4", "object cell", "object buffer", "procedure put item:text", "function get:text"]
-        ends = ["why 2 Unknown", "cancel 1 Cancelled", "cancelled 1", "no BadArgs"]
+        ends = ["why 2 Unknown", "cancel 1 Cancelled", "cancelled 1", "no BadArgs put(item : text)"]
         check(heard, ["opened buffer next 1", "accepted 1", *asked, *there, *ends], "what one hears")
         check(say("open buffer", "why 1", "why 0", "who")[1:-1], ["why 1 Ended", "why 0 Unknown", "who 0"], "what another one hears")
+
+
+def a_refusal_tells_what_there_is(place: Place) -> None:
+    """Behind its word stand the objects, the operations, or how the operation is declared; names that have no room are ` ..`."""
+    names = [f"op{at:02}{'x' * 60}" for at in range(32)]
+    wide = "".join(f"  entry procedure {it}; begin end;\n" for it in names)
+    place.file.write_text(f"{CELL}{BUFFER}object wide;\n  path 1:({', '.join(names)}) end;\n{wide}end;\n", encoding="ascii")
+    with place.served("keep") as say:
+        check(say("open sell", "open sell as ann")[:2], ["no NoObject there are cell, buffer, wide"] * 2, "which objects there are")
+        check(say("open buffer", "call pop", "call #1 pop", "call put 5", "call get 'a'")[1:5], [
+            *["no UnknownOp there are put, get"] * 2, "no BadArgs put(item : text)", "no BadArgs get : text"], "which operations there are")
+        answer = say("open wide", "call pop")[1]
+        check(answer, f"no UnknownOp there are {', '.join(names[:14])} ..", "as many as have room")
+        holds(len(answer) - len("no UnknownOp ") <= 1_000, "it is too long")
 
 
 def all_nodes_that_refuse_are_told(place: Place) -> None:
@@ -368,6 +382,7 @@ def a_page_has_256_sessions(place: Place) -> None:
 
 TRIES = [
     one_that_waits_asks_why,
+    a_refusal_tells_what_there_is,
     all_nodes_that_refuse_are_told,
     lines_that_ask_for_nothing_are_bad,
     a_page_has_256_sessions,

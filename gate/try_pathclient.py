@@ -7,9 +7,6 @@ Each reply, and each thing that comes in its place, is written down here, from d
 when it is asked (a device that fails, a line that is cut) is said by a listener that answers as it is told. The last
 step of the guide in docs/LANGUAGE.md is done as it stands there. The client in C is left out where there is no `cc`, and
 what mypy says of the library and of what `pathclient.stubs` writes where there is no mypy.
-
-The program is the one that ./pathserve runs, or FILE. The last line is `try_pathclient: N passed, M failed`; the exit status
-is 0 where M is 0 and N is not.
 """
 import asyncio
 import contextlib
@@ -22,19 +19,20 @@ import signal
 import socket
 import subprocess
 import sys
+import tarfile
 import threading
 import time
 from collections.abc import Callable, Iterable, Sequence
 from typing import Any
 
 from clients.python.pathclient import (
-    CallError, Cancelled, Expired, Failed, Lost, NoServer, Object, Pool, Refused, Rejected, Reply, aio, as_integer, stubs,
+    CallError, Cancelled, Expired, Failed, Lost, NoServer, Object, Pool, Refused, Rejected, Reply, aio, as_integer, pause, place_of, stubs,
 )
 from gate import closing, kept
 from gate.cutter import Cutter
-from gate.fakes import NEVER, FakeServer, Rows
+from gate.fakes import METER, NEVER, OPENED, FakeServer, Rows, opened
 from gate.served import Server, free_port
-from gate.tried import TOP, Trial, given_words, in_folder, lacks, loads, run
+from gate.tried import TOP, Trial, given_words, in_folder, lacks, loads, program, run
 
 OBJECTS = TOP / "examples" / "objects"
 # How long anything may take, in seconds.
@@ -81,21 +79,7 @@ def begin_answering(servers: list[FakeServer], answers: Rows, port: int) -> None
     servers.append(answering(answers, port=port))
 
 
-OPENED = ("open cell", b"opened cell\n")
-
-
-def opened(key: int, answer: bytes = b"") -> tuple[str, bytes]:
-    """The answer to a client with a name, after some that refuse it."""
-    return ("open cell as ann", answer or f"opened cell next {key}\n".encode())
-
-
 IN_USE = opened(0, b"no InUse\n")
-METER = """object meter;
-  path 1:(add) end;
-  var v : array [1] of integer;
-  entry function add(x : integer) : integer; begin v[0] := v[0] + x; add := v[0] end;
-end;
-"""
 
 
 def calls(folder: pathlib.Path) -> None:
@@ -250,14 +234,24 @@ def by_name(folder: pathlib.Path) -> None:
 
 
 def one_name_twice(folder: pathlib.Path) -> None:
-    """A name is in use until its session has ended."""
-    with server_of(OBJECTS / "cell.pp", 3, folder) as server:
+    """A name is in use until its session has ended. Who says it meanwhile is told so, however long it tries."""
+
+    async def by_task(wait: float) -> None:
+        async with aio.connect(server.port, "cell", client="ann", wait=wait):
+            pass
+
+    with server_of(OBJECTS / "cell.pp", 7, folder) as server:
         cell = Object(server.port, "cell", client="ann")
-        raised(Rejected, "InUse", Object, server.port, "cell", client="ann", wait=0.2)
+        for wait in (0.2, 1.2):
+            raised(Rejected, "InUse", Object, server.port, "cell", client="ann", wait=wait)
+            raised(Rejected, "InUse", lambda wait: asyncio.run(by_task(wait)), wait)
+        check(cell.get(), 0)
         threading.Timer(0.3, cell.close).start()
         with Object(server.port, "cell", client="ann") as again:
             check(again.get(), 0)
-        ends(server, "cell entries 1\n")
+        # (one more, so that all connections have been)
+        socket.create_connection(("127.0.0.1", server.port)).close()
+        ends(server, "cell entries 2\n")
 
 
 def names_that_are_none(folder: pathlib.Path) -> None:
@@ -397,6 +391,189 @@ def interrupted(_: object) -> None:
     check(cell.put(2), None)
 
 
+def told_in_words(_: object) -> None:
+    """A text for people behind the word of a refusal: the word decides, and the message has both, also in another process."""
+    text = "x" * 1000
+    rows = [("call put 'x'", b"no BadArgs put(item : integer)\n"), ("call get", f"no Full {text}\n".encode()), ("call get", b"no Gone\n")]
+    listener = answering([OPENED, *rows], [("open cell", b"no NoObject there are buffer, queue\n")], [OPENED, ("why x", b"no BadLine it has no number\n")])
+    cell, port = Object(listener.port, "cell"), listener.port
+    looks: list[tuple[Callable[..., object], tuple[Any, ...], str, str, str]] = [
+        (cell.call, ("put", "x"), "BadArgs", "put(item : integer)", "BadArgs: put 'x': put(item : integer)"),
+        (cell.call, ("get",), "Full", text, f"Full: get: {text}"), (cell.call, ("get",), "Gone", "", "Gone: get"),
+        (Object, (port, "cell"), "NoObject", "there are buffer, queue", "NoObject: open cell: there are buffer, queue"),
+        (lambda: Object(port, "cell").look("why", "x"), (), "BadLine", "it has no number", "BadLine: why x: it has no number"),
+    ]
+    for work, words, word, text, message in looks:
+        try:
+            work(*words)
+        except Rejected as error:
+            again = pickle.loads(pickle.dumps(error))
+            check((error.word, error.text, str(error)), (word, text, message))
+            check((again.word, again.text, str(again)), (word, text, message))
+            continue
+        raise AssertionError(f"nothing was raised, not {message}")
+
+
+def placed_by_text(_: object) -> None:
+    """A place may be written as a port, as a host and a port, or as a path; what no server answers at is told."""
+    given: tuple[tuple[tuple[int | str, str], object], ...] = (
+        ((7000, "h"), ("h", 7000)), (("7000", "h"), ("h", 7000)), (("a.b:7", "h"), ("a.b", 7)), (("[::1]:7", "h"), ("::1", 7)),
+        (("/a:7/b", "h"), "/a:7/b"), (("a.sock", "h"), "a.sock"), (("./7000", "h"), "./7000"),
+    )
+    for words, place in given:
+        check((words, place_of(*words)), (words, place))
+    for end in ("at 127.0.0.1:{}: Connection refused", "at localhost:{}: Connection refused"):
+        port = free_port()
+        try:
+            Object(f"{end.split()[1].split(':')[0]}:{port}", "cell", wait=0)
+        except NoServer as error:
+            check(str(error), f"no server answers {end.format(port)}")
+
+
+def pauses(_: object) -> None:
+    """What passes between two tries is at random, and at most twice as long as what passed before."""
+    for tries, most in ((1, 0.1), (2, 0.2), (4, 0.8), (5, 1.0), (99, 1.0)):
+        found = [pause(tries) for _ in range(500)]
+        check((tries, 0.05 <= min(found) < 0.05 + most / 5, most * 0.8 < max(found) <= most), (tries, True, True))
+
+
+SAME = """object same;
+  path 9:(it) end;
+  entry function it(x : integer) : integer; begin it := x end;
+end;
+"""
+# A program whose processes share what it made before it forked: 4 that are forked, 400 calls of each kind, and its own beside them.
+FORKS = """import asyncio, collections, multiprocessing, os, sys
+from pathclient import Object, Pool, aio
+port, name = int(sys.argv[1]), sys.argv[2] or None
+wanted = "RuntimeError: an Object belongs to the process that made it"
+def told(work, number):
+    try:
+        got = work(number)
+    except Exception as error:
+        return f"{type(error).__name__}: {error}"
+    return "right" if got == number else f"wrong: {got} for {number}"
+shared, pool, task = Object(port, "same", client=name), Pool(port, "same", 2), aio.connect(port, "same")
+def by_object(number): return told(shared.it, number)
+def by_look(number): return told(lambda _: shared.look("list"), number)
+def by_ahead(number): return told(lambda it: shared.ahead(("it", it))[0], number)
+def by_pool(number): return told(pool.it, number)
+def by_task(number): return told(lambda it: asyncio.run(task.it(it)), number)
+def by_own(number): return told(own.it, number)
+def begin():
+    global own
+    own = Object(port, "same", client=name and f"{name}_{os.getpid()}")
+def counted(work, count, initializer=None):
+    with multiprocessing.get_context("fork").Pool(4, initializer) as processes:
+        waits = processes.map_async(work, range(count), 1)
+        # (the process that made it goes on meanwhile)
+        beside = [by_object(1000 + it) for it in range(50)]
+        return collections.Counter(waits.get(60)), set(beside) == {"right"}
+async def tasks():
+    await task.open()
+    assert await task.it(7) == 7
+    found = counted(by_task, 400)
+    assert await task.it(8) == 8
+    await task.close()
+    return found
+assert by_pool(1) == "right"
+for work in (by_object, by_look, by_ahead):
+    assert counted(work, 400) == ({wanted: 400}, True), work
+assert counted(by_pool, 400) == ({wanted.replace("an Object", "a Pool"): 400}, True)
+assert counted(by_own, 400, begin) == ({"right": 400}, True)
+assert asyncio.run(tasks()) == ({wanted: 400}, True)
+with shared:
+    child = os.fork()
+    if child == 0:
+        # (it gives back its part of it, and says nothing)
+        shared.close()
+        pool.close()
+        os._exit(by_object(1) != wanted)
+    assert os.waitpid(child, 0)[1] == 0
+    assert by_object(2) == by_pool(2) == "right"
+    child = os.fork()
+    if child == 0:
+        try:
+            with shared.holding("it", "it"):
+                pass
+        except RuntimeError:
+            os._exit(0)
+        os._exit(1)
+    assert os.waitpid(child, 0)[1] == 0
+    assert by_object(3) == "right"
+"""
+
+
+def forks(folder: pathlib.Path) -> None:
+    """Behind a fork what another process made raises RuntimeError, and sends nothing; its own Object is right in each."""
+    (folder / "same.pp").write_text(SAME)
+    env = {**os.environ, "PYTHONPATH": str(TOP / "clients" / "python")}
+    for name in ("", "ann"):
+        (folder / f"data{name}").mkdir()
+        with server_of(folder / "same.pp", 7, folder / f"data{name}") as server:
+            ran = subprocess.run([sys.executable, "-c", FORKS, str(server.port), name], capture_output=True, text=True, timeout=60, check=False, env=env)
+            check((ran.returncode, ran.stderr), (0, ""))
+            # (5 of the pool, 7 times 50 beside, 400 of those that are right, 2 of a task and 3 at the end)
+            ends(server, f"same entries {1 + 6 * 50 + 400 + 2 + 1 + 2}\n")
+
+
+def ended_before(_: object) -> None:
+    """What is called over a connection that ended since, also at once, is sent over a new one: it is not lost."""
+
+    async def work(port: int, client: str | None) -> None:
+        async with aio.connect(port, "cell", client=client) as cell:
+            for seconds in (None, 0.2):
+                # (its loop has not looked, and it has)
+                time.sleep(0.2)
+                if seconds:
+                    await asyncio.sleep(seconds)
+                check(await cell.get(), 7)
+
+    for client, opens, calls in ((None, OPENED, ("get", "get")), ("ann", opened(1), ("#1 get", "#2 get"))):
+        rows = [[opens], [opens, (f"call {calls[0]}", b"accepted 1\ndone 1 7\n")],
+                [opened(2) if client else OPENED, (f"call {calls[1]}", b"accepted 2\ndone 2 7\n"), ("quit", b"bye\n")]]
+        asyncio.run(work(answering(*rows).port, client))
+        with Object(answering(*rows).port, "cell", client=client) as cell:
+            for _ in range(2):
+                time.sleep(0.2)
+                check(cell.get(), 7)
+
+
+def packages(folder: pathlib.Path) -> None:
+    """The library for Python is installed with nothing from outside, and is whole; so is the one for Node. Each has the version of the
+    program, and so has the jar (gate/try_client makes that)."""
+    version = subprocess.run([program(), "--version"], capture_output=True, text=True, check=True).stdout.split()[-1]
+    clients = TOP / "clients"
+    env = {**os.environ, "PIP_NO_INDEX": "1", "PIP_DISABLE_PIP_VERSION_CHECK": "1", "npm_config_cache": str(folder / "npm"), "npm_config_offline": "true"}
+
+    def said(*words: str | pathlib.Path, cwd: pathlib.Path = folder) -> str:
+        ran = subprocess.run(words, capture_output=True, text=True, timeout=10 * SECONDS, check=False, cwd=cwd, env=env)
+        check((words[:4], ran.returncode, ran.stderr), (words[:4], 0, ""))
+        return ran.stdout
+
+    check(f"Implementation-Version: {version}\n" in (clients / "java" / "MANIFEST.MF").read_text(), True)
+    asks = "import pathclient, pathclient.aio, pathclient.stubs, importlib.metadata as it; print(pathclient.__file__, it.version('pathclient'))"
+    if subprocess.run([sys.executable, "-m", "pip", "--version"], capture_output=True, check=False).returncode:
+        print("not run: pip")
+    else:
+        before = sorted(it for it in (clients / "python").rglob("*") if "__pycache__" not in it.parts)
+        own = folder / "venv" / "bin" / "python"
+        said(sys.executable, "-m", "venv", "--without-pip", "venv")
+        said(sys.executable, "-m", "pip", "--python", own, "install", "--quiet", "--no-index", clients / "python")
+        where, found = said(own, "-c", asks).split()
+        check((pathlib.Path(where).is_relative_to(folder), found), (True, version))
+        check((pathlib.Path(where).parent / "py.typed").exists(), True)
+        check(sorted(it for it in (clients / "python").rglob("*") if "__pycache__" not in it.parts), before)
+    if not lacks("npm"):
+        file = said("npm", "pack", "--silent", "--pack-destination", folder, cwd=clients / "node").strip()
+        check(file, f"pathclient-{version}.tgz")
+        (folder / "node_modules").mkdir()
+        with tarfile.open(folder / file) as held:
+            held.extractall(folder)
+        (folder / "package").rename(folder / "node_modules" / "pathclient")
+        check(said("node", "--input-type=module", "-e", "import { connect } from 'pathclient'; console.log(typeof connect)"), "function\n")
+
+
 def by_word(_: object) -> None:
     """A refusal is caught by its word, and as any other; it can be handed to another process."""
     listener = answering([OPENED, ("call get", b"accepted 1\nrefused 1 empty\n"), ("call get", b"accepted 2\nrefused 2 full\n")])
@@ -506,8 +683,7 @@ def late(folder: pathlib.Path) -> None:
             with Object(server.port, "lot", client="ann", wait=SECONDS) as lot:
                 for _ in range(count):
                     lot.enter()
-                server.kill()
-                server.start()
+                server.revive()
                 while other.held():
                     time.sleep(0.01)
                 raised(Expired, None, lot.call, call)
@@ -525,8 +701,7 @@ def late(folder: pathlib.Path) -> None:
 def broken_off(server: Kept, other: Object, lot: Object) -> None:
     """A block in which the server is killed, and gives back what the block holds."""
     with lot.holding("enter", "leave"):
-        server.kill()
-        server.start()
+        server.revive()
         while other.held():
             time.sleep(0.01)
 
@@ -534,8 +709,7 @@ def broken_off(server: Kept, other: Object, lot: Object) -> None:
 async def late_tasks(server: Kept, other: Object) -> None:
     async with aio.connect(server.port, "lot", client="bob", wait=SECONDS) as lot:
         await lot.enter()
-        server.kill()
-        server.start()
+        server.revive()
         while other.held():
             await asyncio.sleep(0.01)
         for call in ("held", "leave"):
@@ -1119,6 +1293,12 @@ TRIES: list[tuple[str, Any]] = [
     ("a client with a name", by_name),
     ("a name that is in use", one_name_twice),
     ("names of clients that are none", names_that_are_none),
+    ("a word, and a text for people behind it", told_in_words),
+    ("places that are written as texts", placed_by_text),
+    ("pauses between tries", pauses),
+    ("processes that are forked", forks),
+    ("a connection that ended before a call", ended_before),
+    ("packages", packages),
     *[(f"a connection that breaks at each byte {way}, {'by a reset' if resets else 'closed'}", cut_at_each_byte(way, size, resets))
       for way, size in (("up", len("call #99 add 5\n")), ("down", len("accepted 99\ndone 99 495\n"))) for resets in (False, True)],
     ("the keys of a client that comes back", after_the_return),

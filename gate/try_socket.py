@@ -2,10 +2,9 @@
 
 usage: gate/try_socket [--program FILE]
 
-It looks who may connect (as another user, where it is run as root), what becomes of a file that a killed server left, of
-two servers at one path and of something else that is there, that the socket is removed at the end, where it is still the
-one that was made, and that who comes too late is let go. The program is the one that ./pathserve runs where none is given.
-The last line is `try_socket: N passed, M failed`; the exit status is 0 where M is 0 and N is not.
+It looks who may connect (as another user, where it is run as root), what becomes of a file that a killed server left,
+of two servers at one path and of something else that is there, that the socket is removed at the end, where it is still
+the one that was made, and that who comes too late is let go.
 """
 import contextlib
 import os
@@ -179,7 +178,7 @@ def clients(top: pathlib.Path) -> None:
 def keeper(top: pathlib.Path) -> None:
     """`pathserve keep` listens at a path too, and removes it."""
     folder, path = top / "data", top / "it.sock"
-    folder.mkdir()
+    folder.mkdir(0o700)
     with Server("keep", CELL, folder, "--stop-with-input", place=path) as it:
         check(mode(top), "0o660", "the mode")
         with Object(it.place, "cell") as cell:

@@ -7,41 +7,40 @@ clients, which have names, are in a third one, and know one address, which one o
 server is killed by SIGKILL and its cable is cut, so that no client hears of it. Then the other one starts its server and
 takes the address. On the same folder each call that was answered is there, once; on a copy those are there that were
 answered before the last copy began, and how many were lost is said. docs/SCALING.md tells what that means. `rsync` makes
-the copies where it is there, else `cp`. The file for Kubernetes is looked at beside the image's, and the one of
-examples/router is run where `haproxy` is there.
+the copies where it is there, else `cp`. The file for Kubernetes is looked at beside the image's. Where `haproxy` is there
+the router of each of the two is run: what Kubernetes asks it is answered, and a client whose cable is cut behind it holds
+nothing more.
 
-It is run as root. The program is the one that ./pathserve runs, or FILE. The last line is `try_standby: N passed, M
-failed`; the exit status is 0 where M is 0 and N is not.
+It is run as root.
 """
 import contextlib
 import ctypes
+import http.client
+import json
 import os
 import pathlib
 import re
 import shutil
+import signal
 import socket
 import subprocess
 import sys
 import threading
 import time
-from collections.abc import Callable
+from collections.abc import Callable, Mapping, Sequence
 from typing import Any, TypeVar
 
 from clients.python.pathclient import CallError, Expired, Lost, NoServer, Object, Rejected
-from gate import kept
-from gate.served import Server, free_port
+from gate import kept, served
+from gate.fakes import METER
+from gate.served import Server, free_port, is_whole
 from gate.tried import TOP, Wrong, check, given_words, holds, lacks, program, there, until, whole
 
 SECONDS, CLIENTS = 60, 4
 # The address that the clients know, and the ports of routers and of servers.
 ADDRESS, PORT, OWN = "10.77.0.10", 7000, 7101
-METER = """object meter;
-  path 1:(add, [total]) end;
-  var v : array [1] of integer;
-  entry function add : integer; begin v[0] := v[0] + 1; add := v[0] end;
-  entry function total : integer; begin total := v[0] end;
-end;
-"""
+# The lines by which a router asks a client that says nothing whether it is there.
+ASKED_IN_VAIN = ("option clitcpka", "clitcpka-idle 10s", "clitcpka-intvl 5s", "clitcpka-cnt 3")
 NEW_NETWORK = 0x40000000  # CLONE_NEWNET
 
 T = TypeVar("T")
@@ -190,7 +189,7 @@ class Client(threading.Thread):
     def added(self, it: Object, key: Any) -> Any:
         while True:
             try:
-                return it.call("add", within=0.3, key=key)
+                return it.call("add", 1, within=0.3, key=key)
             except Expired:
                 raise
             except (Lost, NoServer):
@@ -220,13 +219,8 @@ def total(network: Network) -> Any:
 def prepared(folder: pathlib.Path) -> tuple[pathlib.Path, pathlib.Path, pathlib.Path]:
     (folder / "meter.pp").write_text(METER)
     for it in ("one", "two"):
-        (folder / it).mkdir()
+        (folder / it).mkdir(0o700)
     return folder / "meter.pp", folder / "one", folder / "two"
-
-
-def is_whole(source: pathlib.Path, folder: pathlib.Path) -> None:
-    ran = subprocess.run([program(), "audit", source, folder], capture_output=True, text=True, timeout=SECONDS)
-    holds(ran.returncode == 0 and ran.stdout.endswith(" whole\n"), f"audit says {ran.stdout!r}")
 
 
 def a_shared_folder(folder: pathlib.Path) -> None:
@@ -312,43 +306,168 @@ def two_servers(folder: pathlib.Path) -> None:
         hosts.two.start(source, data)
 
 
-def a_manifest(folder: pathlib.Path) -> None:
-    """The file for Kubernetes: its objects are accepted, and the folders of the image are those that it mounts."""
+def manifest() -> tuple[str, dict[str, str]]:
+    """The file for Kubernetes, and the files in it."""
     text = (TOP / "examples" / "kubernetes.yaml").read_text()
     parts = {name: re.sub(r"(?m)^ {4}", "", part) for name, part in re.findall(r"(?m)^  ([\w.]+): \|\n((?: {4}.*\n)+)", text)}
     check(sorted(parts), ["haproxy.cfg", "objects.pp"], "the files")
+    return text, parts
+
+
+def asking(text: str) -> str:
+    """The program by which the file for Kubernetes has its server asked."""
+    found = there(re.search(r"- (alarm .*)\n +- (/\S+)\n", text), "what Kubernetes runs to ask the server")
+    holds(found[2] in text.split("haproxy.cfg: |")[1].split("---")[0], "the server is asked at another socket than the router's")
+    return found[1]
+
+
+def a_manifest(folder: pathlib.Path) -> None:
+    """The file for Kubernetes: its objects are accepted, and the folders of the image are those that it mounts."""
+    text, parts = manifest()
     for name, part in parts.items():
         (folder / name).write_text(part)
-    said = subprocess.run([program(), "check", folder / "objects.pp"], capture_output=True, text=True, timeout=SECONDS)
-    check((said.returncode, said.stdout.splitlines()[-1]), (0, "1 objects, 0 refused"), "what is said of the objects")
+    said, status, _ = served.run("check", folder / "objects.pp")
+    check((status, said.splitlines()[-1]), (0, "1 objects, 0 refused"), "what is said of the objects")
     image = (TOP / "tools" / "package" / "Dockerfile").read_text()
     command = there(re.search(r"(?m)^CMD (.*)$", image))[1]
     mounts = re.findall(r"mountPath: (\S+)\}", text)
     for it in re.findall(r'"(/[^"]+)"', command):
         holds(any(it.startswith(one) for one in mounts), f"{it} is in no folder that is mounted")
     holds(there(re.search(r'server \S+ unix@(\S+)', parts["haproxy.cfg"]))[1] in command, "the router goes to another socket")
+    health = json.loads(there(re.search(r"(?m)^HEALTHCHECK .* CMD (.*)$", image), "HEALTHCHECK")[1])
+    check((health[:-2], health[-2].replace("qq(list\\n)", '"list\\n"')), (["perl", "-MIO::Socket::UNIX", "-e"], asking(text)), "how the image asks")
+    holds(health[-1] in command, "the image asks at another socket than its server's")
+    ports = re.findall(r"httpGet: \{path: (\S+), port: (\d+)\}", text)
+    told = re.findall(r"bind :(\d+)\n +monitor-uri (\S+)", parts["haproxy.cfg"])
+    check(sorted(ports), sorted((path, port) for port, path in told), "what Kubernetes asks the router")
     numbers = set(re.findall(r"(?:runAsUser|runAsGroup|fsGroup): (\d+)", text)) | set(re.findall(r"--[gu]id (\d+)", image))
     check(len(numbers), 1, "how many users and groups there are")
-    if shutil.which("haproxy"):
-        said = subprocess.run(["haproxy", "-c", "-f", folder / "haproxy.cfg"], capture_output=True, text=True, timeout=SECONDS)
-        check(said.returncode, 0, said.stderr)
+
+
+class Router:
+    """HAProxy by a file, whose addresses and time-outs are others here."""
+
+    def __init__(self, folder: pathlib.Path, text: str, changed: Mapping[str, str], by: Sequence[str] = ()) -> None:
+        for old, new in changed.items():
+            holds(old in text, f"the file of the router has no {old!r}")
+            text = text.replace(old, new)
+        file = folder / "haproxy.cfg"
+        file.write_text(text)
+        self.ran = subprocess.Popen([*by, "haproxy", "-f", file], stdout=subprocess.DEVNULL, stderr=subprocess.PIPE, text=True)
+
+    def __enter__(self) -> "Router":
+        return self
+
+    def __exit__(self, *_: object) -> None:
+        self.ran.kill()
+        self.ran.communicate()
+
+
+def example() -> str:
+    """The file of examples/router."""
+    return (TOP / "examples" / "router" / "haproxy.cfg").read_text()
+
+
+def answer(port: int, path: str) -> int:
+    """The status of the answer of a router to this request; 0 where it does not listen yet."""
+    asks = http.client.HTTPConnection("127.0.0.1", port, timeout=SECONDS)
+    with contextlib.closing(asks), contextlib.suppress(ConnectionError):
+        asks.request("GET", path)
+        return asks.getresponse().status
+    return 0
+
+
+def what_kubernetes_asks(folder: pathlib.Path) -> None:
+    """The router says whether the server answers a client, and whether it goes on itself; the image's own client says the same."""
+    text, parts = manifest()
+    place, numbers = folder / "it.sock", {it: free_port() for it in (7000, 7001, 7002)}
+    changed = {f"bind :{it}\n": f"bind 127.0.0.1:{number}\n" for it, number in numbers.items()}
+    changed |= {"/run/pathserve/objects.sock": str(place), "inter 5s fastinter 1s downinter 1s": "inter 200ms", "check 10s": "check 200ms"}
+    (folder / "objects.pp").write_text(parts["objects.pp"])
+    (folder / "data").mkdir(0o700)
+    has_perl = not lacks("perl")
+
+    def told() -> list[int]:
+        return [answer(numbers[7001], "/ready"), answer(numbers[7002], "/alive")]
+
+    def asked() -> int:
+        words = ["perl", "-MIO::Socket::UNIX", "-e", asking(text), str(place)]
+        return subprocess.run(words, stderr=subprocess.DEVNULL, timeout=SECONDS).returncode
+
+    with Router(folder, parts["haproxy.cfg"], changed):
+        until(lambda: told() == [503, 200], "the router does not say that no server is there", 10)
+        with Server("keep", folder / "objects.pp", folder / "data", "--stop-with-input", place=place) as server:
+            until(lambda: told() == [200, 200], "the router does not say that the server is there", 10)
+            holds(not has_perl or asked() == 0, "the image's own client says that the server is not there")
+            with Object(numbers[7000], "cell", client="ann") as it:
+                check((it.put(7), it.get()), (None, 7), "a cell")
+            # (one that stands still takes a connection, and answers nothing)
+            server.child.send_signal(signal.SIGSTOP)
+            until(lambda: told() == [503, 200], "the router does not say that the server stands still", 10)
+            server.child.send_signal(signal.SIGCONT)
+            until(lambda: told() == [200, 200], "the router does not say that the server goes on", 10)
+            server.child.kill()
+            until(lambda: told() == [503, 200], "the router does not say that the server is gone", 10)
+            holds(place.exists(), "a server that was killed leaves no socket: this tries nothing")
+            holds(not has_perl or asked() != 0, "the image's own client says that a server is there that is gone")
+
+
+def connected() -> socket.socket:
+    """A connection to the router, which may not listen yet."""
+    end = time.monotonic() + SECONDS
+    while True:
+        try:
+            return socket.create_connection((ADDRESS, PORT), SECONDS)
+        except OSError:
+            if time.monotonic() > end:
+                raise
+            time.sleep(0.1)
+
+
+def a_cut_cable(folder: pathlib.Path) -> None:
+    """Behind a router a client whose cable is cut holds nothing more when it was asked in vain (here each second)."""
+    for text in (manifest()[1]["haproxy.cfg"], example()):
+        for line in ASKED_IN_VAIN:
+            holds(re.search(rf"(?m)^ +{line}$", text.partition("frontend")[0]), f"a file of a router has no line {line!r}")
+    place, source = folder / "it.sock", TOP / "examples" / "objects" / "build_slots.pp"
+    changed = {"/run/pathserve/objects.sock": str(place), "clitcpka-idle 10s": "clitcpka-idle 1s", "clitcpka-intvl 5s": "clitcpka-intvl 1s"}
+    (folder / "data").mkdir(0o700)
+
+    def held() -> bool:
+        with socket.socket(socket.AF_UNIX) as it, it.makefile("rb") as lines:
+            it.connect(str(place))
+            it.sendall(b"open build_slots\nwho\nquit\n")
+            return b"\nholds 1 " in lines.read()
+
+    with contextlib.ExitStack() as stack:
+        machine, other = Network(), Network()
+        for one in (machine, other):
+            stack.callback(one.end)
+        machine.ip("link", "add", "name", "eth0", "type", "veth", "peer", "name", "eth0", "netns", other.keeper.pid)
+        for one, address in ((machine, ADDRESS), (other, "10.77.0.2")):
+            one.ip("address", "add", f"{address}/24", "dev", "eth0")
+            one.ip("link", "set", "eth0", "up")
+        stack.enter_context(Server("keep", source, folder / "data", "--stop-with-input", place=place))
+        stack.enter_context(Router(folder, manifest()[1]["haproxy.cfg"], changed, machine.words()))
+        client = stack.enter_context(in_network(other, connected))
+        client.sendall(b"open build_slots\ncall take_slot\n")
+        until(held, "the client holds no slot", 10)
+        other.ip("link", "set", "eth0", "down")
+        begun = time.monotonic()
+        until(lambda: not held(), "what a client held whose cable is cut is not given back", 15)
+        print(f"  what a client held was given back {time.monotonic() - begun:.1f} s behind the cut of its cable")
 
 
 def a_router(folder: pathlib.Path) -> None:
     """HAProxy, by the file of examples/router: each object by its port, and by the name that a client opens."""
-    text = (TOP / "examples" / "router" / "haproxy.cfg").read_text()
+    text = example()
     ports = {it: str(free_port()) for it in sorted(set(re.findall(r"127\.0\.0\.1:(\d+)", text)))}
-    for old, new in ports.items():
-        text = text.replace(f"127.0.0.1:{old}", f"127.0.0.1:{new}")
-    (folder / "haproxy.cfg").write_text(text)
     with contextlib.ExitStack() as stack:
         for name, port in (("cell", ports["7101"]), ("bounded_buffer", ports["7102"])):
-            (folder / name).mkdir()
+            (folder / name).mkdir(0o700)
             source = TOP / "examples" / "objects" / f"{name}.pp"
             stack.enter_context(Server("keep", source, folder / name, "--stop-with-input", place=port))
-        router = subprocess.Popen(["haproxy", "-f", folder / "haproxy.cfg"], stdout=subprocess.DEVNULL, stderr=subprocess.PIPE, text=True)
-        stack.callback(router.communicate)
-        stack.callback(router.kill)
+        stack.enter_context(Router(folder, text, {f"127.0.0.1:{old}": f"127.0.0.1:{new}" for old, new in ports.items()}))
         for port in ("7001", "7000"):
             with Object(int(ports[port]), "cell", client="ann") as it:
                 check((it.put(int(port)), it.get()), (None, int(port)), "a cell")
@@ -367,7 +486,8 @@ def main() -> int:
         return 0
     if any([lacks(it) for it in ("unshare", "nsenter", "ip")]):
         return 0
-    trials = [a_shared_folder, a_copied_folder, two_servers, a_manifest, *([] if lacks("haproxy") else [a_router])]
+    routed = [] if lacks("haproxy") else [what_kubernetes_asks, a_cut_cable, a_router]
+    trials = [a_shared_folder, a_copied_folder, two_servers, a_manifest, *routed]
     return kept.run("try_standby", trials, words)
 
 

@@ -1,73 +1,49 @@
 """Five tasks of a new user over `pathserve keep`, whose server is killed by `kill -9` meanwhile: a semaphore and a
-limiter, an inventory with reservations, a queue of jobs with leases, a leader with a fencing token, and a ledger.
+limiter, an inventory with reservations, a queue of jobs with leases, a leader with a fencing token, and a ledger. And
+what users are advised: a worker that hangs loses its job, and each hold that `check --explain` proposes for an example.
 
 usage: gate/try_tasks [--program FILE] [--kills N] [--seed N] [WORDS OF A TITLE ..]
 
 The objects are those of gate/tasks, the clients use clients/python, with names. The server is killed N
 times (4 where no number is given) at drawn moments. Then no more than five are inside the semaphore at a time, nothing
 of the inventory is lost, each job is done, there is one leader for a token, and each answered transfer is in the
-ledger.
-
-The program is the one that ./pathserve runs, or FILE. The last line is `try_tasks: N passed, M failed`; the exit status
-is 0 where M is 0 and N is not.
+ledger. Of an example with advice clients die in the middle, with and without it, and what is gone is looked at.
 """
 import collections
+import concurrent.futures
 import contextlib
 import pathlib
 import random
+import re
+import signal
+import subprocess
+import sys
 import threading
 import time
-from collections.abc import Callable
 from typing import Any
 
-from clients.python.pathclient import CallError, Cancelled, Lost, NoServer, Object, Refused
-from gate import kept
+from clients.python.pathclient import Cancelled, Lost, NoServer, Object, Refused
+from gate import kept, served
+from gate.crowd import Crew
 from gate.kept import Server
-from gate.tried import TOP, Wrong, check, given_words, holds, loads, until
+from gate.talk import Talk
+from gate.tried import TOP, Wrong, check, holds, there, until
 
 
-class Task:
-    """A server on the objects of a task, with clients in threads."""
+class Task(Crew):
+    """A server on the objects of a task, with its clients."""
 
     def __init__(self, folder: pathlib.Path, name: str, seed: int) -> None:
+        super().__init__()
         self.server = Server(folder, (TOP / "gate" / "tasks" / f"{name}.pp").read_text(), at_path=True)
-        self.random, self.stops = random.Random(seed), False
-        self.faults: list[str] = []
-        self.threads: list[threading.Thread] = []
+        self.random = random.Random(seed)
         self.server.start()
 
     def object(self, name: str, client: str) -> "Patient":
         return Patient(self, name, client)
 
-    def run(self, work: Callable[..., Any], *words: Any) -> None:
-        """Has a client work in a thread of its own."""
-
-        def body() -> None:
-            try:
-                work(*words)
-            except (CallError, Wrong, OSError, ValueError) as fault:
-                self.faults.append(f"{work.__name__}{words}: {type(fault).__name__} {fault}")
-
-        self.threads.append(threading.Thread(target=body, daemon=True))
-        self.threads[-1].start()
-
-    def kill(self, times: int) -> None:
-        for _ in range(times):
-            time.sleep(self.random.uniform(0.05, 0.4))
-            self.server.kill()
-            self.server.start()
-
-    def join(self, seconds: float = 60) -> None:
-        end = time.monotonic() + seconds
-        for it in self.threads:
-            it.join(max(0.0, end - time.monotonic()))
-        holds(not any(it.is_alive() for it in self.threads), "clients do not end")
-        self.threads = []
-        holds(not self.faults, f"{len(self.faults)} faults: {self.faults[:3]}")
-
-    def end(self, *names: str) -> None:
-        check(self.server.end()[1], 0, "the status")
-        self.server.is_whole(*names)
+    def killed(self, times: int) -> None:
+        self.kill(self.server, times, self.random, 0.05, 0.4)
 
 
 class Patient:
@@ -91,6 +67,9 @@ class Patient:
             key = it.key
             try:
                 return it.call(operation, *arguments, within=within)
+            except NoServer:
+                # (a start that is slower than the call may be: nothing was called)
+                pass
             except Cancelled:
                 if within is not None:
                     raise
@@ -132,7 +111,7 @@ def a_semaphore_of_five(folder: pathlib.Path, kills: int, seed: int) -> None:
 
     for at in range(12):
         task.run(work, f"w{at}")
-    task.kill(kills)
+    task.killed(kills)
     task.join()
     check(most[0], 5, "the most that were inside")
     sem = task.object("sem", "late")
@@ -145,7 +124,7 @@ def a_semaphore_of_five(folder: pathlib.Path, kills: int, seed: int) -> None:
     except Cancelled:
         pass
     sem.close()
-    task.end("sem", "bucket", "window")
+    task.server.ends("sem", "bucket", "window")
 
 
 def a_limiter(folder: pathlib.Path, kills: int, seed: int) -> None:
@@ -170,7 +149,7 @@ def a_limiter(folder: pathlib.Path, kills: int, seed: int) -> None:
     task.run(tick)
     for at in range(3):
         task.run(grab, at)
-    task.kill(kills)
+    task.killed(kills)
     task.join()
     check((given[0], used), (120, [40, 40, 40]), "tokens")
     bucket = task.object("bucket", "late")
@@ -180,7 +159,7 @@ def a_limiter(folder: pathlib.Path, kills: int, seed: int) -> None:
     except Cancelled:
         pass
     bucket.close()
-    task.end("sem", "bucket", "window")
+    task.server.ends("sem", "bucket", "window")
 
 
 def an_inventory(folder: pathlib.Path, kills: int, seed: int) -> None:
@@ -228,15 +207,15 @@ def an_inventory(folder: pathlib.Path, kills: int, seed: int) -> None:
     shops = [random.Random(f"{seed}.{at}") for at in range(4)]
     for at, draw in enumerate(shops):
         task.run(shop, f"s{at}", draw)
-    task.kill(kills)
-    until(lambda: sum(it.is_alive() for it in task.threads) == 1, f"the shops do not end: {task.faults[:3]}")
+    task.killed(kills)
+    until(lambda: task.going_on() == 1, f"the shops do not end: {task.faults[:3]}")
     task.stops = True
     task.join()
     holds(len(set(ended)) == len(ended), "a reservation ended twice")
     found = first("available", "lamp") + sum(sold), first("open_reservations")
     check(found, (total, 0), "what is there and was sold")
     first.close()
-    task.end("inventory")
+    task.server.ends("inventory")
 
 
 def a_queue_of_jobs(folder: pathlib.Path, kills: int, seed: int) -> None:
@@ -287,7 +266,7 @@ def a_queue_of_jobs(folder: pathlib.Path, kills: int, seed: int) -> None:
     for at in range(4):
         task.run(work, f"w{at}", random.Random(f"{seed}.{at}"))
     task.run(tick)
-    task.kill(kills)
+    task.killed(kills)
     end = time.monotonic() + 30
     while len(done) < len(jobs) and time.monotonic() < end:
         time.sleep(0.02)
@@ -296,7 +275,7 @@ def a_queue_of_jobs(folder: pathlib.Path, kills: int, seed: int) -> None:
     check(sorted(done.elements()), sorted(jobs), "the jobs that were done")
     check((first("waiting"), first("leased")), (0, 0), "the jobs that are left")
     first.close()
-    task.end("work")
+    task.server.ends("work")
 
 
 def a_leader(folder: pathlib.Path, kills: int, seed: int) -> None:
@@ -329,7 +308,7 @@ def a_leader(folder: pathlib.Path, kills: int, seed: int) -> None:
     check(ann("acquire", "boss", 100, 20), 1)
     for at in range(4):
         task.run(candidate, f"c{at}", random.Random(f"{seed}.{at}"))
-    task.kill(kills)
+    task.killed(kills)
     until(lambda: len(terms) > 3 or task.faults, "the leader stays the same", 20)
     task.stops = True
     task.join()
@@ -338,8 +317,7 @@ def a_leader(folder: pathlib.Path, kills: int, seed: int) -> None:
     holds(len(tokens) > 1 and min(tokens) == 2, f"tokens {sorted(tokens)[:6]}")
     # A lease that has not ended holds behind a crash.
     check(ann("acquire", "boss", 1_000_000, 60), ann("token"))
-    task.server.kill()
-    task.server.start()
+    task.server.revive()
     bob = task.object("lease", "bob")
     bob("token")
     try:
@@ -349,7 +327,7 @@ def a_leader(folder: pathlib.Path, kills: int, seed: int) -> None:
         check(why.word, "taken")
     ann.close()
     bob.close()
-    task.end("lease")
+    task.server.ends("lease")
 
 
 def a_ledger(folder: pathlib.Path, kills: int, seed: int) -> None:
@@ -373,7 +351,7 @@ def a_ledger(folder: pathlib.Path, kills: int, seed: int) -> None:
 
     for at in range(6):
         task.run(transfer, f"t{at}")
-    task.kill(kills)
+    task.killed(kills)
     time.sleep(0.2)
     task.stops = True
     task.join()
@@ -381,15 +359,134 @@ def a_ledger(folder: pathlib.Path, kills: int, seed: int) -> None:
     check((first("balance", "b"), first("balance", "a")), (total, 1_000_000 - total), "what was transferred")
     holds(total > 0, "nothing was transferred")
     first.close()
-    task.end("bank")
+    task.server.ends("bank")
 
 
-TRIALS = (a_semaphore_of_five, a_limiter, an_inventory, a_queue_of_jobs, a_leader, a_ledger)
+# What users are advised.
+
+EXAMPLES = TOP / "examples" / "objects"
+# A note on a pair of operations, with the line of the source and what is proposed, if anything.
+PAIR = re.compile(r"(?m)^SOURCE:(\d+):(\d+): who is gone between `(\w+)` and `(\w+)` never calls .*\n(.*)\n.*\n(?: +=(?:.*)`(hold [^`]*;)`)?")
+# A worker that claims a job, and hangs; what it says on its input it does behind that.
+HANGS = """import sys
+from pathclient import Object, Refused
+with Object(sys.argv[1], "timed_jobs") as jobs:
+    print(job := jobs.claim(), flush=True)
+    sys.stdin.readline()
+    try:
+        jobs.finish(job)
+    except Refused as it:
+        print("refused", it.word, flush=True)
+    sys.stdin.readline()
+"""
 
 
-def main() -> int:
-    given, words = kept.options(given_words(), kills=4, seed=1)
-    return kept.run("try_tasks", TRIALS, words, **given)
+def age(shop: Object) -> int:
+    """For how long the late job has been claimed, in seconds."""
+    found = shop.seconds("late")
+    assert isinstance(found, int)
+    return found
 
 
-load_tests = loads(lambda: kept.trials_of("try_tasks", TRIALS, kills=4, seed=1))
+def a_worker_that_hangs(folder: pathlib.Path, kills: int, seed: int) -> None:
+    """Its job is taken from it, and another one claims it; what it does later finishes nothing twice."""
+    server = Server(folder, (EXAMPLES / "timed_jobs.pp").read_text(encoding="ascii"), at_path=True).start()
+    words = [sys.executable, "-c", HANGS, server.place]
+    hangs = subprocess.Popen(words, stdin=subprocess.PIPE, stdout=subprocess.PIPE, text=True,
+                             env={"PYTHONPATH": str(TOP / "clients" / "python")})
+    says, hears = there(hangs.stdin), there(hangs.stdout)
+    try:
+        with Object(server.place, "timed_jobs") as shop, Object(server.place, "timed_jobs") as other:
+            shop.submit("late")
+            check(hears.readline(), "late\n", "what is claimed")
+            hangs.send_signal(signal.SIGSTOP)
+            shop.submit("next")
+            check(other.claim(), "next", "what another one claims")
+            other.finish("next")
+            until(lambda: age(shop) >= 2, "no time passes", 20)
+            try:
+                other.call("claim", within=0.2)
+                raise Wrong("a job is there that nobody gave back")
+            except Cancelled:
+                pass
+            shop.give_back("late")
+            check(other.claim(), "late", "what another one claims that was late")
+            check(age(shop) < 2, True, "that its time began anew")
+            other.finish("late")
+            hangs.send_signal(signal.SIGCONT)
+            says.write("\n")
+            says.flush()
+            check(hears.readline(), "refused missing\n", "what is finished late")
+            # (a worker that dies has nothing any more: no job comes back for it)
+            hangs.kill()
+            hangs.wait()
+            shop.submit("last")
+            check((other.claim(), shop.waiting()), ("last", 0), "what is left")
+            other.finish("last")
+    finally:
+        hangs.kill()
+        hangs.communicate()
+    server.ends("timed_jobs")
+
+
+def called(source: str, name: str) -> str:
+    """A call of an operation of a source, with an argument of each kind."""
+    params = there(re.search(rf"(?i)entry (?:procedure|function) {name}\b *(?:\(([^)]*)\))?", source))[1] or ""
+    groups = [it.split(":") for it in params.split(";") if it]
+    return " ".join([name, *("'x'" if kind.strip() == "text" else "7" for names, kind in groups for _ in names.split(","))])
+
+
+def die_between(folder: pathlib.Path, source: str, title: str, chain: list[str], hold: str) -> None:
+    """A client makes the calls of a chain but the last one, and dies. With the hold of the last two that one is called for
+    it, once, and another client goes all the way; without it that one is left to somebody."""
+    room = folder / f"{title}{'+' if hold else ''}"
+    room.mkdir()
+    server = Server(room, source).start()
+    name, last = there(re.search(r"object (\w+)", source))[1], chain[-1]
+    calls = [called(source, it) for it in chain]
+
+    def ends() -> list[str]:
+        """What the calls of the last operation have ended with: a reply that nobody hears is lost."""
+        journal = (server.folder / f"{name}.journal").read_text(encoding="ascii", errors="replace")
+        found = re.findall(rf"(?m)^start (\d+) s\d+ {last}\b", journal)
+        return [there(re.search(rf"(?m)^end {it} (.*)$", journal))[1] for it in found]
+
+    with Talk(server, f"open {name}", f"opened {name}") as dies:
+        check(dies.calls(*calls[:-1]), ["done"] * len(calls[:-1]), f"{title}: the chain")
+    until(lambda: not server.says(f"open {name}", "who")[2:-1], f"{title}: it does not die, or holds still", 10)
+    check(ends(), ["done"] if hold else [], f"{title}: what {last} replied that was called for it")
+    with Talk(server, f"open {name}", f"opened {name}") as other:
+        found = other.calls(*(calls if hold else calls[-1:]))
+        check([it.split(" ")[0] for it in found], ["done"] * len(found), f"{title}: the calls of another one")
+    server.ends(name)
+
+
+def what_is_advised_on_holds(folder: pathlib.Path, kills: int, seed: int) -> None:
+    """Each hold that is proposed for an example is put there, and gives back for a client that dies; where none is, the one
+    that died is not called for, and another client calls it."""
+    found: collections.Counter[bool] = collections.Counter()
+    deaths: list[tuple[str, str, list[str], str]] = []
+    for file in sorted(EXAMPLES.glob("*.pp")):
+        source = file.read_text(encoding="ascii")
+        (folder / "SOURCE").write_text(source, encoding="ascii")
+        for number, column, first, last, _, hold in PAIR.findall(served.run("check", "--explain", "SOURCE", cwd=folder).error):
+            line = source.splitlines()[int(number) - 1]
+            before = re.split(r"[(\[,]", line[: int(column) - 1])[-1]
+            chain = [*re.findall(r"\w+", before), first, last]
+            title = f"{file.stem}.{first}"
+            deaths.append((source, title, chain, ""))
+            if hold:
+                check(hold, f"hold {first} until {last};", "the hold")
+                deaths.append((re.sub(r"\nend;\n$", f"\n  {hold}\nend;\n", source), title, chain, hold))
+            found[bool(hold)] += 1
+    check((found[True] > 6, found[False] > 6), (True, True), f"that there are enough of both in {dict(found)}")
+    with concurrent.futures.ThreadPoolExecutor(6) as pool:
+        for it in [pool.submit(die_between, folder, *words) for words in deaths]:
+            it.result()
+
+
+TRIALS = (a_semaphore_of_five, a_limiter, an_inventory, a_queue_of_jobs, a_leader, a_ledger, a_worker_that_hangs,
+          what_is_advised_on_holds)
+
+
+main, load_tests = kept.part("try_tasks", TRIALS, kills=4, seed=1)

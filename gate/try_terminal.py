@@ -3,10 +3,8 @@
 usage: gate/try_terminal [--program FILE]
 
 Standard error is the one end of a terminal, and what comes out at its other end is compared with what `--explain`
-writes into a pipe. Standard output and the exit status have to be the same at a terminal and at a pipe, with and without
-the flags. `try` has a prompt before each line where standard input is a terminal. The program is the one that
-./pathserve runs, or FILE. The last line is `try_terminal: N passed, M failed`; the exit status is 0 where M is 0 and N
-is not.
+writes into a pipe. Standard output and the exit status have to be the same at a terminal and at a pipe, with and
+without the flags. `try` has a prompt before each line where standard input is a terminal.
 """
 import os
 import pathlib

@@ -7,8 +7,6 @@ Small traces have every bar and tooltip written down here; damaged ones what is 
 traces of many pages, up to 65,536 calls of 1,024 sessions, are compared with what was drawn: each call begins and
 ends in one place of all pages, has a bar on each page between, and no bar hides another. Where a bar stands is read
 off the axis of its page. What an audit says comes from a program that says what is written down here.
-
-The last line is `try_timeline: N passed, M failed`; the exit status is 0 where M is 0 and N is not.
 """
 import contextlib
 import io
@@ -22,6 +20,7 @@ import xml.etree.ElementTree as tree
 from collections.abc import Callable, Iterable, Iterator, Mapping, Sequence
 from typing import Any
 
+from gate import sums
 from gate.drawn_scripts import Script
 from gate.tried import Trial, run, there, whole
 from tools import timeline
@@ -134,6 +133,28 @@ KEPT_BARS: list[tuple] = [
 ]
 KEPT_WAITS: list[tuple] = [("s4", 104, 5, 7), ("s7", 57, "<", 3), ("s9", 60, "<", ">"), ("s10", 108, 10, 10)]
 KEPT_HOLDS: list[tuple] = [("s3 ann", "<", 1, [0]), ("s65535 bob", 6, ">", [105]), ("s7", 4, 8, [57])]
+# The same epoch with a format, where check lines join them, also what was held, and when the clock called: its rounds begin
+# with these of its lines, counted from 0.
+ROUNDS = (8, 10, 13, 15, 18)
+HELD = ["held s3 50 take_slot", "held s65535 61 begin_release 'a b' 7", "tick take_slot 1764576000"]
+TICK = "tick begin_release 1764576060"
+
+
+def with_checks() -> list[str]:
+    """Its lines."""
+    parts = [KEPT[at:end] for at, end in zip((0, *ROUNDS), (*ROUNDS, None))]
+    parts[0] = [parts[0][0].replace(" epoch", " format 2 epoch"), *parts[0][1:], *HELD]
+    parts[2] = [TICK, *parts[2]]
+    return sums.epoch(*("".join(f"{it}\n" for it in part).encode() for part in parts)).decode().splitlines()
+
+
+CHECKED = with_checks()
+# Lines that cannot be in that one, in the place of one of its lines, by its number; and which line is told.
+FRONT = next(at for at, it in enumerate(CHECKED, 1) if it.startswith("front "))
+NOT_CHECKED = [(1, "object build_slots epoch 4", FRONT, "bad"), (1, "object build_slots format 3 epoch 4", 1, "has format 3"),
+               (1, "object build_slots format 02 epoch 4", 1, "bad"), (FRONT, "base 100", FRONT, "bad"), (FRONT, "stored 9 00000000", FRONT, "bad"),
+               (FRONT, "name s5 eve", FRONT, "bad"), (FRONT - 1, "front 9 00000000", FRONT, "bad"), (FRONT + 1, CHECKED[FRONT - 1], FRONT + 1, "bad"),
+               (FRONT + 1, HELD[0], FRONT + 1, "bad"), (FRONT - 1, "start 3 s3 give_slot", FRONT - 1, "bad")]
 # Lines that cannot be in an epoch, in the place of one of its lines, by its number.
 NOT_KEPT = [(2, "part v 0g"), (3, "past take_slot 0"), (3, "past begin"), (4, "base x"), (4, "base 18446744073709551616"), (4, "client s3 ann 5"),
             (5, "source 0123456789abcdef"), (5, "base 100"), (5, "carried 1 57 s7"), (7, "client s65536 ann 5"), (7, "client s3 9 5"), (8, "past take_slot 2"),
@@ -624,13 +645,18 @@ def levels(page: Page, most: int) -> list[int]:
     return found
 
 
-def kept(folder: pathlib.Path) -> object:
-    """What is wrong with the picture of an epoch, if anything."""
-    status, error, drawn = ran(folder, [*KEPT, *BEHIND], "--objects", str(OBJECTS / "build_slots.pp"))
+def kept(folder: pathlib.Path, lines: Sequence[str]) -> object:
+    """What is wrong with the picture of an epoch of these lines, if anything."""
+    status, error, drawn = ran(folder, [*lines, *BEHIND], "--objects", str(OBJECTS / "build_slots.pp"))
     if status or error or len(drawn) != 1:
         return f"status {status}, {error!r}, {len(drawn)} pages"
     page = Page(drawn[0])
-    shown: tuple[tuple[Sequence[Any], Sequence[Any]], ...] = (page.bars(1, 10), KEPT_BARS), (page.waits(1, 10), KEPT_WAITS), (page.holds(1, 10), KEPT_HOLDS)
+
+    def new(found: re.Match[str]) -> str:
+        return moved(lines, found)
+
+    bars = [(*it, re.sub(r"lines (\d+) to (\d+)", new, title)) for *it, title in KEPT_BARS]
+    shown: tuple[tuple[Sequence[Any], Sequence[Any]], ...] = (page.bars(1, 10), bars), (page.waits(1, 10), KEPT_WAITS), (page.holds(1, 10), KEPT_HOLDS)
     for found, wanted in shown:
         if sorted(map(str, found)) != sorted(map(str, wanted)):
             return f"it shows {found}"
@@ -641,6 +667,23 @@ def kept(folder: pathlib.Path) -> object:
     if page.summary != ["object build_slots, epoch 4", "7 calls: 4 done, 0 refused, 0 failed, 2 cancelled, 1 waiting; at most 2 waited at once"]:
         return f"it says {page.summary}"
     return page.unlabelled() or page.hidden() or None
+
+
+def moved(lines: Sequence[str], found: re.Match[str]) -> str:
+    """The same lines of KEPT, by the numbers that they have among these."""
+    first, last = (lines.index(KEPT[int(it) - 1]) + 1 for it in found.groups())
+    return f"lines {first} to {last}"
+
+
+def not_checked(folder: pathlib.Path, number: int, line: str, at: int, told: str) -> str | None:
+    status, error, _ = ran(folder, [*CHECKED[: number - 1], line, *CHECKED[number:], *BEHIND])
+    return None if (status, error) == (1, f"line {at} {told}\n") else f"status {status}, {error!r}"
+
+
+def cut_front(folder: pathlib.Path, count: int) -> str | None:
+    """A front that has these lines and no more."""
+    status, error, drawn = ran(folder, [*CHECKED[:count], "\0"])
+    return None if (status, error, drawn) == (1, f"line {count + 1} bad\n", []) else f"status {status}, {error!r}"
 
 
 def not_kept(folder: pathlib.Path, number: int, line: str) -> str | None:
@@ -753,7 +796,12 @@ def tries(folder: pathlib.Path) -> Iterator[tuple[str, Callable[[], object]]]:
     for seed in range(1, 6):
         yield f"who waits, {seed}", lambda: waiting(folder, Drawn(seed, 150, 12, 6))
         yield f"what is held, {seed}", lambda: holding(folder, Slots(seed))
-    yield "an epoch", lambda: kept(folder)
+    yield "an epoch", lambda: kept(folder, KEPT)
+    yield "an epoch with check lines", lambda: kept(folder, CHECKED)
+    for number, line, at, told in NOT_CHECKED:
+        yield f"line {number} of an epoch with check lines is {line!r}", lambda: not_checked(folder, number, line, at, told)
+    for count in range(1, FRONT):
+        yield f"a front of {count} lines", lambda: cut_front(folder, count)
     for number, line in NOT_KEPT:
         yield f"line {number} of an epoch is {line!r}", lambda: not_kept(folder, number, line)
     for word, status, told, event in FOLDER:

@@ -3,9 +3,9 @@ types by mypy, and what ruff's default rules find; and that no file changes wher
 
 usage: gate/try_types [WORD ..]
 
-gate/mypy.ini says how strictly each module is looked at, and leaves out none. Each file that has no fault passes; of the
-others the faults are said that have one of the words in them. Where ruff is not there, pyflakes and pycodestyle look by
-the same rules (F; E4, E7 and E9). What is not there is not run, and fails nothing. The last line is `try_types: N passed, M failed`; the exit status is 0 where M is 0 and N is not.
+gate/mypy.ini says how strictly each module is looked at, and leaves out none. Each file that has no fault passes; of
+the others the faults are said that have one of the words in them. Where ruff is not there, pyflakes and pycodestyle
+look by the same rules (F; E4, E7 and E9). What is not there is not run, and fails nothing.
 """
 import os
 import pathlib

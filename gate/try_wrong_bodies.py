@@ -3,6 +3,8 @@
 usage: gate/try_wrong_bodies [--all] [--name] [--jobs N] [CRATE ..]
            tries the edits of each crate (or of those named) in which something changed since they were tried;
            --all: of each; --name: writes into an edit that names no clause the one that refused it
+       gate/try_wrong_bodies --draw N [--jobs N] [CRATE ..]
+           tries N edits of each crate, drawn by the digest of the sources, and records nothing
        gate/try_wrong_bodies --check [CRATE ..]
            tries nothing, and fails where something changed, or an edit names no clause
 
@@ -45,6 +47,7 @@ import collections
 import contextlib
 import os
 import pathlib
+import random
 import re
 import shutil
 import signal
@@ -59,7 +62,7 @@ from typing import Any
 
 from gate import clauses
 from gate.tried import TOP
-from tools import repository
+from tools import ready, repository
 from tools.kit import rt as rt_of_kit
 
 TRIED = TOP / "wrong-bodies.tried"
@@ -193,13 +196,23 @@ def copy_work(name: str, part: str, to: pathlib.Path) -> None:
         subprocess.run(["cp", "-r", "--reflink=auto", str(made), str(to / "crates" / name / "out")], check=True)
 
 
-def prepare(rt: Any, lines: Mapping[str, str], names: Sequence[str], to: pathlib.Path) -> dict[str, Any]:
-    """Makes the copy, and returns its crates by name, lowest first."""
+def drawn(names: Iterable[str], count: int) -> dict[str, list[str]]:
+    """The names of so many edits of each crate. Other sources, also of another crate, have others drawn."""
+    of_sources = ready.digest(TOP, ready.kit())
+    found = {name: [it.name for it in edits(TOP, name)] for name in names}
+    return {name: random.Random(of_sources + name).sample(it, min(count, len(it))) for name, it in found.items()}
+
+
+def prepare(rt: Any, lines: Mapping[str, str], chosen: Mapping[str, Collection[str]], to: pathlib.Path) -> dict[str, Any]:
+    """Makes the copy, with these edits, and returns its crates by name, lowest first."""
+    names = list(chosen)
     needed = [it for it in lines if any(it in [name, *repository.below(lines, name)] for name in names)]
     copy_sources(lines, needed, to)
     for name in names:
         # The digest is taken of the edits under their own name.
-        shutil.copytree(to / "crates" / name / EDITS, to / "crates" / name / "must-fail")
+        made = shutil.copytree(to / "crates" / name / EDITS, to / "crates" / name / "must-fail")
+        for it in [it for it in edits(to, name) if it.name not in chosen[name]]:
+            (made / it.name).unlink()
     crates = {it.name: it for it in rt.rtlib.crates_below(str(to))}
     # While another rt works in these crates, what it keeps is not whole.
     held = rt.rtlib.lock([it for it in rt.rtlib.crates_below(str(TOP)) if it.name in crates])
@@ -207,8 +220,8 @@ def prepare(rt: Any, lines: Mapping[str, str], names: Sequence[str], to: pathlib
         copy_work(name, "rlib", to)
         if name in names or not crate.is_built():
             copy_work(name, "incremental", to)
-    for it in held:
-        os.close(it)
+    for descriptor in held:
+        os.close(descriptor)
     take_kept(rt, to, crates)
     take_unstamped(crates)
     return crates
@@ -530,8 +543,10 @@ def try_edits(rt: Any, crate: Any) -> tuple[int, int]:
     return passed, len(good) + len(bad) - passed
 
 
-def try_crates(lines: Mapping[str, str], names: Sequence[str], kit: str, jobs: int, folder: pathlib.Path) -> tuple[int, int]:
-    """Tries the edits of these crates in a copy, records those that were all refused, and counts the edits."""
+def try_crates(
+    lines: Mapping[str, str], chosen: Mapping[str, Collection[str]], kit: str, jobs: int, folder: pathlib.Path, records: bool
+) -> tuple[int, int]:
+    """Tries these edits of crates in a copy, and counts them. It records those crates of which all were refused, or nothing."""
     # Where rt puts what it makes for a check.
     tempfile.tempdir = str(folder / "rooms")
     os.mkdir(tempfile.tempdir)
@@ -540,7 +555,7 @@ def try_crates(lines: Mapping[str, str], names: Sequence[str], kit: str, jobs: i
     # Its first call sets a signal's handler, which only the main thread may.
     rt.rtlib.guarded()
     top = folder / "copy"
-    crates = prepare(rt, lines, names, top)
+    crates = prepare(rt, lines, chosen, top)
     # With RT_JOBS it looks no more at how much memory is free.
     if jobs != rt.processors():
         os.environ["RT_JOBS"] = str(jobs)
@@ -548,16 +563,17 @@ def try_crates(lines: Mapping[str, str], names: Sequence[str], kit: str, jobs: i
     def tried(name: str, given: Any) -> tuple[int, int]:
         if not all(given[it.name, "lib"] for it in crates[name].below()):
             say(f"{name}: a library below is not proved, so its edits were not tried")
-            counts = 0, len(edits(top, name))
+            counts = 0, len(chosen[name])
         else:
             counts = try_edits(rt, crates[name])
         wrong = told_of_edits(top, name)
         if wrong:
             say("\n".join(wrong))
-        is_well = counts == (len(edits(top, name)), 0) and not wrong
-        row = [name, digest(top, lines, name, kit), str(counts[0]), "edits"]
-        with PRINTING:
-            record(lines, {name: row if is_well else None})
+        if records:
+            is_well = counts == (len(chosen[name]), 0) and not wrong
+            row = [name, digest(top, lines, name, kit), str(counts[0]), "edits"]
+            with PRINTING:
+                record(lines, {name: row if is_well else None})
         return counts
 
     tasks: dict[tuple[str, str], Any] = {}
@@ -567,7 +583,7 @@ def try_crates(lines: Mapping[str, str], names: Sequence[str], kit: str, jobs: i
         if any(crate in it.below() for it in crates.values()):
             tasks[name, "lib"] = (waits, weight, memory, lambda given, _, it=crate: all(given[w.name, "lib"] for w in it.below()) and build(it))
             waits = [*waits, (name, "lib")]
-        if name in names:
+        if name in chosen:
             tasks[name, "edits"] = (waits, weight, memory, lambda given, _, it=name: tried(it, given))
     counts = [it for (_, what), it in rt.in_lanes(tasks).items() if what == "edits"]
     return sum(it[0] for it in counts), sum(it[1] for it in counts)
@@ -625,6 +641,7 @@ def main() -> int:
     words.add_argument("--all", action="store_true")
     words.add_argument("--name", action="store_true")
     words.add_argument("--check", action="store_true")
+    words.add_argument("--draw", type=int, default=0)
     words.add_argument("--jobs", type=int, default=min(len(os.sched_getaffinity(0)), 4))
     words.add_argument("crates", nargs="*")
     given = words.parse_args()
@@ -632,19 +649,20 @@ def main() -> int:
     for name in given.crates:
         if name not in lines or not edits(TOP, name):
             words.error(f"{name} is no crate of crates.txt that has wrong bodies")
-    if given.jobs < 1 or given.check and (given.all or given.name):
-        words.error("--jobs takes a number above 0, and --check goes with no other word")
+    if given.jobs < 1 or given.draw < 0 or given.check and (given.all or given.name or given.draw) or given.draw and (given.all or given.name):
+        words.error("--jobs and --draw take a number above 0, and --check and --draw go with none of the other words")
     global NAMING
     NAMING = given.name
     if given.check:
         return end(*check(lines, given.crates, kit))
     rows = recorded()
     had = [it for it in given.crates or lines if edits(TOP, it)]
-    names = [it for it in had if given.all or told_of_edits(TOP, it) or not fits(rows.get(it), lines, it, kit)]
-    if not given.crates and {*rows} - {it for it in lines if edits(TOP, it)}:
+    names = [it for it in had if given.all or given.draw or told_of_edits(TOP, it) or not fits(rows.get(it), lines, it, kit)]
+    if not given.draw and not given.crates and {*rows} - {it for it in lines if edits(TOP, it)}:
         record(lines, {})
     if not names:
         say("nothing to try: nothing has changed since the wrong bodies were tried")
         return end(0, 0)
-    say(f"trying {sum(len(edits(TOP, it)) for it in names)} wrong bodies of {len(names)} crates: {' '.join(names)}")
-    return in_own_folder(lambda folder: end(*try_crates(lines, names, kit, given.jobs, folder)))
+    chosen = drawn(names, given.draw or sys.maxsize)
+    say(f"trying {sum(map(len, chosen.values()))} wrong bodies of {len(names)} crates: {' '.join(names)}")
+    return in_own_folder(lambda folder: end(*try_crates(lines, chosen, kit, given.jobs, folder, not given.draw)))

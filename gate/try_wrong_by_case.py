@@ -11,10 +11,9 @@ An edit that names a case of cases/serve tells no lines: what a client hears the
 That case has to fail by gate/run_sessions where the edit is on, and to pass where none is. These edits stand in one
 program, each of them off (gate/switched.py); one that cannot be put off has a program of its own.
 
-Other edits, of different lines, each with a case of its own, stand in one program: it is built in a temporary copy of the
-repository as tools/make_ready builds it, but not optimized, in minutes, and proves nothing. Each case has to fail there,
-and to differ in just the lines that its edit tells, so that no other edit can be why.
-The last line is `try_wrong_by_case: N passed, M failed`; the exit status is 0 where M is 0.
+Other edits, of different lines, each with a case of its own, stand in one program: it is built in a temporary copy of
+the repository as tools/make_ready builds it, but not optimized, in minutes, and proves nothing. Each case has to fail
+there, and to differ in just the lines that its edit tells, so that no other edit can be why.
 """
 import dataclasses
 import difflib

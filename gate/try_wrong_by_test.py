@@ -5,9 +5,8 @@ usage: gate/try_wrong_by_test [--look] [CRATE|CRATE/EDIT ..]
 
 An edit names the test (`test: MODULE::NAME`), and then files with the lines that go and those that come, as an edit of
 wrong-bodies/ does (`file:`, `old:`, `new:`), each line to go standing once in its file. The edits are tried in a
-temporary copy of the repository by `rt try --test`, which compiles and proves nothing: that test has to fail.
-With --look it only looks whether each edit applies, and its test is there.
-The last line is `try_wrong_by_test: N passed, M failed`; the exit status is 0 where M is 0.
+temporary copy of the repository by `rt try --test`, which compiles and proves nothing: that test has to fail. With
+--look it only looks whether each edit applies, and its test is there.
 """
 import os
 import pathlib

@@ -93,14 +93,36 @@ class Reader:
         return found
 
 
-def paths_of(source: str, name: str) -> Nodes:
-    """The paths of the object of this name in a source."""
+def objects_of(source: str) -> dict[str, list[str]]:
+    """The tokens of each object of a source, from its name on."""
     tokens = [it for _, it in TOKEN.findall(source.lower()) if it]
     starts = [at for at, it in enumerate(tokens) if it == "object"]
+    found: dict[str, list[str]] = {}
     for start, end in zip(starts, [*starts[1:], len(tokens)]):
-        if tokens[start + 1 : start + 2] == [name]:
-            return Reader(tokens[start + 1 : end]).paths()
-    raise Unread(f"there is no object {name}")
+        found.setdefault("".join(tokens[start + 1 : start + 2]), tokens[start + 1 : end])
+    return found
+
+
+def paths_of(source: str, name: str) -> Nodes:
+    """The paths of the object of this name in a source."""
+    found = objects_of(source).get(name)
+    if not found:
+        raise Unread(f"there is no object {name}")
+    return Reader(found).paths()
+
+
+def takers_of(source: str, name: str) -> dict[str, list[str]]:
+    """Of each operation that ends a hold of the object the operations by which that is taken."""
+    found: dict[str, list[str]] = collections.defaultdict(list)
+    tokens = objects_of(source).get(name, [])
+    for at, it in enumerate(tokens):
+        # (two names stand behind each other in a hold alone)
+        if it == "hold" and tokens[at + 2 : at + 3] == ["until"]:
+            place = at + 3
+            while place < len(tokens) and tokens[place - 1] in ("until", ","):
+                found[tokens[place]].append(tokens[at + 1])
+                place += 2
+    return dict(found)
 
 
 def text_of(node: Node, is_alone: bool = True) -> str:

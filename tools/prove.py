@@ -3,7 +3,9 @@
 usage: tools/prove
 
 `rt ci` proves a copy of the crates, those of tests aside, so sources may be edited meanwhile: then it proves them once
-more. What passes the kit keeps on this machine: a run after one that was ended goes on from there. Standard error has a
+more. It is called twice where the machine has the memory and the kit keeps what it proves: first for all crates but the
+few that take most memory, as many at once as there are processors, then for these. What passes the kit keeps on this
+machine: a run after one that was ended goes on from there. Standard error has a
 line for each crate that is proved, and one where a minute passes without any. out/prove.times holds the seconds that
 each took, for the next run to say how long it may take. The exit status is 0, or 70 where not all is proved or built,
 and then one line says why; no half of a result stays.
@@ -13,7 +15,6 @@ import pathlib
 import re
 import selectors
 import subprocess
-import sys
 import time
 from collections.abc import Sequence
 
@@ -23,12 +24,16 @@ from tools import progress, ready, repository
 SILENCE = 60
 
 
-def heard_out(words: Sequence[str | pathlib.Path], folder: pathlib.Path, run: progress.Progress) -> tuple[int, str]:
-    """Runs `rt ci` in this folder, tells how far it is, and returns its exit status and all that it said."""
+def heard_out(
+    words: Sequence[str | pathlib.Path], folder: pathlib.Path, run: progress.Progress, lanes: int = 0
+) -> tuple[int, str]:
+    """Runs `rt ci` in this folder, so many checks at once (0: as many as it reckons memory for), tells how far it is, and
+    returns its exit status and all that it said."""
+    env = {**os.environ, "RT_JOBS": str(lanes)} if lanes else None
     said: list[str] = []
     rest = b""
     with subprocess.Popen(
-        words, cwd=folder, stdin=subprocess.DEVNULL, stdout=subprocess.PIPE, stderr=subprocess.STDOUT
+        words, cwd=folder, env=env, stdin=subprocess.DEVNULL, stdout=subprocess.PIPE, stderr=subprocess.STDOUT
     ) as ran, selectors.DefaultSelector() as waits:
         assert ran.stdout
         waits.register(ran.stdout, selectors.EVENT_READ)
@@ -65,6 +70,18 @@ def reason(status: int, said: str) -> str:
     return f"{crate[1]}: {ready.reason(status, block)}"
 
 
+def proved(kit: pathlib.Path, top: pathlib.Path, run: progress.Progress) -> tuple[int, str]:
+    """Has the kit in this folder prove the sources below `top`, and returns how that ended, and what was said."""
+    words: list[str | pathlib.Path] = [kit / "bin" / "rt", "ci"]
+    lanes = ready.lanes(kit)
+    if not lanes:
+        ready.say("in one go: the kit keeps nothing, or there is little memory")
+        return heard_out(words, top, run)
+    names = ready.ahead(repository.crates(top))
+    status, said = heard_out([*words, *names], top, run, lanes)
+    return heard_out(words, top, run) if status == 0 else (status, said)
+
+
 def prove() -> None:
     """Proves and builds the sources as they are now."""
     kit = ready.kit()
@@ -80,7 +97,7 @@ def prove() -> None:
         last = "" if left is None else f", {progress.minutes(left)} by the last run where none of it is kept"
         ready.say(f"proving {len(run.below)} crates{last}")
         try:
-            status, said = heard_out([kit / "bin" / "rt", "ci"], top, run)
+            status, said = proved(kit, top, run)
         finally:
             run.keep()
         program = top / "crates" / ready.PROGRAM / "out" / ready.PROGRAM
@@ -102,7 +119,4 @@ def work() -> None:
 
 
 def main() -> int:
-    if sys.argv[1:]:
-        print(__doc__, file=sys.stderr)
-        return 2
-    return ready.ran(work)
+    return ready.ran(work, __doc__)

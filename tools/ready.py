@@ -35,6 +35,10 @@ FLAG = "--program"
 NAMED = os.environ.pop("PATHSERVE_PROGRAM", None)
 # The exit status where there is no program to run: none of the program's own.
 NO_PROGRAM = 70
+# Crates whose checks link a program, or take most memory: `rt ci` proves them by the memory that it reckons for each.
+DEAR = ("command_tool", "keep_tool", PROGRAM)
+# Of all others so many are proved at once where a machine has so many bytes: it reckons two to three times what they take.
+LANES, ROOMY = 4, 20 << 30
 FULL = "No space left on device"
 
 
@@ -116,6 +120,21 @@ def copy_sources(to: pathlib.Path, program: str = PROGRAM) -> None:
                 shutil.copyfile(file, copy)
     (to / "crates.txt").write_text("".join(f"{lines[it]}\n" for it in stands_on(lines, program)), encoding="utf-8")
     shutil.copyfile(TOP / "HANDLES", to / "HANDLES")
+
+
+def lanes(folder: pathlib.Path) -> int:
+    """How many crates are proved at once ahead of the dear ones; 0 where a machine has too little memory for it, the kit in
+    this folder keeps nothing of what it proves, so that a second run would prove all once more, or it takes no names of
+    crates, as at a gate (CI)."""
+    memory = os.sysconf("SC_PAGE_SIZE") * os.sysconf("SC_PHYS_PAGES")
+    if memory < ROOMY or "class Kept" not in (text_of(folder / "bin" / "rt") or "") or os.environ.get("CI") == "true":
+        return 0
+    return min(LANES, len(os.sched_getaffinity(0)))
+
+
+def ahead(lines: Mapping[str, str]) -> list[str]:
+    """The crates that are proved ahead of the dear ones: all that stand on none of them."""
+    return [it for it in lines if not {it, *repository.below(lines, it)}.intersection(DEAR)]
 
 
 def sha256(file: pathlib.Path) -> str:
@@ -287,8 +306,12 @@ def end(number: int, _: object) -> None:
     raise SystemExit(128 + number)
 
 
-def ran(work: Callable[[], object]) -> int:
-    """Does the work of a tool, and returns its exit status: where there is no program, one line says why."""
+def ran(work: Callable[[], object], about: str = "") -> int:
+    """Does the work of a tool, and returns its exit status: where there is no program, one line says why. One that takes no
+    words says what it is about where it is given some."""
+    if about and sys.argv[1:]:
+        print(about, file=sys.stderr)
+        return 2
     for it in (signal.SIGTERM, signal.SIGHUP):
         signal.signal(it, end)
     try:

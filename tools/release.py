@@ -10,14 +10,16 @@ FOLDER (out/release where none is given) gets
                                     documents run there. RELEASE says of which commit it is, whether it is proved, by
                                     which kit, and what it needs of the system; SHA256SUMS has each file
   pathserve_VERSION_amd64.deb       the same for Debian, with a unit `pathserve@NAME` of systemd that keeps the objects
-                                    of /etc/pathserve/NAME.pp in /var/lib/pathserve/NAME, at /run/pathserve/NAME.sock.
-                                    It is left out where there is no `dpkg-deb`
+                                    of /etc/pathserve/NAME.pp in /var/lib/pathserve/NAME, at /run/pathserve/NAME.sock,
+                                    and with tools/status as `pathserve-status`. It is left out where there is no
+                                    `dpkg-deb`
   Dockerfile                        for an image, of the first file alone
   SHA256SUMS                        of these files
 
 The VERSION of one that is not proved has `~unproved` behind it. The same commit and program make the same bytes. The
 exit status is 0, or 70 where there is no such program, and then one line says why.
 """
+import email.utils
 import gzip
 import hashlib
 import io
@@ -36,12 +38,21 @@ from tools.repository import TOP
 
 PACKAGE = TOP / "tools" / "package"
 UNPROVED = "--unproved"
-# What is released of the sources: all that is committed below these. (tools/timeline reads the modules that stand here.)
+# What is released of the sources: all that is committed below these. (tools/timeline and tools/status read the modules
+# that stand here.)
 GIVEN = (
     "CHANGELOG.md", "LICENSE", "README.md", "__main__.py", "pathserve", "clients", "docs", "editors", "examples", "tools/__init__.py",
-    "tools/held.py", "tools/status", "tools/status.py", "tools/timeline", "tools/timeline.py", "tools/traced.py",
-    "tools/package/pathserve@.service", "gate/__init__.py", "gate/slow_audit.py", "gate/slow_world.py",
+    "tools/diagram.py", "tools/held.py", "tools/inside.py", "tools/page.py", "tools/status", "tools/status.py", "tools/timeline",
+    "tools/timeline.py", "tools/traced.py", "tools/package/pathserve@.service", "tools/package/pathserve.tmpfiles",
+    "gate/__init__.py", "gate/slow_audit.py", "gate/slow_world.py",
 )
+# What Debian's package has of these beside the program, where an image keeps it: a slim one leaves out /usr/share/doc.
+RUNS = ("__main__.py", "RELEASE", "clients/", "gate/", "libexec/", "pathserve", "tools/")
+UNIT, SOCKETS = "pathserve@.service", "pathserve.tmpfiles"
+STATUS = "#!/bin/sh\nexec python3 /usr/lib/pathserve /usr/lib/pathserve/tools/status \"$@\"\n"
+# What lintian says of the package, and has its reason.
+OVERRIDES = "# Not stripped: RELEASE has the digest of the program as it was proved.\npathserve: unstripped-binary-or-object *\n"
+MAINTAINER = "the maintainers of pathserve <maintainers@pathserve.invalid>"
 MACHINE, DEBIAN = "x86_64", "amd64"
 
 
@@ -149,10 +160,13 @@ class Release:
 
     def place_in(self, path: str) -> str:
         """Where Debian's package has a file of the release."""
-        if path == "pathserve" or path.startswith("libexec/"):
-            return f"usr/lib/pathserve/{path}"
-        names = {"docs/pathserve.1": "usr/share/man/man1/pathserve.1.gz", "LICENSE": "usr/share/doc/pathserve/copyright"}
-        return names.get(path, f"usr/share/doc/pathserve/{path}")
+        names = {
+            f"tools/package/{UNIT}": f"usr/lib/systemd/system/{UNIT}",
+            f"tools/package/{SOCKETS}": "usr/lib/tmpfiles.d/pathserve.conf",
+            "docs/pathserve.1": "usr/share/man/man1/pathserve.1.gz",
+            "LICENSE": "usr/share/doc/pathserve/copyright",
+        }
+        return names.get(path, f"usr/{'lib' if path.startswith(RUNS) else 'share/doc'}/pathserve/{path}")
 
     def write_package(self, file: pathlib.Path, room: pathlib.Path) -> None:
         """Writes Debian's package."""
@@ -161,10 +175,11 @@ class Release:
             if path != "SHA256SUMS":
                 put(top / self.place_in(path), gzip.compress(content, 9, mtime=self.time) if path.endswith(".1") else content,
                     path in self.programs)
-        put(top / "usr/lib/systemd/system/pathserve@.service", (PACKAGE / "pathserve@.service").read_bytes())
-        for name in ("etc/pathserve", "usr/bin"):
-            (top / name).mkdir(parents=True)
+        put(top / "usr/bin/pathserve-status", STATUS.encode(), True)
+        put(top / "usr/share/lintian/overrides/pathserve", OVERRIDES.encode())
         (top / "usr/bin/pathserve").symlink_to("../lib/pathserve/pathserve")
+        (top / "etc/pathserve").mkdir(parents=True)
+        put(top / "usr/share/doc/pathserve/changelog.gz", gzip.compress(self.changes().encode(), 9, mtime=self.time))
         size = sum(it.stat().st_size for it in top.rglob("*") if it.is_file()) // 1024 + 1
         rows = sorted((str(it.relative_to(top)), it) for it in top.rglob("*") if it.is_file() and not it.is_symlink())
         put(top / "DEBIAN/md5sums", "".join(f"{hashlib.md5(it.read_bytes()).hexdigest()}  {name}\n" for name, it in rows).encode())
@@ -177,21 +192,27 @@ class Release:
         env = {**os.environ, "SOURCE_DATE_EPOCH": str(self.time)}
         said("dpkg-deb", "--root-owner-group", "-Zgzip", "--build", top, file, env=env)
 
+    def changes(self) -> str:
+        """The changes as Debian's tools read them."""
+        when = email.utils.formatdate(self.time)
+        return f"pathserve ({self.version}) unstable; urgency=medium\n\n  * CHANGELOG.md has what is new.\n\n -- {MAINTAINER}  {when}\n"
+
     def control(self, size: int) -> str:
         lines = {
             "Package": "pathserve",
             "Version": self.version,
             "Architecture": DEBIAN,
-            "Maintainer": "the maintainers of pathserve",
+            "Maintainer": MAINTAINER,
             "Installed-Size": size,
-            "Depends": ", ".join(["bash", *([f"libc6 (>= {self.glibc})"] if self.glibc else []), "passwd"]),
+            "Depends": ", ".join([*([f"libc6 (>= {self.glibc})"] if self.glibc else []), "passwd"]),
+            "Recommends": "python3",
             "Section": "net",
             "Priority": "optional",
             "Description": "keeps objects whose paths say which of their operations may run at once\n"
             " What many programs share is written down as an object, and so is which of\n"
             " its operations may run at the same time. A server keeps that rule for all\n"
             " clients, and what it has answered over a kill -9.\n"
-            f" {'Proved' if '~' not in self.version else 'Not proved'}: /usr/share/doc/pathserve/RELEASE",
+            f" {'Proved' if '~' not in self.version else 'Not proved'}: /usr/lib/pathserve/RELEASE",
         }
         return "".join(f"{name}: {it}\n" for name, it in lines.items())
 

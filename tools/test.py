@@ -4,6 +4,8 @@ usage: tools/test [--program FILE]    in minutes: on a program that is built wit
                                       FILE. It proves nothing, and compares what the program does with what it has to do
        tools/test --proved            the merge gate: `rt ci` proves each crate and runs its tests; the wrong bodies of
                                       crates that changed are tried and recorded; then all of it on the proved program
+       tools/test --proved --some     behind these two wrong bodies of each crate, which the sources draw, are tried too
+       tools/test --proved --all      before a release: all wrong bodies of each crate are tried and recorded
 
 Each part runs, also where one before it failed; as many run at once as there are processors (two at least), and what
 each said comes whole, in a fixed order. Where a proof has only the program left, which takes a processor or two for
@@ -38,11 +40,17 @@ BUILD = Part(("tools/make_ready",), counts=False)
 PROVE = Part(("rt", "ci"), is_shown=True)
 TRY = Part(("gate/try_wrong_bodies",), may_rest=True, is_shown=True)
 CHECK = Part(("gate/try_wrong_bodies", "--check"))
+# What is tried of wrong bodies, by the word behind --proved.
+WRONG_BODIES = {
+    "": (TRY, CHECK),
+    "--some": (TRY, CHECK, Part(("gate/try_wrong_bodies", "--draw", "2"), is_shown=True)),
+    "--all": (Part(("gate/try_wrong_bodies", "--all"), is_shown=True), CHECK),
+}
 # These need no program, nor anything that a proof makes. First the one that builds a program of its own behind a proof,
 # and so takes longest.
 FREE = (
     Part(("gate/public_calls",), more=("--count",)),
-    *(Part((it,)) for it in ("gate/crash_journal", "gate/draw_schedules", "gate/try_asked", "gate/try_cases", "gate/try_crates", "gate/try_editors", "gate/try_timeline", "gate/try_types", "gate/try_wrapper")),
+    *(Part((it,)) for it in ("gate/crash_journal", "gate/draw_schedules", "gate/try_asked", "gate/try_assumptions", "gate/try_cases", "gate/try_clauses_kept", "gate/try_crates", "gate/try_editors", "gate/try_timeline", "gate/try_types", "gate/try_wrapper")),
 )
 # In the order in which they are begun: first those that take long, or wait much.
 PARTS = tuple(
@@ -58,19 +66,22 @@ PARTS = tuple(
         "try_client",
         "cut_connections",
         "refuse_kept",
+        "try_starts",
         "try_crash",
+        "spoil",
         "try_holds",
         "try_kept",
         "draw_kept",
         "try_tasks",
-        "try_many",
         "try_full_disk",
+        "try_faults",
         "try_folders",
         "try_epochs",
         "try_release",
         "try_socket",
         "try_standby",
         "try_status",
+        "try_page",
         "draw_scripts",
         "draw_audits",
         "draw_sessions",
@@ -365,12 +376,12 @@ def print_failures(results: Iterable[Result]) -> None:
                 print(line.decode(errors="replace")[:1000])
 
 
-def run_all(gate: Gate, is_gate: bool) -> None:
-    """Runs all parts."""
-    if is_gate:
+def run_all(gate: Gate, wrong_bodies: Iterable[Part]) -> None:
+    """Runs all parts, and those of wrong bodies, each by itself, where there are some: then it proves all crates."""
+    if wrong_bodies:
         prove(gate)
-        gate.run(TRY)
-        gate.run(CHECK)
+        for it in wrong_bodies:
+            gate.run(it)
         gate.run(*PARTS)
     elif gate.program:
         gate.run(*FREE, *PARTS)
@@ -390,10 +401,12 @@ def end(gate: Gate, wanted: Iterable[Part]) -> int:
 
 
 def main() -> int:
-    is_gate = sys.argv[1:] == ["--proved"]
-    if not is_gate and ready.given_words():
+    is_gate = sys.argv[1:2] == ["--proved"]
+    word = " ".join(sys.argv[2:]) if is_gate else ""
+    if word not in WRONG_BODIES or not is_gate and ready.given_words():
         print(__doc__, file=sys.stderr)
         return 2
+    wrong_bodies = WRONG_BODIES[word] if is_gate else ()
     keep_orphans()
     gate = Gate()
     if not is_gate:
@@ -401,7 +414,7 @@ def main() -> int:
         say("where none stands. The gate, which proves all, is tools/test --proved")
         gate.program = ready.program() if sys.argv[1:] else None
     try:
-        run_all(gate, is_gate)
+        run_all(gate, wrong_bodies)
     except ready.Stop as why:
         say(why)
-    return end(gate, [*([PROVE, TRY, CHECK] if is_gate else []), *FREE, *PARTS])
+    return end(gate, [*([PROVE, *wrong_bodies] if is_gate else []), *FREE, *PARTS])

@@ -13,9 +13,12 @@ from gate.slow_world import written
 
 PART = re.compile(r"[A-Za-z][A-Za-z0-9_]{0,63}", re.ASCII)
 BYTES = re.compile(r"(?:[0-9a-f]{2})+", re.ASCII)
-# The first line of an epoch, and the lines of its front, in their order.
-EPOCH = re.compile(rb"object ([a-z][a-z0-9_]{0,63}) epoch ([1-9][0-9]*)")
-FRONT = ("source", "part", "past", "base", "carried", "client", "kept")
+# The first line of an epoch, with a number of its format or, as in those of earlier programs, without; the lines of its
+# front, in their order; and the lines that check others, which an epoch without a format has not.
+EPOCH = re.compile(rb"object ([a-z][a-z0-9_]{0,63})(?: format ([1-9][0-9]*))? epoch ([1-9][0-9]*)")
+FORMAT = 2
+FRONT = ("source", "part", "past", "base", "carried", "client", "kept", "held", "tick", "front")
+CHECKS = ("front", "stored")
 LETTERS = "abcdefghijklmnopqrstuvwxyzABCDEFGHIJKLMNOPQRSTUVWXYZ0123456789"
 # Sessions of a kept object, and what it has said of a past at most: no call that was kept is one of more.
 KEPT_SESSIONS, PASTS = range(1, 65536), range(1, 65537)
@@ -38,7 +41,18 @@ def letters_of(operations: Iterable[str]) -> dict[str, str]:
 def epoch_of(text: bytes) -> tuple[str, int] | None:
     """The name and the number of the epoch that a text is, or none."""
     found = EPOCH.fullmatch(text.partition(b"\n")[0])
-    return (found[1].decode(), int(found[2])) if found else None
+    return (found[1].decode(), int(found[3])) if found else None
+
+
+def format_of(text: bytes) -> int | None:
+    """The number of the format that the first line of an epoch has, or none."""
+    found = EPOCH.fullmatch(text.partition(b"\n")[0])
+    return int(found[2]) if found and found[2] else None
+
+
+def is_check(line: bytes) -> bool:
+    """Whether a line of an epoch with a format checks others, and says nothing itself."""
+    return line.startswith((b"front ", b"stored "))
 
 
 @dataclasses.dataclass(slots=True, eq=False)
@@ -74,6 +88,7 @@ class Trace:
     def __init__(self, text: bytes, said: str | None = None) -> None:
         self.name = ""
         self.epoch: int | None = None
+        self.format: int | None = None
         self.fault: str | None = None
         self.verdict: str | None = None
         self.calls: list[Call] = []
@@ -119,9 +134,12 @@ class Trace:
             except NotRunning:
                 self.fault = f"line {number} not running"
                 return
+            if (self.format or FORMAT) != FORMAT:
+                self.fault = f"line {number} has format {self.format}"
+                return
             if len(self.lines) < len(self.events):
                 self.lines.append(number)
-        if not lines or self.epoch and self.stage < FRONT.index("base"):
+        if not lines or self.epoch and self.stage < FRONT.index("front" if self.format else "base"):
             self.fault = f"line {len(lines) + 1} bad"
 
     def hear(self, line: bytes) -> None:
@@ -129,7 +147,7 @@ class Trace:
         verb = bare(words[0]) if words else ""
         if not self.name:
             self.hear_object(line)
-        elif self.epoch and verb in (*FRONT, "name", "cancel"):
+        elif self.epoch and verb in (*FRONT, *CHECKS, "name", "cancel"):
             self.hear_kept(verb, words)
         elif verb == "part" and not self.events:
             self.hear_part(words)
@@ -143,7 +161,7 @@ class Trace:
     def hear_object(self, line: bytes) -> None:
         found = EPOCH.fullmatch(line)
         if found:
-            self.name, self.epoch = found[1].decode(), int(found[2])
+            self.name, self.epoch, self.format = found[1].decode(), int(found[3]), format_of(line)
         else:
             self.name = named_object(line)
 
@@ -153,7 +171,10 @@ class Trace:
 
     def hear_kept(self, verb: str, words: list[Word]) -> None:
         """A line of an epoch that a trace has not: of its front, in order, or behind it."""
-        self.step(FRONT.index(verb) if verb in FRONT else len(FRONT))
+        if verb in CHECKS and not self.format:
+            raise Bad
+        is_behind = verb not in FRONT or verb == "tick" and self.stage > FRONT.index(verb)
+        self.step(len(FRONT) if is_behind else FRONT.index(verb))
         if verb == "part":
             self.hear_part(words)
         elif verb == "base":
@@ -172,10 +193,11 @@ class Trace:
             self.hear_cancel(words)
 
     def step(self, stage: int) -> None:
-        """The lines of a front have an order, there is one `base`, and it stands before what happened."""
-        base = FRONT.index("base")
-        if stage < self.stage or stage == self.stage == base or stage > base > self.stage:
-            raise Bad
+        """The lines of a front have an order, there is one `base`, and it stands before what happened; and so does one
+        `front`, where there is a format."""
+        for it in (FRONT.index("base"), *([FRONT.index("front")] if self.format else [])):
+            if stage < self.stage or stage == self.stage == it or stage > it > self.stage:
+                raise Bad
         self.stage = stage
 
     def hear_past(self, words: list[Word]) -> None:

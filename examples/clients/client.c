@@ -11,6 +11,7 @@
  */
 #include <arpa/inet.h>
 #include <errno.h>
+#include <netinet/tcp.h>
 #include <signal.h>
 #include <stdio.h>
 #include <stdlib.h>
@@ -48,6 +49,17 @@ static void ask(FILE *to, FILE *from, const char *word, const char *text)
     hear(from);
 }
 
+/* Has the system end a connection whose other side is gone without a word: asked after 10 s, each 5, 3 times. */
+static void keep_alive(int connection)
+{
+    int on = 1, idle = 10, each = 5, count = 3;
+
+    setsockopt(connection, SOL_SOCKET, SO_KEEPALIVE, &on, sizeof on);
+    setsockopt(connection, IPPROTO_TCP, TCP_KEEPIDLE, &idle, sizeof idle);
+    setsockopt(connection, IPPROTO_TCP, TCP_KEEPINTVL, &each, sizeof each);
+    setsockopt(connection, IPPROTO_TCP, TCP_KEEPCNT, &count, sizeof count);
+}
+
 /* Connects to a port, or to the path of a socket; -1 where nobody is there. */
 static int connected(const char *place)
 {
@@ -67,6 +79,7 @@ static int connected(const char *place)
         return -1;
     if (is_path)
         return connect(connection, (struct sockaddr *)&at_path, sizeof at_path) == 0 ? connection : -1;
+    keep_alive(connection);
     return connect(connection, (struct sockaddr *)&at_port, sizeof at_port) == 0 ? connection : -1;
 }
 

@@ -29,10 +29,19 @@ def ask(lines, line):
     return line_of(lines)
 
 
+def keep_alive(connection):
+    """Has the system end a connection whose other side is gone without a word: asked after 10 s, each 5, 3 times."""
+    connection.setsockopt(socket.SOL_SOCKET, socket.SO_KEEPALIVE, 1)
+    for option, value in ((socket.TCP_KEEPIDLE, 10), (socket.TCP_KEEPINTVL, 5), (socket.TCP_KEEPCNT, 3)):
+        connection.setsockopt(socket.IPPROTO_TCP, option, value)
+
+
 def connected(place):
     """A connection to a port, or to the path of a socket."""
     if "/" not in place:
-        return socket.create_connection(("127.0.0.1", int(place)))
+        connection = socket.create_connection(("127.0.0.1", int(place)))
+        keep_alive(connection)
+        return connection
     connection = socket.socket(socket.AF_UNIX)
     connection.connect(place)
     return connection

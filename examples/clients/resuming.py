@@ -8,6 +8,7 @@ PLACE is a port of this machine, or the path of a socket, with a slash in it. Ex
 the object was not opened; 2 usage; 3 there is no server, or it is not known whether the last call was done. A program
 that calls is better off with `client=` of pathclient.py, in this folder.
 """
+import random
 import socket
 import sys
 import time
@@ -20,6 +21,13 @@ class Gone(Exception):
     """The connection broke."""
 
 
+def keep_alive(connection):
+    """Has the system end a connection whose other side is gone without a word: asked after 10 s, each 5, 3 times."""
+    connection.setsockopt(socket.SOL_SOCKET, socket.SO_KEEPALIVE, 1)
+    for option, value in ((socket.TCP_KEEPIDLE, 10), (socket.TCP_KEEPINTVL, 5), (socket.TCP_KEEPCNT, 3)):
+        connection.setsockopt(socket.IPPROTO_TCP, option, value)
+
+
 class Connection:
     """A connection, line by line."""
 
@@ -29,6 +37,7 @@ class Connection:
             self.it.connect(place)
         else:
             self.it = socket.create_connection(("127.0.0.1", int(place)))
+            keep_alive(self.it)
         self.lines = self.it.makefile("r", encoding="ascii", newline="\n")
 
     def line(self):
@@ -50,17 +59,20 @@ class Connection:
 
 def opened(place, line):
     """A connection on which the object is open, and the key of the next call; or what was answered in place of it."""
-    end = time.monotonic() + SECONDS
+    end, pause = time.monotonic() + SECONDS, 0.1
     while True:
         try:
             it = Connection(place)
             # Until the server has seen that the connection before this one is broken, the name is in use.
-            while (answer := it.ask(line)) == "no InUse" and time.monotonic() < end:
+            while (answer := it.ask(line)).split(" ")[:2] == ["no", "InUse"] and time.monotonic() < end:
                 time.sleep(0.02)
         except (Gone, OSError) as error:
-            if time.monotonic() >= end:
+            # (who may not connect may not later either)
+            if isinstance(error, PermissionError) or time.monotonic() >= end:
                 raise Gone(getattr(error, "strerror", None) or error) from None
-            time.sleep(0.1)
+            # (not all clients that have lost a server come back together)
+            time.sleep(min(random.uniform(0.05, pause), max(end - time.monotonic(), 0)))
+            pause = min(2 * pause, 1)
             continue
         words = answer.split(" ")
         return (it, int(words[3])) if words[0] == "opened" else (None, answer)

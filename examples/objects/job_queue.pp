@@ -22,7 +22,8 @@ object job_queue;
     take(jobs)
   end;
   entry procedure finish(job : text); begin erase(taken, job) end;
-  entry procedure give_back(job : text); begin erase(taken, job); append(jobs, job) end;
+  entry procedure give_back(job : text);
+  begin if has(taken, job) then erase(taken, job); append(jobs, job) end;
   entry function waiting : integer; begin waiting := count(jobs) end;
   entry function claimed : integer; begin claimed := count(taken) end;
   entry function is_claimed(job : text) : text;

@@ -30,12 +30,14 @@ object stock;
     if not has(item, id) then refuse('over');
     erase(item, id); erase(amount, id)
   end;
-  { It is given back before its end. }
+  { It is given back before its end; where it has ended nothing is left to give back. }
   entry procedure release(id, what : text; n : integer);
   begin
-    if not has(item, id) then refuse('over');
-    store(stock, lookup(item, id), lookup(stock, lookup(item, id)) + lookup(amount, id));
-    erase(item, id); erase(amount, id)
+    if has(item, id) then
+    begin
+      store(stock, lookup(item, id), lookup(stock, lookup(item, id)) + lookup(amount, id));
+      erase(item, id); erase(amount, id)
+    end
   end;
   { A second is over. Where the oldest id ends and is open, its stock is there again. }
   entry procedure tick;

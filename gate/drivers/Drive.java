@@ -1,10 +1,14 @@
 import java.io.*;
 import java.util.*;
 import java.util.regex.*;
+import pathclient.PathClient;
 
 /** Drives the client for Java: gate/try_client says how. */
 public final class Drive {
+    private static String message = "";
+
     private static String told(PathClient.CallError error) {
+        message = error.getMessage();
         switch (error.kind) {
             case REJECTED: return "no " + error.word;
             case REFUSED: case FAILED: return error.kind.name().toLowerCase() + " " + error.word;
@@ -22,7 +26,7 @@ public final class Drive {
 
     public static void main(String[] none) throws Exception {
         BufferedReader in = new BufferedReader(new InputStreamReader(System.in));
-        System.out.println("can values within name");
+        System.out.println("can values within name tells host pauses alive");
         PathClient it = null;
         for (String line; (line = in.readLine()) != null;) {
             String[] words = line.split(" ");
@@ -37,6 +41,8 @@ public final class Drive {
                     long time = Long.parseLong(words[1]);
                     Object came = time == 0 ? it.call((String) all[0], arguments) : it.within(time, (String) all[0], arguments);
                     System.out.println(came == null ? "done" : "done " + PathClient.written(came));
+                } else if (words[0].equals("told")) {
+                    System.out.println(message);
                 } else {
                     it.close();
                     it = null;

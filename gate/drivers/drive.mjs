@@ -7,8 +7,10 @@ const WORDS = [[Refused, "refused"], [Failed, "failed"], [Cancelled, "cancelled"
 const say = (line) => process.stdout.write(`${line}\n`);
 const done = (reply) => (reply === undefined ? "done" : `done ${written(reply)}`);
 
+let message = "";
 function told(error) {
   if (!(error instanceof CallError)) throw error;
+  message = error.message;
   const [, word] = WORDS.find(([kind]) => error instanceof kind);
   return ["refused", "failed", "no"].includes(word) ? `${word} ${error.word}` : word;
 }
@@ -21,7 +23,7 @@ function call(it, line) {
 
 let it;
 let ahead = [], left = 0;
-say("can values within name ahead");
+say("can values within name ahead tells host pauses alive");
 for await (const line of readline.createInterface({ input: process.stdin })) {
   const [word, ...words] = line.split(" ");
   if (left) {
@@ -34,17 +36,19 @@ for await (const line of readline.createInterface({ input: process.stdin })) {
     it = undefined;
     const [place, name, wait, client] = words;
     try {
-      it = await connect(place.includes("/") ? place : Number(place), name, { wait: Number(wait), client: client === "-" ? undefined : client });
+      it = await connect(/[/:]/.test(place) ? place : Number(place), name, { wait: Number(wait), client: client === "-" ? undefined : client });
       say("opened");
     } catch (error) {
       say(told(error));
     }
   } else if (word === "call") say(await call(it, line));
   else if (word === "ahead") left = Number(words[0]);
+  else if (word === "told") say(message);
   else {
     await it.close();
     it = undefined;
-    say("closed");
+    const timers = process.getActiveResourcesInfo().filter((kind) => kind === "Timeout").length;
+    say(timers ? `closed, and it left ${timers} timers` : "closed");
   }
 }
 await it?.close();

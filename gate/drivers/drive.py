@@ -4,11 +4,14 @@ name the folder of that client."""
 import asyncio
 import re
 import sys
+import threading
 from collections.abc import Sequence
 from typing import Any
 
 from pathclient import Cancelled, Expired, Failed, Lost, NoServer, Object, Refused, Rejected, aio, read, written
 
+# The message of the last one that failed.
+MESSAGES = [""]
 WORDS = {Refused: "refused", Failed: "failed", Cancelled: "cancelled", Rejected: "no", NoServer: "no server", Expired: "expired",
          Lost: "lost"}
 
@@ -19,6 +22,7 @@ def told(came: Any) -> str:
         kind = next((it for it in WORDS if isinstance(came, it)), None)
         if kind is None:
             raise came
+        MESSAGES[0] = str(came)
         return f"{WORDS[kind]} {came.word}" if isinstance(came, (Refused, Failed, Rejected)) else WORDS[kind]
     return "done" if came is None else f"done {written(came)}"
 
@@ -34,7 +38,7 @@ def opened(words: Sequence[str]) -> tuple[str | int, str, dict[str, Any]]:
     """The place, the name, and the rest of an `open`."""
     place, name, wait, client = words
     options = {"wait": int(wait) / 1000, "client": None if client == "-" else client}
-    return place if "/" in place else int(place), name, options
+    return int(place) if place.isdecimal() else place, name, options
 
 
 def say(line: str) -> None:
@@ -59,10 +63,13 @@ def by_threads() -> None:
             elif word == "ahead":
                 for came in it.ahead(*[called(sys.stdin.readline().rstrip())[1] for _ in range(int(words[0]))]):
                     say(told(came))
+            elif word == "told":
+                say(MESSAGES[0])
             elif word == "close":
                 it.close()
                 it = None
-                say("closed")
+                left = threading.active_count() - 1
+                say(f"closed, and it left {left} threads" if left else "closed")
         except Exception as error:  # what it raises is what is asked for
             say(told(error))
 
@@ -88,9 +95,12 @@ async def by_tasks() -> None:
                 calls = [it.call(*called(more.rstrip())[1]) for more in lines]
                 for came in await asyncio.gather(*calls, return_exceptions=True):
                     say(told(came))
+            elif word == "told":
+                say(MESSAGES[0])
             elif word == "close":
                 await it.close()
-                say("closed")
+                left = len(asyncio.all_tasks()) - 1
+                say(f"closed, and it left {left} tasks" if left else "closed")
         except Exception as error:  # what it raises is what is asked for
             say(told(error))
     if it is not None:
@@ -98,7 +108,7 @@ async def by_tasks() -> None:
 
 
 if __name__ == "__main__":
-    say("can values within name ahead")
+    say("can values within name ahead tells host pauses alive")
     if sys.argv[1:] == ["aio"]:
         asyncio.run(by_tasks())
     else:

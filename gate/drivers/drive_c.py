@@ -4,6 +4,11 @@ import subprocess
 import sys
 
 
+def refusal(line: str) -> str:
+    """`no WORD`, without the text for people behind it."""
+    return " ".join(line.split()[:2])
+
+
 class Terminal:
     """A run of the client, which takes its calls from standard input."""
 
@@ -15,7 +20,7 @@ class Terminal:
         """What it said before it ended."""
         said = self.ran.communicate()[1]
         if self.ran.returncode == 1:
-            return said.rstrip("\n")
+            return refusal(said)
         return "lost" if "it is not known" in said else "no server"
 
     def call(self, text: str) -> str:
@@ -28,14 +33,14 @@ class Terminal:
         if not line:
             return self.ended()
         words = line.rstrip("\n").removeprefix(f"{text}: ").split(" ", 2)
-        return " ".join(words) if words[0] == "no" else " ".join([words[0], *words[2:]])
+        return " ".join(words[:2]) if words[0] == "no" else " ".join([words[0], *words[2:]])
 
     def close(self) -> None:
         self.ran.communicate()
 
 
 def main() -> None:
-    print("can", flush=True)
+    print("can alive", flush=True)
     it: Terminal | None = None
     place: list[str] | None = None
     for line in map(str.rstrip, sys.stdin):
@@ -48,7 +53,7 @@ def main() -> None:
             # (it says that it has opened the object)
             assert it.ran.stderr
             said = it.ran.stderr.readline()
-            print("opened" if said == "opened\n" else said.rstrip("\n") if said.startswith("no ") else "no server", flush=True)
+            print("opened" if said == "opened\n" else refusal(said) if said.startswith("no ") else "no server", flush=True)
             if said != "opened\n":
                 it.close()
                 it = None

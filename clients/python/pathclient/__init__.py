@@ -12,6 +12,10 @@ An operation is called as a method. Integers and texts go in and come out as int
 Object is one session: its calls are done one after the other, also where several threads share it. Threads whose
 calls are to overlap take an Object each, or a Pool.
 
+An Object belongs to the process that made it: behind a fork each process makes its own one (as in the initializer of
+`multiprocessing.Pool`), since two that read from one connection would read each other's replies. In another process
+than its own a call raises RuntimeError, and nothing is sent; `close` gives back what that process has of it.
+
 A call waits until the paths of the object let it start, which may be never. `book.call("number_of", "ada", within=5)`
 has it cancelled where it still waits after 5 seconds, and ends 2 seconds later at the latest, whatever the server does:
 a server that says nothing is Lost. `call` is also for operations whose names a method here has.
@@ -34,7 +38,7 @@ lost, the next call makes a new one.
 
     Object("/run/book.sock", "phone_book")
 
-is one of a server at the path of a socket. And
+is one of a server at the path of a socket, and Object("books:7000", "phone_book") of one at a port of another host. And
 
     Object(7000, "phone_book", client="ann")
 
@@ -51,6 +55,7 @@ import contextlib
 import errno
 import os
 import queue
+import random
 import re
 import selectors
 import socket
@@ -77,21 +82,25 @@ AHEAD = 16
 TRIES = 10
 # For how many seconds it is tried to end what is held, also where the server says one of these words.
 PATIENCE, FOR_NOW = 60.0, {"Full", "Gone", "HistoryFull", "InUse", "Memory"}
-# How long a server may take to answer `cancel` and `quit`, and how long passes between two looks or tries, in seconds.
+# How long a server may take to answer `cancel` and `quit`, and how long passes between two looks, in seconds.
 ANSWERS, PAUSE = 2.0, 0.1
+# What passes between two tries to reach a server is at random, and from so long to so long, in seconds.
+SOON, LATE = 0.05, 1.0
+# A connection that stands still is asked for a sign after 10 seconds, and then each 5; behind 3 without one it has ended.
+ALIVE = (("TCP_KEEPIDLE", 10), ("TCP_KEEPINTVL", 5), ("TCP_KEEPCNT", 3))
 CLOSED = "closed"
 
 
 class CallError(Exception):
-    """There is no reply. The call has changed nothing, unless this is Lost. `word` says why; the text of the exception
-    says of which call, too."""
+    """There is no reply. The call has changed nothing, unless this is Lost. `word` says why, and `text` what the server says
+    of it for people, where it does; the text of the exception says of which call, too."""
 
-    def __init__(self, word: str = "", call: str = "") -> None:
-        super().__init__(f"{word}: {call}" if word and call else word or call)
-        self.word, self.asked = word, call
+    def __init__(self, word: str = "", call: str = "", text: str = "") -> None:
+        super().__init__(": ".join(it for it in (word, call, text) if it))
+        self.word, self.asked, self.text = word, call, text
 
     def __reduce__(self) -> tuple[object, ...]:
-        return type(self), (self.word, self.asked)
+        return type(self), (self.word, self.asked, self.text)
 
 
 class _ByWord(type):
@@ -128,7 +137,8 @@ class Rejected(CallError):
 
 
 class NoServer(CallError):
-    """No server answered here, or it took no further client, so nothing was called."""
+    """No server answered here, or it took no further client, so nothing was called. The word tells what the system said. Where
+    that is that this user may not connect, it is raised at once."""
 
 
 class Lost(CallError):
@@ -150,6 +160,64 @@ def refused(word: str, call: str = "") -> Refused:
 
 
 ENDS: dict[str, Callable[[str, str], CallError]] = {"refused": refused, "failed": Failed, "cancelled": Cancelled}
+
+
+def refusal(answer: str) -> tuple[str, str]:
+    """The word of `no WORD`, or of `no WORD TEXT`, and the text for people."""
+    word, _, text = answer.removeprefix("no ").partition(" ")
+    return word, text
+
+
+def is_in_use(answer: str) -> bool:
+    """Whether another connection has the name of the client."""
+    return answer.startswith("no ") and refusal(answer)[0] == "InUse"
+
+
+def place_of(port: int | str, host: str) -> str | tuple[str, int]:
+    """Where a server is: the path of a socket, or a host and a port, which may be written as `7000` and `host:7000`."""
+    if isinstance(port, int):
+        return host, port
+    found = re.fullmatch(r"(?:([^/]*):)?([0-9]+)", port)
+    return ((found[1] or host).strip("[]"), int(found[2])) if found else port
+
+
+def unreached(place: str | tuple[str, int], error: Exception | None) -> str:
+    """Why nothing was called: what kept a client from a server, or none, where that said nothing."""
+    at = place if isinstance(place, str) else f"{place[0]}:{place[1]}"
+    if error is None:
+        return f"the server at {at} says nothing: it may have as many clients as it takes"
+    why = getattr(error, "strerror", None) or str(error)
+    return f"no server answers at {at}" + (f": {why}" if why else "")
+
+
+def pause(tries: int) -> float:
+    """How long to wait behind so many tries to reach a server: at random, and at most twice as long as behind one less. So
+    clients that have lost a server together do not come back together."""
+    return random.uniform(SOON, min(SOON * 2 ** min(tries, 9), LATE))
+
+
+def keep_alive(it: socket.socket) -> None:
+    """Has the system end this connection where its other side is gone without a word, as behind a cable that was cut."""
+    it.setsockopt(socket.SOL_SOCKET, socket.SO_KEEPALIVE, 1)
+    for name, value in ALIVE:
+        if hasattr(socket, name):
+            it.setsockopt(socket.IPPROTO_TCP, getattr(socket, name), value)
+
+
+class Owned:
+    """What belongs to a process. Behind a fork there are two that would read from one connection."""
+
+    _process, _what = 0, "an Object"
+
+    def _is_mine(self) -> bool:
+        """Whether this process is the first one that asks."""
+        own = os.getpid()
+        self._process = self._process or own
+        return self._process == own
+
+    def _look_whose(self) -> None:
+        if not self._is_mine():
+            raise RuntimeError(f"{self._what} belongs to the process that made it")
 
 
 def written(value: Value) -> str:
@@ -269,7 +337,8 @@ class Session:
         """Takes the answer to `open`. Raises Rejected where the object was not opened, Expired or NoServer where the calls
         that were sent cannot be asked for again, and Expired where none was sent and the name has made some."""
         if not answer.startswith("opened "):
-            raise Rejected(answer.removeprefix("no "), self.opens)
+            word, text = refusal(answer)
+            raise Rejected(word, self.opens, text)
         if not self.has_name:
             return
         key = read(answer.rpartition(" next ")[2])
@@ -320,7 +389,7 @@ class Session:
             raise Lost(f"the server wrote {line!r}")
         it = self.sent[0]
         if kind == "no" and not it.number:
-            return self.refuse(it, number)
+            return self.refuse(it, number, rest)
         if kind == "accepted" and not it.number and not it.is_stale:
             it.number = number
             if it.is_cancelled:
@@ -339,8 +408,8 @@ class Session:
         it.end(came)
         return it
 
-    def refuse(self, it: Asked, word: str) -> Asked | None:
-        """Takes `no` and this word, in answer to a call."""
+    def refuse(self, it: Asked, word: str, text: str) -> Asked | None:
+        """Takes `no`, this word and a text for people, in answer to a call."""
         if it.key is None and not it.is_stale:
             if word == "KeyReused":
                 raise Expired("somebody else has called by the name")
@@ -357,7 +426,7 @@ class Session:
         self.asked.popleft()
         for behind in self.sent:
             behind.is_stale = self.has_name and it.key is None
-        it.end(Rejected(word, it.text))
+        it.end(Rejected(word, it.text, text))
         if word == "LineTooLong":
             raise Lost("the server has ended the session")
         return it
@@ -391,19 +460,20 @@ class Session:
         for it in ended:
             is_lost = it.was_sent or error.word == CLOSED or isinstance(error, Expired)
             kind: type[CallError] = type(error) if isinstance(error, Lost) == is_lost else Lost if is_lost else NoServer
-            it.end(kind(error.word, it.text))
+            it.end(kind(error.word, it.text, error.text))
         self.asked.clear()
         self.broke()
         return ended
 
 
-class Object:
+class Object(Owned):
     """A session of an object."""
 
     def __init__(self, port: int | str, name: str, host: str = "127.0.0.1", wait: float = 10.0, client: str | None = None) -> None:
-        """Opens the object `name` of the server at this port, or at the path of a socket, which is tried for `wait`
-        seconds before NoServer is raised. With `client` it is the session of this name, and its calls have keys."""
-        self._place: str | tuple[str, int] = port if isinstance(port, str) else (host, port)
+        """Opens the object `name` of the server at this port, at `host:port`, or at the path of a socket, which is tried for
+        `wait` seconds before NoServer is raised. With `client` it is the session of this name, and its calls have keys."""
+        self._look_whose()
+        self._place = place_of(port, host)
         self._wait, self._session = wait, Session(name, client)
         # The call that runs has the turn, and no other thread changes the socket.
         self._socket: socket.socket | None = None
@@ -417,10 +487,10 @@ class Object:
 
     def _connect(self, latest: float | None = None) -> None:
         """Opens the object on a new connection, by this time where it is given."""
-        end = time.monotonic() + self._wait
+        end, tries = time.monotonic() + self._wait, 0
         end = end if latest is None else min(end, latest)
-        place = self._place if isinstance(self._place, str) else f"{self._place[0]}:{self._place[1]}"
         while True:
+            why: Exception | None = None
             try:
                 # A server that has taken all its connections leaves this one unanswered.
                 last = max(end, time.monotonic() + 1)
@@ -428,14 +498,16 @@ class Object:
                 answer = self._opened(end, last)
                 if answer is not None:
                     break
-                why = f"the server at {place} says nothing: it may have as many clients as it takes"
-            except (OSError, Lost):
-                why = f"no server answers at {place}"
+            except (OSError, Lost) as error:
+                why = error
             self._drop()
             self._go_on()
-            if time.monotonic() >= end:
-                raise NoServer(why)
-            self._closed.wait(PAUSE)
+            # (what was sent is asked for as long as it may be, also where nobody may connect for a moment)
+            is_barred = isinstance(why, PermissionError) and not self._session.unanswered()
+            if is_barred or time.monotonic() >= end:
+                raise NoServer(unreached(self._place, why))
+            tries += 1
+            self._closed.wait(min(pause(tries), max(end - time.monotonic(), 0)))
         try:
             self._session.opened(answer)
         except CallError:
@@ -460,6 +532,7 @@ class Object:
         try:
             if family != socket.AF_UNIX:
                 found.setsockopt(socket.IPPROTO_TCP, socket.TCP_NODELAY, 1)
+                keep_alive(found)
             found.setblocking(False)
             state = found.connect_ex(place)  # type: ignore[arg-type]
             with selectors.DefaultSelector() as waits:
@@ -490,12 +563,16 @@ class Object:
 
     def _opened(self, end: float, last: float) -> str | None:
         """The answer to `open`, or None where none came by the last time. While a session of this name has not ended,
-        it is said again over the same connection, until `end`."""
+        it is said again over the same connection, until `end`; what was answered last is the answer then."""
+        said: str | None = None
         while True:
             self._send(f"{self._session.opens}\n".encode("ascii"), last)
             answer = self._line(last)
-            if answer != "no InUse" or time.monotonic() >= end:
-                return answer
+            if answer is None or not is_in_use(answer):
+                return said if answer is None else answer
+            said = answer
+            if time.monotonic() + PAUSE / 5 >= end:
+                return said
             self._closed.wait(PAUSE / 5)
 
     def _drop(self) -> None:
@@ -506,6 +583,7 @@ class Object:
 
     def _look(self) -> None:
         """Drops a connection that has ended meanwhile, where no call is under way: what is called next is not lost by it."""
+        self._look_whose()
         if not self._turn.acquire(blocking=False):
             return
         try:
@@ -594,10 +672,12 @@ class Object:
         there and what waits, `look("list")` what can be called. Of a call that does not wait it is one line that says so. Nothing
         changes by it. It may take `within` seconds, its turn behind calls of other threads included; so look through another
         Object where a call of this one waits."""
+        self._look_whose()
         line, end = " ".join(str(it) for it in words), time.monotonic() + within
         if not self._turn.acquire(timeout=max(within, 0)):
             raise Lost("a call is under way", line)
         try:
+            self._drop_ended()
             self._go_on()
             if self._socket is None:
                 self._connect(end)
@@ -619,7 +699,7 @@ class Object:
         head = self._heard(end)
         kind, number, rest = [*head.split(" ", 2), "", ""][:3]
         if kind == "no":
-            raise Rejected(number, asked)
+            raise Rejected(number, asked, rest)
         count = rest.removeprefix("Waiting ") if kind == "why" else number
         return [self._heard(end) for _ in range(int(count))] if count.isdecimal() else [head]
 
@@ -661,11 +741,11 @@ class Object:
 
     def _insist(self, call: Call, patience: float, key: int | None = None) -> Reply:
         """Calls until this is done, or will not be, for so many seconds. Where a key is given it is only asked for the call of it."""
-        end, is_new, asked = time.monotonic() + patience, key is None, None
+        end, is_new, asked, tries = time.monotonic() + patience, key is None, None, 0
         while asked is None or time.monotonic() < end and asked.asks_again(is_new):
             if asked is not None:
-                key = asked.key_again()
-                self._closed.wait(PAUSE)
+                key, tries = asked.key_again(), tries + 1
+                self._closed.wait(pause(tries))
             asked = Asked(*words_of(call), key)
             self._look()
             left = max(end - time.monotonic(), 0)
@@ -674,6 +754,7 @@ class Object:
 
     def _run(self, asked: list[Asked], within: float | None) -> None:
         """Has these calls end, when it has the turn."""
+        self._look_whose()
         end = None if within is None else time.monotonic() + within
         has_turn = self._turn.acquire(timeout=-1 if within is None else min(max(within, 0), threading.TIMEOUT_MAX))
         if not has_turn:
@@ -699,9 +780,8 @@ class Object:
         """Goes on until each call that was asked for has ended. At this time those that wait are cancelled."""
         session, tries, is_over = self._session, 0, False
         last_end = None if end is None else end + ANSWERS
-        if session.has_name:
-            # (so that it is seen first whether the session is as it was left)
-            self._drop_ended()
+        # (so that it is seen first whether the session is as it was left, and nothing is lost that nobody could hear)
+        self._drop_ended()
         while session.asked:
             try:
                 self._go_on()
@@ -727,6 +807,8 @@ class Object:
                 asks_again = session.has_name and type(error) is Lost and tries < TRIES
                 if not asks_again or is_late or self._closed.is_set():
                     session.end(Lost(CLOSED) if self._closed.is_set() else error)
+                elif tries > 1:
+                    self._closed.wait(pause(tries) if end is None else min(pause(tries), end - time.monotonic()))
 
     def __getattr__(self, operation: str) -> Callable[..., Reply]:
         if not NAME.fullmatch(operation):
@@ -735,7 +817,11 @@ class Object:
 
     def close(self) -> None:
         """Leaves the object, for good. A call of another thread that has not ended is Lost; this does not wait for it.
-        Where the server is gone, that is no fault."""
+        Where the server is gone, that is no fault. In another process than its own it only gives back the connection."""
+        if not self._is_mine():
+            if self._socket is not None:
+                self._socket.close()
+            return
         with self._moment:
             self._closed.set()
             has_turn = self._turn.acquire(blocking=False)
@@ -761,10 +847,12 @@ class Object:
         self.close()
 
 
-class Pool:
+class Pool(Owned):
     """At most `size` sessions of an object, for threads whose calls are to overlap. Each call is of a session that no
     other thread has; where all are taken it waits for one. With `client` the sessions are `client_1`, `client_2` and so
-    on. The sessions are opened as they are needed."""
+    on. The sessions are opened as they are needed; all belong to the process that opened the first one."""
+
+    _what = "a Pool"
 
     def __init__(
         self, port: int | str, name: str, size: int = 8, host: str = "127.0.0.1", wait: float = 10.0, client: str | None = None
@@ -781,6 +869,7 @@ class Pool:
     @contextlib.contextmanager
     def session(self, within: float | None = None) -> Iterator[Object]:
         """A session for a block, which no other thread has; Cancelled where none is free in so many seconds."""
+        self._look_whose()
         try:
             number = self._free.get(timeout=within)
         except queue.Empty:

@@ -12,6 +12,8 @@ ahead, so many calls cost one round trip. Calls that are to overlap take an obje
     async with slots.holding("take_slot", "give_slot"):
         await build()
 
+It belongs to the process that opened it: in another one, as behind a fork, a call raises RuntimeError, and sends nothing.
+
 `within`, and the end of the task that awaits a call, have it cancelled on the server. Its last line is waited for, 2
 seconds at most: so it is known whether it was done. A call that was done although its time was over returns. What is
 raised, and what a name is for, is as in pathclient.
@@ -20,13 +22,15 @@ from __future__ import annotations
 
 import asyncio
 import contextlib
+import select
 from collections.abc import AsyncIterator, Callable, Coroutine
 from types import TracebackType
 from typing import TypeVar
 
 from . import (
     ANSWERS, CLOSED, LONGEST, NAME, PATIENCE, PAUSE, TRIES, Asked, Call, CallError, Cancelled, Ending, Expired, Failed, Lost, NoServer,
-    Refused, Rejected, Reply, Session, Value, as_integer, as_text, end_of, words_of,
+    Owned, Refused, Rejected, Reply, Session, Value, as_integer, as_text, end_of, is_in_use, keep_alive, pause, place_of, unreached,
+    words_of,
 )
 
 __all__ = [
@@ -35,6 +39,8 @@ __all__ = [
 ]
 
 Its = TypeVar("Its", bound="Object")
+# What the system says of a connection that has ended, where it can say so beside what was not read yet.
+ENDS: int = getattr(select, "POLLRDHUP", 0)
 
 
 class Awaited(Asked):
@@ -50,16 +56,18 @@ class Awaited(Asked):
             self.ended.set()
 
 
-class Object:
+class Object(Owned):
     """A session of an object."""
 
     def __init__(self, port: int | str, name: str, host: str = "127.0.0.1", wait: float = 10.0, client: str | None = None) -> None:
-        """The object `name` of the server at this port, or at the path of a socket. It is opened by `async with`, or by
-        `open`; a server is tried for `wait` seconds before NoServer is raised."""
-        self._place, self._host, self._wait = port, host, wait
+        """The object `name` of the server at this port, at `host:port`, or at the path of a socket. It is opened by
+        `async with`, or by `open`; a server is tried for `wait` seconds before NoServer is raised."""
+        self._place, self._wait = place_of(port, host), wait
         self._session, self._is_opened, self._is_closed = Session(name, client), False, False
         self._reader: asyncio.StreamReader | None = None
         self._writer: asyncio.StreamWriter | None = None
+        # What was answered to `open` while another connection has the name.
+        self._in_use: str | None = None
         # What reads from the connection, and comes back where it breaks.
         self._keeper: asyncio.Task[None] | None = None
 
@@ -67,24 +75,31 @@ class Object:
 
     async def open(self) -> None:
         """Opens the object on a new connection."""
-        loop = asyncio.get_running_loop()
-        end = loop.time() + self._wait
+        self._look_whose()
+        clock = asyncio.get_running_loop().time
+        end, tries = clock() + self._wait, 0
         while True:
-            last = max(end, loop.time() + 1)
+            why: Exception | None = None
             try:
-                answer = await asyncio.wait_for(self._opened(end), last - loop.time())
+                # A server that has taken all its connections leaves this one unanswered.
+                answer = await asyncio.wait_for(self._opened(end), max(end, clock() + 1) - clock())
                 break
-            except (OSError, Lost, asyncio.TimeoutError) as error:
-                says_nothing = isinstance(error, asyncio.TimeoutError)
+            except asyncio.TimeoutError:
+                if self._in_use is not None:
+                    answer = self._in_use
+                    break
+            except (OSError, Lost) as error:
+                why = error
             except BaseException:
                 self._drop()
                 raise
             self._drop()
-            if loop.time() >= end:
-                place = self._place if isinstance(self._place, str) else f"{self._host}:{self._place}"
-                silent = f"the server at {place} says nothing: it may have as many clients as it takes"
-                raise NoServer(silent if says_nothing else f"no server answers at {place}")
-            await asyncio.sleep(PAUSE)
+            # (what was sent is asked for as long as it may be, also where nobody may connect for a moment)
+            is_barred = isinstance(why, PermissionError) and not self._session.unanswered()
+            if is_barred or clock() >= end:
+                raise NoServer(unreached(self._place, why))
+            tries += 1
+            await asyncio.sleep(min(pause(tries), max(end - clock(), 0)))
         try:
             self._session.opened(answer)
             self._is_opened = True
@@ -94,16 +109,38 @@ class Object:
 
     async def _opened(self, end: float) -> str:
         """The answer to `open`. While a session of this name has not ended, it is said again, until `end`."""
+        self._in_use = None
         if isinstance(self._place, str):
             self._reader, self._writer = await asyncio.open_unix_connection(self._place, limit=LONGEST)
         else:
-            self._reader, self._writer = await asyncio.open_connection(self._host, self._place, limit=LONGEST)
+            self._reader, self._writer = await asyncio.open_connection(*self._place, limit=LONGEST)
+            keep_alive(self._writer.get_extra_info("socket"))
         while True:
             self._writer.write(f"{self._session.opens}\n".encode("ascii"))
             answer = await self._line()
-            if answer != "no InUse" or asyncio.get_running_loop().time() >= end:
+            if not is_in_use(answer) or asyncio.get_running_loop().time() + PAUSE / 5 >= end:
                 return answer
+            self._in_use = answer
             await asyncio.sleep(PAUSE / 5)
+
+    def _has_ended(self) -> bool:
+        """Whether the connection has ended, also where the loop has not seen it yet."""
+        if self._reader is None or self._writer is None:
+            return False
+        is_seen = self._reader.at_eof() or self._writer.transport.is_closing()
+        if is_seen or not ENDS:
+            return is_seen
+        looks = select.poll()
+        looks.register(self._writer.get_extra_info("socket").fileno(), ENDS)
+        return bool(looks.poll(0))
+
+    def _look(self) -> None:
+        """Drops a connection that has ended, where no call is under way: what is called next is not lost by it."""
+        if self._is_opened and not self._session.asked and self._has_ended():
+            self._drop()
+            if self._keeper is not None:
+                self._keeper.cancel()
+                self._keeper = None
 
     def _drop(self) -> None:
         self._is_opened = False
@@ -122,8 +159,8 @@ class Object:
         return line[:-1].decode("ascii", "replace")
 
     def _push(self) -> None:
-        """Sends what is to be sent."""
-        if self._writer is not None and self._is_opened:
+        """Sends what is to be sent, where somebody may hear it."""
+        if self._writer is not None and self._is_opened and not self._writer.transport.is_closing():
             lines = self._session.to_send()
             if lines:
                 self._writer.write(lines)
@@ -145,6 +182,8 @@ class Object:
                 if not (session.asked and session.has_name and type(error) is Lost and tries < TRIES):
                     session.end(error)
                     return
+                if tries > 1:
+                    await asyncio.sleep(pause(tries))
 
     # Calls.
 
@@ -162,9 +201,12 @@ class Object:
 
     async def _ended(self, asked: Awaited, within: float | None) -> Reply:
         """Waits until a call has ended."""
+        self._look_whose()
         if self._is_closed:
             asked.end(Lost(CLOSED, asked.text))
             return asked.reply()
+        # (so that it is seen first whether the session is as it was left, and nothing is lost that nobody could hear)
+        self._look()
         self._session.asked.append(asked)
         self._push()
         if self._keeper is None or self._keeper.done():
@@ -211,11 +253,11 @@ class Object:
     async def _insist(self, call: Call, patience: float, key: int | None = None) -> Reply:
         """Calls until this is done, or will not be, for so many seconds. Where a key is given it is only asked for the call of it."""
         clock = asyncio.get_running_loop().time
-        end, is_new, asked = clock() + patience, key is None, None
+        end, is_new, asked, tries = clock() + patience, key is None, None, 0
         while asked is None or clock() < end and asked.asks_again(is_new):
             if asked is not None:
-                key = asked.key_again()
-                await asyncio.sleep(PAUSE)
+                key, tries = asked.key_again(), tries + 1
+                await asyncio.sleep(pause(tries))
             asked = Awaited(*words_of(call), key)
             left = max(end - clock(), 0)
             with contextlib.suppress(CallError):
@@ -228,7 +270,10 @@ class Object:
         return lambda *arguments, **options: self.call(operation, *arguments, **options)
 
     async def close(self) -> None:
-        """Leaves the object, for good. A call of another task that has not ended is Lost."""
+        """Leaves the object, for good. A call of another task that has not ended is Lost. In another process than its own it
+        leaves nothing: its loop is there, and what that waits for."""
+        if not self._is_mine():
+            return
         self._is_closed = True
         is_idle = not self._session.asked
         if self._keeper is not None:
@@ -267,5 +312,5 @@ async def _through(work: Coroutine[object, object, None] | Coroutine[object, obj
 
 
 def connect(port: int | str, name: str, host: str = "127.0.0.1", wait: float = 10.0, client: str | None = None) -> Object:
-    """An object of the server at this port, or at the path of a socket, for `async with`."""
+    """An object of the server at this port, at `host:port`, or at the path of a socket, for `async with`."""
     return Object(port, name, host, wait, client)

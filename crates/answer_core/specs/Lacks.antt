@@ -1,8 +1,9 @@
 -- What standard error gets where something is lacking, and of which need that is.
 use Rattle.std.specs.Prelude.{◌≡◌, ◌⊎◌, ◌++◌, ℕ, List, [], Option, Some, None, codes, decimal, take}
 use Rattle.std.specs.Io.KnownBytes.{Appends, Keeps}
-use Rattle.std.specs.declared.io.ErrorKind.{ErrorKind}
-use Rattle.std.specs.declared.io.ErrorKind.TheVariants as causes
+use Rattle.cause_core.specs.Causes.{cause_text}
+use Rattle.cause_core.specs.declared.cause.Cause.{Cause}
+use Rattle.cause_core.specs.declared.cause.Cause.TheVariants as causes
 use Rattle.answer_core.specs.declared.failure.ToolFailure.TheVariants.{ReadFault, Memory}
 use Rattle.answer_core.specs.declared.lack.Lacking.{Lacking}
 use Rattle.answer_core.specs.declared.lack.Unmet.{Unmet}
@@ -18,20 +19,18 @@ need_text needs.Lock name = name ++ codes ": another server has this folder"
 need_text (needs.Port port) name = codes "nobody can listen at port " ++ decimal port
 need_text needs.Socket name = name ++ codes ": nobody can listen at this path"
 need_text needs.Parts name = name ++ codes ": in this folder a part cannot be read, or no file can be made"
+need_text needs.Waiting name = codes "connections cannot be waited for"
+need_text needs.Output name = codes "standard output cannot be written"
 
--- what is said of a cause: nothing, where the name says as much
-abbrev pub cause_text : ErrorKind → List ℕ
-cause_text causes.NotFound = codes ": it is not there"
-cause_text causes.PermissionDenied = codes ": there is no permission"
-cause_text causes.IsADirectory = codes ": it is a folder"
-cause_text causes.NotADirectory = codes ": it is no folder"
-cause_text causes.AddrInUse = codes ": it is taken"
-cause_text causes.AlreadyExists = codes ": it is no socket"
-cause_text cause = []
+-- a cause, as it is said of this need: what is in the place of a socket is none, and it is no disk that waits
+abbrev pub as_said : Wanted → Cause → Cause
+as_said needs.Socket causes.InPlace = causes.NoSocket
+as_said needs.Waiting causes.DiskFull = causes.UserLimit
+as_said need cause = cause
 
 -- the line that says what is lacking
 abbrev pub lack_text : Unmet → List ℕ → List ℕ
-lack_text unmet name = (need_text unmet.need name ++ cause_text unmet.cause) ++ codes "\n"
+lack_text unmet name = (need_text unmet.need name ++ cause_text (codes ": ") unmet.cause) ++ codes "\n"
 
 -- a line, or a front of it
 abbrev pub AppendsFront : Option (List ℕ) → Option (List ℕ) → List ℕ → Type 0
@@ -43,7 +42,7 @@ TellsLack None name old new = Keeps old new
 TellsLack (Some unmet) name old new = AppendsFront old new (lack_text unmet name)
 
 -- this is lacking, for this cause
-abbrev pub LacksBy : Wanted → ErrorKind → Lacking → Type 0
+abbrev pub LacksBy : Wanted → Cause → Lacking → Type 0
 LacksBy need cause lacking =
     (lacking.failure ≡ ReadFault) × (lacking.lack ≡ Some (record { need = need; cause = cause }))
 
@@ -53,4 +52,4 @@ LacksMemory lacking = (lacking.failure ≡ Memory) × (lacking.lack ≡ None)
 
 -- this is lacking, or memory was refused
 abbrev pub Lacks : Wanted → Lacking → Type 0
-Lacks need lacking = LacksMemory lacking ⊎ ((cause : ErrorKind) × LacksBy need cause lacking)
+Lacks need lacking = LacksMemory lacking ⊎ ((cause : Cause) × LacksBy need cause lacking)

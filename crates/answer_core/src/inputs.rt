@@ -10,10 +10,10 @@ use crate::failure::ToolFailure;
 use crate::lack::{Lacking, Wanted};
 use crate::said::told;
 use crate::source::read_source;
+use cause_core::cause::Cause;
 use note_core::files::Files;
 use note_core::kept::CopyingReader;
 use std::fs::{File, TryLockError};
-use std::io::ErrorKind;
 
 // Of a trace so many bytes are kept where its faults are not told: they have the line that names its object.
 const HEAD_BYTES: usize = 4_096;
@@ -28,7 +28,7 @@ pub fn open_folder(rt: &HostRuntime, folder: &str) -> Result<File, Lacking>
     };
     match opened.metadata() {
         Ok(about) if about.is_dir() => Ok(opened),
-        Ok(_) => Err(Lacking::at(Wanted::Folder, ErrorKind::NotADirectory)),
+        Ok(_) => Err(Lacking::at(Wanted::Folder, Cause::NoFolder)),
         Err(error) => Err(Lacking::of(Wanted::Folder, error)),
     }
 }
@@ -46,7 +46,7 @@ pub fn lock_folder(rt: &HostRuntime, folder: &str) -> Result<File, Lacking>
     let lock = open_folder(rt, folder)?;
     match lock.try_lock() {
         Ok(()) => Ok(lock),
-        Err(TryLockError::WouldBlock) => Err(Lacking::at(Wanted::Lock, ErrorKind::Other)),
+        Err(TryLockError::WouldBlock) => Err(Lacking::at(Wanted::Lock, Cause::Unknown)),
         Err(TryLockError::Error(error)) => Err(Lacking::of(Wanted::Folder, error)),
     }
 }

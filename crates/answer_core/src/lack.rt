@@ -1,16 +1,18 @@
 //! What a command needs to read, and what standard error is told where it lacks that.
 
 ghost use Rattle.std.specs.Prelude.{◌≡◌, ◌++◌, IfOk, OnOk};
-ghost use Rattle.std.specs.IoError.{error_kind};
+ghost use Rattle.std.specs.IoError.{error_kind, raw_os_error};
 ghost use Rattle.std.specs.declared.io.ErrorKind.TheVariants.{OutOfMemory};
+ghost use Rattle.cause_core.specs.Causes.{cause_text, the_cause};
 ghost use Rattle.answer_core.specs.Lacks.{AppendsFront, Lacks, LacksBy, TellsLack, lack_text, need_text};
-ghost use Rattle.answer_core.specs.Lacks.{cause_text as the_cause_text};
+ghost use Rattle.answer_core.specs.Lacks.{as_said as is_said};
 ghost use Rattle.answer_core.specs.Status.{IsFault};
 ghost use Rattle.answer_core.specs.declared.failure.ToolFailure.TheVariants.{ReadFault};
 
 use crate::failure::ToolFailure;
+use cause_core::cause::{Cause, cause_of, push_cause};
 use std::alloc::{AllocError, Global};
-use std::io::{self, ErrorKind, Write};
+use std::io::{self, Write};
 use value_core::reply::push_number;
 use value_core::write_whole;
 
@@ -31,13 +33,17 @@ pub enum Wanted {
     Socket,
     /// The saved parts, and files for their values.
     Parts,
+    /// To be told when connections can be read and written.
+    Waiting,
+    /// Standard output.
+    Output,
 }
 
 /// What a command lacks, and why, as far as the system says.
 #[derive(Clone, Copy, Debug)]
 pub struct Unmet {
     pub need: Wanted,
-    pub cause: ErrorKind,
+    pub cause: Cause,
 }
 
 /// Why a command does not go on.
@@ -49,14 +55,26 @@ pub struct Lacking {
     pub lack: Option<Unmet>,
 }
 
+// A cause, as it is said of this need: what is in the place of a socket is none, and it is no disk that waits.
+fn as_said(need: Wanted, cause: Cause) -> Cause
+    ensures { result ≡ is_said need cause }
+{
+    match (need, cause) {
+        (Wanted::Socket, Cause::InPlace) => Cause::NoSocket,
+        (Wanted::Waiting, Cause::DiskFull) => Cause::UserLimit,
+        (_, cause) => cause,
+    }
+}
+
 impl Lacking {
     /// The one of an error of the system: `ReadFault`, or `Memory`.
     pub fn of(need: Wanted, error: io::Error) -> Lacking
         ensures fault { IsFault result.failure }
         ensures need { Lacks need result }
-        ensures cause { (error_kind error ≡ OutOfMemory → ⊥) → LacksBy need (error_kind error) result }
+        ensures cause { (error_kind error ≡ OutOfMemory → ⊥)
+            → LacksBy need (is_said need (the_cause (raw_os_error error) (error_kind error))) result }
     {
-        let cause = error.kind();
+        let cause = as_said(need, cause_of(&error));
         match ToolFailure::from(error) {
             ToolFailure::ReadFault => Lacking::at(need, cause),
             _ => Lacking::from(AllocError),
@@ -64,7 +82,7 @@ impl Lacking {
     }
 
     /// The one of what is not there, or is no such thing.
-    pub fn at(need: Wanted, cause: ErrorKind) -> Lacking
+    pub fn at(need: Wanted, cause: Cause) -> Lacking
         ensures fault { result.failure ≡ ReadFault }
         ensures need { LacksBy need cause result }
     {
@@ -113,21 +131,8 @@ fn push_need(out: &mut Vec<u8>, need: Wanted, name: &str) -> Result<(), AllocErr
             name,
             b": in this folder a part cannot be read, or no file can be made",
         ),
-    }
-}
-
-// What is said of a cause: nothing, where the name says as much.
-fn cause_text(cause: ErrorKind) -> &'static [u8]
-    ensures { result.now ≡ the_cause_text cause }
-{
-    match cause {
-        ErrorKind::NotFound => b": it is not there",
-        ErrorKind::PermissionDenied => b": there is no permission",
-        ErrorKind::IsADirectory => b": it is a folder",
-        ErrorKind::NotADirectory => b": it is no folder",
-        ErrorKind::AddrInUse => b": it is taken",
-        ErrorKind::AlreadyExists => b": it is no socket",
-        _ => b"",
+        Wanted::Waiting => out.extend_from_slice(b"connections cannot be waited for"),
+        Wanted::Output => out.extend_from_slice(b"standard output cannot be written"),
     }
 }
 
@@ -137,7 +142,7 @@ fn lack_line(alloc: Global, lack: Unmet, name: &str) -> Result<Vec<u8>, AllocErr
 {
     let mut out = Vec::new(alloc);
     push_need(&mut out, lack.need, name)?;
-    out.extend_from_slice(cause_text(lack.cause))?;
+    push_cause(&mut out, b": ", lack.cause)?;
     out.push(b'\n')?;
     Ok(out)
 }

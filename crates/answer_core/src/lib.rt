@@ -4,8 +4,9 @@
 //! it is refused. `failure` says what the program ends with where it has no answer.
 //!
 //! `inputs` opens the files and folders that a command names, and `socket` listens at a path; where that fails `lack`
-//! says what is lacking, and `said` tells it. `sources` gives a source whose objects may have holds to a command that
-//! follows them, or that does not, and `holds` says why one is refused. No clause says what the system does.
+//! says what is lacking, and `said` tells it, as it tells that standard output took no more (`noting`). `sources` gives a
+//! source whose objects may have holds to a command that follows them, or that does not, and `holds` says why one is
+//! refused. No clause says what the system does.
 #![tactic(auto)]
 
 pub mod answer;
@@ -14,6 +15,7 @@ pub mod failure;
 pub mod holds;
 pub mod inputs;
 pub mod lack;
+pub mod noting;
 pub mod said;
 pub mod socket;
 pub mod source;

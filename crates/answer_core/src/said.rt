@@ -9,9 +9,10 @@ ghost use Rattle.answer_core.specs.declared.failure.ToolFailure.TheVariants.{Wri
 use crate::explanation::Telling;
 use crate::failure::ToolFailure;
 use crate::lack::{Lacking, Unmet, Wanted, tell_lack};
+use cause_core::cause::Cause;
 use command_line::request::Explain;
 use note_core::kept::CopyingReader;
-use std::io::{ErrorKind, IsTerminal, Read, Write};
+use std::io::{IsTerminal, Read, Write};
 use value_core::write_whole;
 
 /// How much is told of why something is refused: with `AtTerminal` all where standard error is one, else that there is more.
@@ -41,6 +42,17 @@ pub fn told(rt: &HostRuntime, lacking: Lacking, name: &str) -> ToolFailure
     failure
 }
 
+/// Tells that standard output cannot be written, where it failed for such a cause.
+pub fn tell_unwritten(rt: &HostRuntime, fault: Option<Cause>) {
+    if let Some(cause) = fault {
+        let lack = Unmet {
+            need: Wanted::Output,
+            cause,
+        };
+        tell_lack(rt.alloc(), Some(lack), "", &mut rt.stderr());
+    }
+}
+
 /// Hands on what a command ended with; where it could not read this to its end that is told.
 pub fn told_unread<R: Read + Drop>(
     rt: &HostRuntime,
@@ -54,7 +66,7 @@ pub fn told_unread<R: Read + Drop>(
     if let Err(ToolFailure::ReadFault) = &ended {
         let lack = Unmet {
             need,
-            cause: kept.fault().unwrap_or(ErrorKind::Other),
+            cause: kept.fault().unwrap_or(Cause::Unknown),
         };
         tell_lack(rt.alloc(), Some(lack), name, &mut rt.stderr());
     }

@@ -44,7 +44,7 @@ pub told_keeps : (place : ℕ) (text : List ℕ) → Keeps (OnlyTold place text)
 told_keeps place text old new said added n = (ap (λ (s : State). s.objects) n.left, n.lines)
 
 pub refused_keeps : (place : ℕ) → Keeps (IsRefused place)
-refused_keeps place old new said added (line, is, only) = (ap (λ (s : State). s.objects) only.left, only.lines)
+refused_keeps place old new said added is = (ap (λ (s : State). s.objects) is.only.left, is.only.lines)
 
 pub told_moves : (place : ℕ) (text : List ℕ) → MovesBy (OnlyTold place text)
 told_moves place text = by_keeping (OnlyTold place text) (told_keeps place text)

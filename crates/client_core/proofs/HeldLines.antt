@@ -10,7 +10,7 @@ use Rattle.live_core.specs.declared.call.Ran.{Ran}
 use Rattle.live_core.specs.Scene.{Scene}
 use Rattle.decl_core.specs.HoldForm.{HoldForm, RulesForm}
 use Rattle.guest_core.specs.Held.{HeldCall, AreHeld}
-use Rattle.guest_core.specs.Held.AreHeld.{at_end}
+use Rattle.guest_core.specs.Held.AreHeldBy.{at_end}
 use Rattle.keep_loop.specs.Turns.Asked.{Heard, Noted, Changes}
 use Rattle.keep_loop.specs.declared.served.LineEnd.{LineEnd}
 use Rattle.keep_loop.specs.declared.served.LineEnd.TheVariants as line_ends
@@ -32,7 +32,7 @@ use Rattle.client_core.specs.Laws.{HoldsBehind, HeldFollows}
 use Rattle.client_core.specs.Turns.HearsLine.{does, cancels, sees, puts_off, holds, refuses}
 use Rattle.client_core.specs.Turns.GoesOn.{rests, does as does_more}
 use Rattle.client_core.specs.Turns.EndsHeld.{all, quits, goes_on}
-use Rattle.client_core.specs.Turns.{HearsLine, HearsLast, HearsAt, TakesLine, GoesOn, EndsAsk, EndsHeld, Withdraws, WithdrawsAt, Leaves, LeavesIf, Comes, IfHere, AllLeave, Notes, place_of}
+use Rattle.client_core.specs.Turns.{HearsLine, HearsLast, HearsAt, TakesLine, GoesOn, EndsAsk, EndsHeld, Withdraws, WithdrawsAt, Leaves, LeavesIf, EndsForIf, Comes, IfHere, AllLeave, Notes, place_of}
 
 -- behind a deed what is held follows
 abbrev HoldsBy : Deed → Type 0
@@ -130,7 +130,7 @@ told_holds : (place : ℕ) (text : List ℕ) → HoldsBy (OnlyTold place text)
 told_holds place text = by_same (OnlyTold place text) (λ old new said added n. ap (λ (s : State). s.custody) n.left)
 
 refused_holds : (place : ℕ) → HoldsBy (IsRefused place)
-refused_holds place old new said added (line, is, only) = told_holds place _ old new said added only
+refused_holds place old new said added is = told_holds place _ old new said added is.only
 
 then_holds : (first second : Deed) → HoldsBy first → HoldsBy second → HoldsBy (Then first second)
 then_holds first second one two old new said added is j rules past h =
@@ -275,9 +275,14 @@ if_here_holds : (who : ℕ) (deed : ℕ → Deed) → ((place : ℕ) → HoldsBy
 if_here_holds who deed each old new said added (inl (here, is)) = each (place_of old who) old new said added is
 if_here_holds who deed each old new said added (inr (none, is)) = nothing_holds old new said added is
 
+ends_for_holds : (place : ℕ) → HoldsBy (EndsForIf place)
+ends_for_holds place old new said added (inl (who, here, inl (again, is))) = goes_holds place old new said added is
+ends_for_holds place old new said added (inl (who, here, inr (other, is))) = leaves_holds place old new said added is
+ends_for_holds place old new said added (inr (none, is)) = nothing_holds old new said added is
+
 all_leave_holds : (n : ℕ) → HoldsBy (AllLeave n)
 all_leave_holds zero = nothing_holds
-all_leave_holds (suc n) = then_holds (AllLeave n) (LeavesIf n) (all_leave_holds n) (leaves_if_holds n)
+all_leave_holds (suc n) = then_holds (AllLeave n) (EndsForIf n) (all_leave_holds n) (ends_for_holds n)
 
 notes_hold : (note : Note) → HoldsBy (Notes note)
 notes_hold (notes.Joins who) old new said added is =

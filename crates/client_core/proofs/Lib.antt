@@ -10,4 +10,5 @@ pub mod Placing
 mod Owing
 mod Places
 mod Rows
+mod Timing
 mod Starting

@@ -11,6 +11,7 @@ use Rattle.guest_core.specs.declared.guest.Guest.{Guest}
 use Rattle.guest_core.specs.Entering.{IsLongestAway}
 use Rattle.guest_core.specs.Guests.{Guests, IsUnknown}
 use Rattle.decl_core.specs.HoldForm.{HoldForm}
+use Rattle.guest_core.specs.declared.hold_ends.HoldEnds.TheVariants.{ByDone}
 use Rattle.guest_core.specs.Held.{HeldCall, AreHeld, Gives, at_end, begun}
 use Rattle.guest_core.specs.Places.{IsNewest}
 use Rattle.guest_core.specs.Undo.{IsUndoOf}
@@ -60,7 +61,7 @@ due_ok o h session k call (Ok found) newest undo = due_by o h session k call fou
 due_ok o h session k call (Err e) newest undo = tt
 
 -- what is held behind a call that ended
-pub held_follows : (holds to : List HoldForm) (c told : Called) (reply : Reply) (held old new : List HeldCall) (past : List Happened) → holds ≡ to → c ≡ told → held ≡ old → ((left : List HeldCall) × Gives holds c held left × (new ≡ left ++ begun holds c reply))
+pub held_follows : (holds to : List HoldForm) (c told : Called) (reply : Reply) (held old new : List HeldCall) (past : List Happened) → holds ≡ to → c ≡ told → held ≡ old → ((left : List HeldCall) × Gives ByDone holds c reply held left × (new ≡ left ++ begun holds c reply))
     → AreHeld to past old → AreHeld to (ended told reply ∷ past) new
 held_follows holds to c told reply held old new past e f g ends are =
     let was : AreHeld holds past held = subst (λ r. AreHeld r past held) (sym e) (subst (λ xs. AreHeld to past xs) (sym g) are) in

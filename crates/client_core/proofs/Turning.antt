@@ -24,7 +24,7 @@ use Rattle.client_core.specs.Moves.{Moves}
 use Rattle.client_core.specs.Turns.HearsLine.{does, cancels, sees, puts_off, holds, refuses}
 use Rattle.client_core.specs.Turns.GoesOn.{rests, does as does_more}
 use Rattle.client_core.specs.Turns.EndsHeld.{all, quits, goes_on}
-use Rattle.client_core.specs.Turns.{HearsLine, HearsLast, HearsAt, TakesLine, GoesOn, EndsAsk, EndsHeld, Withdraws, WithdrawsAt, Leaves, LeavesIf, Comes, IfHere, AllLeave, Notes, place_of}
+use Rattle.client_core.specs.Turns.{HearsLine, HearsLast, HearsAt, TakesLine, GoesOn, EndsAsk, EndsHeld, Withdraws, WithdrawsAt, Leaves, LeavesIf, EndsForIf, Comes, IfHere, AllLeave, Notes, place_of}
 use Rattle.client_core.specs.Gone.{CallsFor, SeatsOne, Frees, Settles}
 use Rattle.client_core.specs.Gone.Settles.{rests as settled, goes_on as settles_on, calls as calls_one, seats as seats_one, frees as frees_one}
 use Rattle.client_core.proofs.Moving.{moves_none, moves_one, moves_quiet, moves_then}
@@ -106,9 +106,14 @@ if_here_moves : (who : ℕ) (deed : ℕ → Deed) → ((place : ℕ) → MovesBy
 if_here_moves who deed each old new said added (inl (here, is)) = each (place_of old who) old new said added is
 if_here_moves who deed each old new said added (inr (none, is)) = nothing_moves old new said added is
 
+ends_for_moves : (place : ℕ) → MovesBy (EndsForIf place)
+ends_for_moves place old new said added (inl (who, here, inl (again, is))) = goes_moves place old new said added is
+ends_for_moves place old new said added (inl (who, here, inr (other, is))) = leaves_moves place old new said added is
+ends_for_moves place old new said added (inr (none, is)) = nothing_moves old new said added is
+
 all_leave_moves : (n : ℕ) → MovesBy (AllLeave n)
 all_leave_moves zero = nothing_moves
-all_leave_moves (suc n) = then_moves (AllLeave n) (LeavesIf n) (all_leave_moves n) (leaves_if_moves n)
+all_leave_moves (suc n) = then_moves (AllLeave n) (EndsForIf n) (all_leave_moves n) (ends_for_moves n)
 
 notes_moves : (note : Note) → MovesBy (Notes note)
 notes_moves (notes.Joins who) old new said added is =

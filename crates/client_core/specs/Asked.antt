@@ -33,17 +33,16 @@ use Rattle.client_core.specs.declared.client.OpenObject.{OpenObject}
 use Rattle.client_core.specs.Custody.{Custody, Custodies, MayMake, FollowsIn, IsFreeOf, HasSome, not_held_text}
 use Rattle.client_core.specs.State.{State, nobody, opening, waiting, opened_at, changed, with_object, with_custody, told_to, counted, session_by}
 use Rattle.client_core.specs.Deeds.{Texts, Deed, Nothing, OnlyTold}
+use Rattle.client_core.specs.Refusals.{IsHint, IsRefusal, refusal_text}
 use Rattle.client_core.specs.ToldInside.{Sees}
 
--- it is refused: it is told why, and nothing changes
-abbrev pub IsRefusal : ReplyLine → Type 0
-IsRefusal (lines.Refused refusal) = Unit {0}
-IsRefusal (lines.Unsubmitted fault) = Unit {0}
-IsRefusal (lines.Unkeyed fault) = Unit {0}
-IsRefusal line = ⊥
-
-abbrev pub IsRefused : ℕ → Deed
-IsRefused place old said added new = (line : ReplyLine) × IsRefusal line × OnlyTold place (line_text line) old said added new
+-- It is refused: it is told why, with a text for people or none, and nothing changes.
+pub record IsRefused (place : ℕ) (old : State) (said added : Texts) (new : State) : Type 0 where
+  pub line : ReplyLine
+  pub is : IsRefusal line
+  pub hint : List ℕ
+  pub hinted : IsHint old place line hint
+  pub only : OnlyTold place (refusal_text line hint) old said added new
 
 -- it opens the object of this name without a name
 pub record OpensBare (place : ℕ) (name : List ℕ) (old : State) (said added : Texts) (new : State) : Type 0 where

@@ -8,6 +8,7 @@ use Rattle.word_core.specs.Events.{Called}
 use Rattle.live_core.specs.declared.call.Ran.{Ran}
 use Rattle.live_core.specs.Scene.{Scene, told_of}
 use Rattle.decl_core.specs.HoldForm.{HoldForm, EveryForm, RulesForm}
+use Rattle.guest_core.specs.declared.hold_ends.HoldEnds.TheVariants.{ByDone}
 use Rattle.guest_core.specs.Held.{HeldCall, Gives, MayUndo, begun}
 use Rattle.guest_core.specs.Places.{IsNewest}
 use Rattle.guest_core.specs.Undo.{IsUndoOf}
@@ -50,7 +51,8 @@ as_told object c = record c { number = told_of object c.number }
 
 -- what is held behind a call that ended
 abbrev pub HeldBehind : List HoldForm → Called → Reply → List HeldCall → List HeldCall → Type 0
-HeldBehind holds c reply old new = (left : List HeldCall) × Gives holds c old left × (new ≡ left ++ begun holds c reply)
+HeldBehind holds c reply old new =
+    (left : List HeldCall) × Gives ByDone holds c reply old left × (new ≡ left ++ begun holds c reply)
 
 -- behind calls that ended, one after the other
 abbrev pub HeldBehindAll : List HoldForm → Scene → List Ran → List HeldCall → List HeldCall → Type 0

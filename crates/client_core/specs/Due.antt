@@ -96,11 +96,11 @@ pub record LooksAll (objects : List Scene) (second : ℕ) (old new : List Holdin
   pub each : (at : ℕ) (h : Holding) → slice_get old at ≡ Some h →
       (next : Holding) × (slice_get new at ≡ Some next) × LooksBy (slice_get objects at) second h next
 
--- calls of an object have ended, one after the other
-abbrev pub EndsAll : Scene → List Ran → Holding → Holding → Type 0
-EndsAll object [] old new = new ≡ old
-EndsAll object (r ∷ ran) old new =
-    (mid : Holding) × Ends old (as_told object r.call) r.reply mid × EndsAll object ran mid new
+-- calls of an object have ended in this second, one after the other
+abbrev pub EndsAll : Scene → ℕ → List Ran → Holding → Holding → Type 0
+EndsAll object second [] old new = new ≡ old
+EndsAll object second (r ∷ ran) old new =
+    (mid : Holding) × Ends old second (as_told object r.call) r.reply mid × EndsAll object second ran mid new
 
 -- the call at a place that is made again and again
 abbrev pub tick_of : Option Holding → ℕ → Option Ticking

@@ -1,6 +1,8 @@
 -- Who is gone and holds something, and when a call is due.
 use Rattle.std.specs.Prelude.{◌≡◌, ◌==◌, ℕ, zero, suc, ◌+◌, ◌-◌, ◌^◌, Bool, true, false, List, [], ◌∷◌, min, not, if◌then◌else◌}
 use Rattle.std.specs.List.{filter}
+use Rattle.apply_core.specs.declared.reply.Reply.{Reply}
+use Rattle.apply_core.specs.declared.reply.Reply.TheVariants.{Done, Refused, Failed}
 use Rattle.client_core.specs.declared.holder.Holder.{Holder}
 use Rattle.client_core.specs.declared.holder.WhenDue.{WhenDue}
 use Rattle.client_core.specs.declared.holder.WhenDue.TheVariants.{Now, At, Waits}
@@ -29,11 +31,35 @@ due_from true second (suc more) = At (later (later second (suc more)) 1)
 abbrev pub due_then : ℕ → WhenDue → Holder → Holder
 due_then session when g = if g.session == session then record g { when = when } else g
 
--- where a call made for a session waited and has ended, the next one is due now
-abbrev pub when_ended : WhenDue → WhenDue
-when_ended Now = Now
-when_ended (At second) = At second
-when_ended Waits = Now
+-- So many seconds behind the first call that was refused the next one is made; behind each further one twice as many, up
+-- to a minute.
+abbrev pub first_pause : ℕ
+first_pause = 1
 
-abbrev pub ended_for : ℕ → Holder → Holder
-ended_for session g = if g.session == session then record g { when = when_ended g.when } else g
+abbrev pub longer : ℕ → ℕ
+longer pause = min (pause + pause) 60
+
+-- a call is due again behind the pause
+abbrev pub again : ℕ → Holder → Holder
+again second g = record g { when = At (later second g.pause); pause = longer g.pause }
+
+-- A call that was made for a session has ended in this second: where it was done the next one is due now, and pauses begin
+-- anew; else it is due again.
+abbrev pub ended_with : ℕ → Reply → Holder → Holder
+ended_with second (Done d) g = record g { when = Now; pause = first_pause }
+ended_with second (Refused word) g = again second g
+ended_with second (Failed failure) g = again second g
+
+-- while none is due, none was made
+abbrev pub ended_at : WhenDue → ℕ → Reply → Holder → Holder
+ended_at Now second reply g = ended_with second reply g
+ended_at (At due) second reply g = g
+ended_at Waits second reply g = ended_with second reply g
+
+abbrev pub ended_for : ℕ → ℕ → Reply → Holder → Holder
+ended_for session second reply g = if g.session == session then ended_at g.when second reply g else g
+
+-- the first pauses of one whose calls are all refused
+abbrev pub pauses : ℕ → ℕ → List ℕ
+pauses zero pause = []
+pauses (suc more) pause = pause ∷ pauses more (longer pause)

@@ -10,6 +10,7 @@ abbrev pub holding_of : Inside → Holding
 holding_of h = record {
   rules = rules_of h.rules;
   held = h.holds;
+  since = h.since.items;
   away = h.away;
   gone = h.gone.items;
   ticking = h.ticking.items;

@@ -11,6 +11,7 @@ use Rattle.guest_core.specs.Guests.{Guests, IsNamed, IsUnknown}
 use Rattle.live_core.specs.Calls.{seat_of}
 use Rattle.live_core.specs.Scene.{Scene}
 use Rattle.decl_core.specs.HoldForm.{RulesForm}
+use Rattle.guest_core.specs.declared.hold_ends.HoldEnds.TheVariants.{ByDone}
 use Rattle.guest_core.specs.Held.{HeldCall, Gives, begun}
 use Rattle.guest_core.specs.Places.{IsNewest}
 use Rattle.guest_core.specs.Undo.{IsUndoOf}
@@ -18,41 +19,48 @@ use Rattle.client_core.specs.declared.holder.Holder.{Holder}
 use Rattle.client_core.specs.declared.holder.WhenDue.{WhenDue}
 use Rattle.client_core.specs.declared.holder.WhenDue.TheVariants.{Now, At, Waits}
 use Rattle.client_core.specs.declared.ticking.Ticking.{Ticking}
-use Rattle.client_core.specs.GoneClients.{due_from, ended_for, later, without}
+use Rattle.client_core.specs.GoneClients.{due_from, ended_for, first_pause, later, without}
+use Rattle.client_core.specs.declared.since.HeldSince.{HeldSince}
+use Rattle.client_core.specs.Since.{KeepsSince}
 use Rattle.client_core.specs.Ticks.{first_tick}
 
--- What the object says of gone clients and of time, what is held, the oldest first, how many seconds a client with a name
--- may be away, who is gone, in the order in which they went, and what is called again and again.
+-- What the object says of gone clients and of time, what is held, the oldest first, since when, how many seconds a client
+-- with a name may be away, who is gone, in the order in which they went, and what is called again and again.
 pub record Holding : Type 0 where
   pub rules : RulesForm
   pub held : List HeldCall
+  pub since : List HeldSince
   pub away : ℕ
   pub gone : List Holder
   pub ticking : List Ticking
 
--- the same, but for who is gone, or for what is called again and again
+-- the same, but for who is gone, for since when what is held is, or for what is called again and again
 abbrev pub with_gone : Holding → List Holder → Holding
 with_gone h gone = record h { gone = gone }
+
+abbrev pub with_since : Holding → List HeldSince → Holding
+with_since h since = record h { since = since }
 
 abbrev pub with_ticking : Holding → List Ticking → Holding
 with_ticking h ticking = record h { ticking = ticking }
 
--- at the start nobody is gone yet, and what is called again and again is due
+-- at the start nobody is gone yet, nothing is known of since when what is held is, and what is called again and again is due
 abbrev pub begun_with : RulesForm → List HeldCall → ℕ → Holding
 begun_with rules held away =
-    record { rules = rules; held = held; away = away; gone = []; ticking = map first_tick rules.everies }
+    record { rules = rules; held = held; since = []; away = away; gone = []; ticking = map first_tick rules.everies }
 
 -- a call as it was told
 abbrev pub told_as : ℕ → Called → Called
 told_as told c = record c { number = told }
 
--- What is held behind a call that ended: what it ends is held no more, and it is held itself, where it was done. Where it
--- was made for a session that is gone, the next one is due.
-pub record Ends (old : Holding) (c : Called) (reply : Reply) (new : Holding) : Type 0 where
+-- What is held behind a call that ended in this second: where it was done, what it ends is held no more, and it is held
+-- itself, since now. Where it was made for a session that is gone, the next one is due, or it is due again.
+pub record Ends (old : Holding) (second : ℕ) (c : Called) (reply : Reply) (new : Holding) : Type 0 where
   pub left : List HeldCall
-  pub gives : Gives old.rules.holds c old.held left
+  pub gives : Gives ByDone old.rules.holds c reply old.held left
   pub held : new.held ≡ left ++ begun old.rules.holds c reply
-  pub gone : new.gone ≡ map (ended_for (seat_of c.session)) old.gone
+  pub since : KeepsSince c.number second old.since old.held new.since new.held
+  pub gone : new.gone ≡ map (ended_for (seat_of c.session) second reply) old.gone
   pub rules : new.rules ≡ old.rules
   pub away : new.away ≡ old.away
   pub ticking : new.ticking ≡ old.ticking
@@ -69,7 +77,13 @@ HoldsSome held session = (place : ℕ) × (call : HeldCall) × IsNewest session 
 abbrev pub Goes : ℕ → Bool → ℕ → Holding → Holding → Type 0
 Goes session is_named second old new =
     (HoldsSome old.held session × (new ≡ with_gone old (without session old.gone
-    ++ (record { session = session; is_named = is_named; when = due_from is_named second old.away }) ∷ [])))
+    ++ (record {
+      session = session;
+      is_named = is_named;
+      when = due_from is_named second old.away;
+      pause = first_pause;
+      since = second;
+    }) ∷ [])))
     ⊎ (HoldsNone old.held session × (new ≡ old))
 
 -- What is to be called for a session gives back the newest that it holds.
@@ -126,4 +140,6 @@ DueIn s second session Waits new =
 pub record LooksAt (s : Scene) (second : ℕ) (old new : Holder) : Type 0 where
   pub session : new.session ≡ old.session
   pub is_named : new.is_named ≡ old.is_named
+  pub pause : new.pause ≡ old.pause
+  pub since : new.since ≡ old.since
   pub when : DueIn s second old.session old.when new.when

@@ -1,5 +1,5 @@
 -- What follows from what a turn gives.
-use Rattle.std.specs.Prelude.{◌≡◌, ℕ, true, false, List, ◌++◌, Some, slice_get}
+use Rattle.std.specs.Prelude.{◌≡◌, ℕ, true, false, List, [], ◌∷◌, ◌++◌, Some, slice_get}
 use Rattle.word_core.specs.Events.{Happened}
 use Rattle.decl_core.specs.HoldForm.{RulesForm}
 use Rattle.guest_core.specs.Held.{AreHeld}
@@ -7,6 +7,7 @@ use Rattle.live_core.specs.Hall.{Told, IsHeld}
 use Rattle.keep_loop.specs.Turns.{Asked}
 use Rattle.keep_loop.specs.Turns.Asked.{Heard, Noted, Changes}
 use Rattle.client_core.specs.Custody.{Custody}
+use Rattle.client_core.specs.GoneClients.{first_pause, pauses}
 use Rattle.client_core.specs.State.{State}
 use Rattle.client_core.specs.Deeds.{Texts}
 use Rattle.client_core.specs.Asked.{IsCancelled}
@@ -43,3 +44,7 @@ abbrev pub HeldFollows : Type 0
 HeldFollows =
     (old new : State) (asked : Asked) (said added : Texts) → Gives old asked said added new → (j : ℕ) (rules : RulesForm) (past : List Happened) →
     HoldsBehind old j rules past → HoldsBehind new j rules past
+
+-- So many seconds pass between calls for one that is gone, where each is refused.
+abbrev pub PausesDouble : Type 0
+PausesDouble = pauses 8 first_pause ≡ 1 ∷ 2 ∷ 4 ∷ 8 ∷ 16 ∷ 32 ∷ 60 ∷ 60 ∷ []

@@ -3,11 +3,13 @@ pub mod Held
 pub mod Inside
 pub mod Numbers
 pub mod People
+pub mod Refusals
 pub mod Places
 pub mod Asked
 pub mod Deeds
 pub mod Given
 pub mod Gone
+pub mod HeldRows
 pub mod ToldInside
 pub mod Laws
 pub mod Moves
@@ -17,6 +19,7 @@ pub mod Custody
 pub mod Views
 pub mod Due
 pub mod GoneClients
+pub mod Since
 pub mod Ticks
 pub mod Holding
 pub mod Start

@@ -19,9 +19,9 @@ use Rattle.stuck_core.specs.Why.{state_line, why_text}
 use Rattle.stuck_core.specs.Who.{Sitting, Refused, who_line, seat_line, waits_line}
 use Rattle.stuck_core.specs.List.{list_text}
 use Rattle.decl_core.specs.HoldForm.{HoldForm}
-use Rattle.guest_core.specs.Held.{HeldCall}
-use Rattle.check_core.specs.HeldTold.{holds_line}
-use Rattle.client_core.specs.Custody.{holds_by, held_by}
+use Rattle.client_core.specs.Holding.{Holding}
+use Rattle.client_core.specs.HeldRows.{AreHeldRows, HeldRow, Timed, held_line, rules_by, timed_of}
+use Rattle.client_core.specs.Views.{custodies_of}
 use Rattle.client_core.specs.State.{Peer, State, opened_in, opened_at}
 use Rattle.client_core.specs.Deeds.{Texts, Deed, OnlyTold}
 
@@ -144,25 +144,33 @@ AreWaits crowd seats object (c ∷ calls) (r ∷ rows) = IsWaitOf crowd seats ob
 AreWaits crowd seats object calls rows = ⊥
 
 -- what these sessions hold, also those that are gone, the oldest first
-abbrev pub held_in : ℕ → Option ℕ → List HeldCall → List HeldCall
-held_in from last held = flat_map (λ (h : HeldCall). if is_between from last h.session then h ∷ [] else []) held
+abbrev pub held_in : ℕ → Option ℕ → List Timed → List Timed
+held_in from last held = flat_map (λ (t : Timed). if is_between from last t.0.session then t ∷ [] else []) held
+
+-- The rows of the first 256 of what these sessions hold, where this is known of what is held of an object, in this second;
+-- of one of which nothing may be held there are none.
+abbrev pub AreHeldBy : ℕ → Scene → ℕ → Option ℕ → Option Holding → List HeldRow → Type 0
+AreHeldBy now object from last None rows = rows ≡ []
+AreHeldBy now object from last (Some h) rows = AreHeldRows now object h (take 256 (held_in from last (timed_of h))) rows
 
 -- the whole of an answer: so many lines, those of sessions, those of calls that wait, and behind them what is held
-abbrev pub who_held_text : ObjectForm → List HoldForm → List Sitting → List Refused → List HeldCall → List ℕ
+abbrev pub who_held_text : ObjectForm → List HoldForm → List Sitting → List Refused → List HeldRow → List ℕ
 who_held_text o holds seats calls held =
     who_line (length seats + sum (map (λ c. length c.whys) calls) + length held) ++ flat_map (λ s. seat_line s.seat s.name) seats
-    ++ flat_map (λ c. flat_map (waits_line o c.call) c.whys) calls ++ flat_map (holds_line o holds) held
+    ++ flat_map (λ c. flat_map (waits_line o c.call) c.whys) calls ++ flat_map (held_line o holds) held
 
--- What is said of those who are there, where the object has these holds and this is held: the first 256 sessions, what
+-- What is said of those who are there, where this is known of what is held of the object: the first 256 sessions, what
 -- waits of these, and the first 256 of what these hold, and of what is held by who is gone.
-pub record IsWho (crowd : Crowd) (object : Scene) (holds : List HoldForm) (held : List HeldCall) (from : ℕ) (text : List ℕ) : Type 0 where
+pub record IsWho (crowd : Crowd) (object : Scene) (holding : Option Holding) (from : ℕ) (text : List ℕ) : Type 0 where
   pub all : List (ℕ × OpenObject)
   pub are_all : AreSitting crowd.at from crowd.peers all
   pub seats : List Sitting
   pub are_seats : AreSeats crowd (take 256 all) seats
   pub calls : List Refused
   pub are_calls : AreWaits crowd (take 256 all) object (waiting_in from (last_told all) object.hall.waiting) calls
-  pub text_is : text ≡ who_held_text (object_of object.hall.object) holds seats calls (take 256 (held_in from (last_told all) held))
+  pub held : List HeldRow
+  pub are_held : AreHeldBy crowd.now object from (last_told all) holding held
+  pub text_is : text ≡ who_held_text (object_of object.hall.object) (rules_by holding) seats calls held
 
 -- the object that is open
 abbrev pub form_at : List Scene → Option ℕ → Option ObjectForm
@@ -186,15 +194,21 @@ pub record SeesWhy (place number : ℕ) (old : State) (said added : Texts) (new 
   pub is : IsWhy object number text
   pub only : OnlyTold place text old said added new
 
--- or who is there, where these clients are, in this second
-pub record SeesWho (people : List Person) (now place from : ℕ) (old : State) (said added : Texts) (new : State) : Type 0 where
+-- The second in which one looks, and what is known of what is held of each object: since when, and who is gone.
+pub record Known : Type 0 where
+  pub now : ℕ
+  pub custody : List Holding
+
+-- or who is there, where these clients are, and this is known of what is held
+pub record SeesWho (people : List Person) (known : Known) (place from : ℕ) (old : State) (said added : Texts) (new : State) : Type 0 where
   pub opened : OpenObject
   pub by : opened_at old place ≡ Some opened
   pub object : Scene
   pub there : slice_get old.objects opened.object ≡ Some object
   pub text : List ℕ
-  pub is : IsWho (record { peers = old.peers; people = people; now = now; at = opened.object }) object (holds_by (slice_get old.custody opened.object))
-      (held_by (slice_get old.custody opened.object)) from text
+  pub same : custodies_of known.custody ≡ old.custody
+  pub is : IsWho (record { peers = old.peers; people = people; now = known.now; at = opened.object }) object
+      (slice_get known.custody opened.object) from text
   pub only : OnlyTold place text old said added new
 
 -- or which objects there are
@@ -203,12 +217,12 @@ pub record SeesList (place : ℕ) (old : State) (said added : Texts) (new : Stat
   pub is : IsList old.objects (object_in (opened_at old place)) text
   pub only : OnlyTold place text old said added new
 
--- where these clients are, in this second
-abbrev pub SeesOf : List Person → ℕ → ℕ → Sight → Deed
-SeesOf people now place (insides.Why number) = SeesWhy place number
-SeesOf people now place (insides.Who from) = SeesWho people now place from
-SeesOf people now place insides.List = SeesList place
+-- where these clients are, and this is known of what is held
+abbrev pub SeesOf : List Person → Known → ℕ → Sight → Deed
+SeesOf people known place (insides.Why number) = SeesWhy place number
+SeesOf people known place (insides.Who from) = SeesWho people known place from
+SeesOf people known place insides.List = SeesList place
 
--- the same, of clients that are not named here
+-- the same, of clients that are not named here, and of what is known then
 abbrev pub Sees : ℕ → Sight → Deed
-Sees place inside old said added new = (people : List Person) × (now : ℕ) × SeesOf people now place inside old said added new
+Sees place inside old said added new = (people : List Person) × (known : Known) × SeesOf people known place inside old said added new

@@ -5,6 +5,8 @@ use Rattle.std.specs.Str.Lines.{strip_carriage_return}
 use Rattle.value_core.specs.Runs.{NoLineFeed}
 use Rattle.word_core.specs.Reads.{Reads}
 use Rattle.guest_core.specs.declared.answer.SubmitFault.TheVariants as faults
+use Rattle.guest_core.specs.declared.guest.Guest.{Guest}
+use Rattle.guest_core.specs.Guests.{IsNamed}
 use Rattle.session_text.specs.declared.line.ReplyLine.TheVariants as lines
 use Rattle.session_text.specs.declared.line.LineRefusal.TheVariants as refusals
 use Rattle.session_text.specs.Lines.{bye_text, line_text}
@@ -138,10 +140,32 @@ IfHere who deed old said added new =
     ((who_at old (place_of old who) ≡ Some who) × deed (place_of old who) old said added new)
     ⊎ ((who_at old (place_of old who) ≡ Some who → ⊥) × Nothing old said added new)
 
--- those at the first places, so many, leave, one after the other
+-- a session of the object at a place is that of a client that has a name
+abbrev pub HasNameAt : List Scene → ℕ → ℕ → Type 0
+HasNameAt objects at session =
+    (object : Scene) × (slice_get objects at ≡ Some object) × ((p : ℕ) × (g : Guest) × IsNamed object.guests session p g)
+
+-- a call of the one at a place waits, and its client has a name: behind a start it asks for the call again
+abbrev pub AsksAgain : State → ℕ → Type 0
+AsksAgain s place =
+    (opened : OpenObject) × (opened_at s place ≡ Some opened) × (opened.waits ≡ true) × HasNameAt s.objects opened.object opened.session
+
+-- What becomes of the one at a place where all end. One that asks again is told nothing more, also of the lines that are held
+-- behind its call, and this waits still; any other one leaves.
+abbrev pub EndsFor : ℕ → Deed
+EndsFor place old said added new =
+    (AsksAgain old place × Goes place old said added new) ⊎ ((AsksAgain old place → ⊥) × Leaves place old said added new)
+
+-- the same, where one is there
+abbrev pub EndsForIf : ℕ → Deed
+EndsForIf place old said added new =
+    ((who : ℕ) × (who_at old place ≡ Some who) × EndsFor place old said added new)
+    ⊎ ((who_at old place ≡ None) × Nothing old said added new)
+
+-- those at the first places, so many, end, one after the other
 abbrev pub AllLeave : ℕ → Deed
 AllLeave zero = Nothing
-AllLeave (suc n) = Then (AllLeave n) (LeavesIf n)
+AllLeave (suc n) = Then (AllLeave n) (EndsForIf n)
 
 -- what is done for a note: one that comes has its place alone
 abbrev pub Notes : Note → Deed

@@ -67,21 +67,22 @@ fn due_of(holding: &Holding, at: usize, second: u64) -> Option<DueCall>
     }
 }
 
-// Calls of the object at a place ran.
+// Calls of the object at a place ran in this second.
 fn ended_in(
     rows: &mut Vec<Holding>,
     at: usize,
     object: &Hosted,
+    second: u64,
     all: &[Ran],
 ) -> Result<(), AllocError>
-    ensures ends { OnOk result (Becomes (EndsAll object.now all.now) at rows.old.items rows.new.items) }
+    ensures ends { OnOk result (Becomes (EndsAll object.now second all.now) at rows.old.items rows.new.items) }
     ensures held { OnOk result (FollowsIn (slice_get (custodies_of rows.old.items) at) at object.now all.now
         (custodies_of rows.old.items) (custodies_of rows.new.items)) }
 {
     match rows.get_mut(at) {
         None => Ok(()),
         Some(holding) => {
-            all_ended(holding, object, all)?;
+            all_ended(holding, object, second, all)?;
             Ok(())
         }
     }
@@ -165,8 +166,8 @@ impl AllHeld {
         Ok(())
     }
 
-    // What is held of the object at a place.
-    fn at(&self, at: usize) -> Option<&Holding>
+    /// What is held of the object at a place, since when, and who is gone. `None`: it says nothing of gone clients and of time.
+    pub fn at(&self, at: usize) -> Option<&Holding>
         ensures { MatchOption result (slice_get self.now at ≡ None) (λ h. slice_get self.now at ≡ Some h.now) }
     {
         self.rows.get(at)
@@ -311,29 +312,42 @@ impl AllHeld {
         }
     }
 
-    /// Calls of the object at a place ran, in their order: what is held of it follows. The error is that memory was refused.
-    pub fn ended(&mut self, at: usize, objects: &[Hosted], all: &[Ran]) -> Result<(), AllocError>
+    /// Calls of the object at a place ran in this second, in their order: what is held of it follows, and what is due for
+    /// those that are gone. The error is that memory was refused.
+    pub fn ended(
+        &mut self,
+        at: usize,
+        objects: &[Hosted],
+        second: u64,
+        all: &[Ran],
+    ) -> Result<(), AllocError>
         ensures ends { OnOk result ((object : Scene) → slice_get objects.now at ≡ Some object
-            → Becomes (EndsAll object all.now) at self.old self.new) }
+            → Becomes (EndsAll object second all.now) at self.old self.new) }
         ensures held { OnOk result ((object : Scene) → slice_get objects.now at ≡ Some object
             → FollowsIn (slice_get (custodies_of self.old) at) at object all.now (custodies_of self.old) (custodies_of self.new)) }
     {
         match objects.get(at) {
             None => Ok(()),
             Some(object) => {
-                self.ended_of(at, object, all)?;
+                self.ended_of(at, object, second, all)?;
                 Ok(())
             }
         }
     }
 
     // The same, of this object.
-    fn ended_of(&mut self, at: usize, object: &Hosted, all: &[Ran]) -> Result<(), AllocError>
-        ensures ends { OnOk result (Becomes (EndsAll object.now all.now) at self.old self.new) }
+    fn ended_of(
+        &mut self,
+        at: usize,
+        object: &Hosted,
+        second: u64,
+        all: &[Ran],
+    ) -> Result<(), AllocError>
+        ensures ends { OnOk result (Becomes (EndsAll object.now second all.now) at self.old self.new) }
         ensures held { OnOk result (FollowsIn (slice_get (custodies_of self.old) at) at object.now all.now
             (custodies_of self.old) (custodies_of self.new)) }
     {
-        ended_in(&mut self.rows, at, object, all)?;
+        ended_in(&mut self.rows, at, object, second, all)?;
         Ok(())
     }
 

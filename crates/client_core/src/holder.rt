@@ -3,9 +3,14 @@
 ghost use Rattle.std.specs.Prelude.{◌≡◌, ◌≢◌, ◌++◌, ◌∷◌, [], All, MatchOption, OnOk, OnErr, Some, map, slice_get, take, vec_capacity, vec_len, ◌≤◌, true, false, ℕ};
 ghost use Rattle.client_core.specs.declared.holder.Holder.{Holder as AHolder};
 ghost use Rattle.client_core.specs.declared.holder.WhenDue.TheVariants.{Now as IsNow};
-ghost use Rattle.client_core.specs.GoneClients.{due_from, due_then, ended_for, when_ended, without};
+ghost use Rattle.client_core.specs.GoneClients.{due_from, due_then, ended_for, without};
+ghost use Rattle.client_core.specs.GoneClients.{again as again_in, ended_at as ended_at_in, ended_with as ended_with_in, longer as longer_in};
 
+use apply_core::reply::Reply;
 use std::alloc::AllocError;
+
+/// So many seconds behind the first call for a session that was refused the next one is made.
+pub const FIRST_PAUSE: u64 = 1;
 
 /// When a call is due for a session that is gone.
 #[derive(Clone, Copy, Debug)]
@@ -27,6 +32,10 @@ pub struct Holder {
     pub is_named: bool,
     /// When the next call is due for it.
     pub when: WhenDue,
+    /// So many seconds pass until it is made again, where the next one is refused: 1, 2, 4 and so on, up to 60.
+    pub pause: u64,
+    /// In which second it went.
+    pub since: u64,
 }
 
 // Whether a call is due now.
@@ -89,36 +98,70 @@ pub(crate) fn set_due(rows: &mut Vec<Holder>, session: u16, when: WhenDue)
     }
 }
 
-// When the next call is due where one has ended.
-fn due_behind(when: WhenDue) -> WhenDue
-    ensures { result ≡ when_ended when }
+// The pause behind a pause: twice as long, up to a minute.
+fn longer(pause: u64) -> u64
+    ensures { result ≡ longer_in pause }
 {
-    match when {
-        WhenDue::Now => WhenDue::Now,
-        WhenDue::At(second) => WhenDue::At(second),
-        WhenDue::Waits => WhenDue::Now,
+    if pause < 30 {
+        return pause + pause;
+    }
+    60
+}
+
+// A row whose call is due again behind the pause.
+fn again(row: Holder, second: u64) -> Holder
+    ensures { result ≡ again_in second row }
+{
+    Holder {
+        when: WhenDue::At(second.saturating_add(row.pause)),
+        pause: longer(row.pause),
+        ..row
+    }
+}
+
+// A row whose call has ended with this reply.
+fn ended_with(row: Holder, second: u64, reply: &Reply) -> Holder
+    ensures { result ≡ ended_with_in second reply.now row }
+{
+    match reply {
+        Reply::Done(_) => Holder {
+            when: WhenDue::Now,
+            pause: FIRST_PAUSE,
+            ..row
+        },
+        Reply::Refused(_) => again(row, second),
+        Reply::Failed(_) => again(row, second),
+    }
+}
+
+// A row of whose session a call has ended.
+fn ended_at(row: Holder, second: u64, reply: &Reply) -> Holder
+    ensures { result ≡ ended_at_in row.when second reply.now row }
+{
+    match row.when {
+        WhenDue::Now => ended_with(row, second, reply),
+        WhenDue::At(_) => row,
+        WhenDue::Waits => ended_with(row, second, reply),
     }
 }
 
 // A row, where it is of this session with its call ended.
-fn ended_row(row: Holder, session: u16) -> Holder
-    ensures { result ≡ ended_for session row }
+fn ended_row(row: Holder, session: u16, second: u64, reply: &Reply) -> Holder
+    ensures { result ≡ ended_for session second reply.now row }
 {
     if row.session == session {
-        return Holder {
-            when: due_behind(row.when),
-            ..row
-        };
+        return ended_at(row, second, reply);
     }
     row
 }
 
-// A call of a session has ended: where it was made for one that is gone, the next is due.
-pub(crate) fn end_one(rows: &mut Vec<Holder>, session: u16)
-    ensures { rows.new.items ≡ map (ended_for session) rows.old.items }
+// A call of a session has ended in this second with this reply: where it was made for one that is gone, the next is due
+// where it was done, and it is due again where it was not.
+pub(crate) fn end_one(rows: &mut Vec<Holder>, session: u16, second: u64, reply: &Reply)
+    ensures { rows.new.items ≡ map (ended_for session second reply.now) rows.old.items }
 {
     for place in 0..rows.len() {
-        rows[place] = ended_row(rows[place], session);
+        rows[place] = ended_row(rows[place], session, second, reply);
     }
 }
 

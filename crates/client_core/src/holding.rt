@@ -1,6 +1,6 @@
 //! What is held of an object that is kept, and who is gone.
 
-ghost use Rattle.std.specs.Prelude.{◌≡◌, ◌≢◌, ◌↔◌, ◌≤◌, ◌<◌, ◌++◌, ◌∷◌, ℕ, All, true, false, [], IsTrue, IfOk, IfSome, OnOk, OnErr, MatchOption, Some, length, map, slice_get, take, List};
+ghost use Rattle.std.specs.Prelude.{◌≡◌, ◌≢◌, ◌↔◌, ◌≤◌, ◌<◌, ◌++◌, ◌∷◌, ℕ, All, true, false, [], IsTrue, IfOk, IfSome, OnOk, OnErr, MatchOption, Some, None, length, map, slice_get, take, List};
 ghost use Rattle.decl_core.specs.ObjectMap.{object_of};
 ghost use Rattle.word_core.specs.Events.{Happened, ended as ended_by};
 ghost use Rattle.guest_core.specs.declared.guest.Guest.{Guest as AGuest};
@@ -8,8 +8,8 @@ ghost use Rattle.guest_core.specs.Entering.{IsLongestAway};
 ghost use Rattle.guest_core.specs.Guests.{IsUnknown};
 ghost use Rattle.live_core.specs.HostedSteps.{Steps};
 ghost use Rattle.decl_core.specs.HoldForm.{EveryForm};
-ghost use Rattle.decl_core.specs.HoldMap.{rules_of};
-ghost use Rattle.guest_core.specs.Held.{AreHeld, MayUndo};
+ghost use Rattle.decl_core.specs.HoldMap.{holds_of, rules_of};
+ghost use Rattle.guest_core.specs.Held.{AreHeld, MayUndo, hold_ended as hold_ended_in, hold_of_op as hold_of_op_in};
 ghost use Rattle.guest_core.specs.Undo.{IsUndoOf};
 ghost use Rattle.value_core.specs.declared.datum.Datum.{Datum as ADatum};
 ghost use Rattle.client_core.specs.declared.holder.Holder.{Holder as AHolder};
@@ -22,13 +22,17 @@ ghost use Rattle.client_core.specs.Start.{Begins, IsKept};
 ghost use Rattle.client_core.specs.Ticks.{ChangesAt, IsFirstDue, seated_by, ticked as ticked_in, unticked as unticked_in};
 
 use crate::away::{is_busy_by, is_crowded_by, look_at_all};
-use crate::holder::{Holder, WhenDue, due_for, end_one, first_now, put_in, set_due, take_out};
+use crate::holder::{
+    FIRST_PAUSE, Holder, WhenDue, due_for, end_one, first_now, put_in, set_due, take_out,
+};
+use crate::since::{HeldSince, all_since, note_end};
 use crate::start::{go_all, seat_all, seat_of};
 use crate::ticking::{Ticking, first_due, first_ticks, seat_at, tick_at, tick_in, untick_at};
 use apply_core::reply::Reply;
-use decl_core::hold::Rules;
+use decl_core::hold::{Hold, Rules};
 use decl_core::object::Object;
-use guest_core::held::{EndedCall, HeldCall, Holds, undo_of};
+use guest_core::held::{EndedCall, HeldCall, Holds, hold_ended, hold_of_op, undo_of};
+use guest_core::hold_ends::HoldEnds;
 use live_core::call::LiveCall;
 use live_core::hosted::Hosted;
 use path_tree::name::Name;
@@ -52,6 +56,8 @@ pub struct Holding {
     alloc: Global,
     rules: Rules,
     holds: Holds,
+    // since when each of these calls is held, in their order
+    since: Vec<HeldSince>,
     // how many seconds a client with a name may be away before what it holds is given back
     away: u64,
     gone: Vec<Holder>,
@@ -62,12 +68,13 @@ impl Model for Holding {
     ghost use Rattle.client_core.specs.Holding.{Holding as AHolding};
     ghost use Rattle.client_core.specs.GoneViews.{holding_of, CallsEach};
     ghost use Rattle.client_core.specs.contracts.holder.Holder as g;
+    ghost use Rattle.client_core.specs.contracts.since.HeldSince as s;
     ghost use Rattle.client_core.specs.contracts.ticking.Ticking as t;
     ghost use Rattle.std.specs.Coded.{codes};
 
     ghost Value = { AHolding };
 
-    ghost coded = { Prim.hlevel (codes, g.the_row.coded, t.the_row.coded) };
+    ghost coded = { Prim.hlevel (codes, g.the_row.coded, s.the_row.coded, t.the_row.coded) };
 
     ghost view = { holding_of };
 
@@ -97,6 +104,14 @@ fn owed_for(
     }
 }
 
+// Whether the end of a call of an operation may change what is held by these holds.
+fn may_change(holds: &[Hold], operation: OpId) -> bool
+    ensures begins { result ≡ false → hold_of_op_in (holds_of holds.now) operation ≡ None }
+    ensures ends { result ≡ false → hold_ended_in (holds_of holds.now) operation ≡ None }
+{
+    hold_of_op(holds, operation).is_some() || hold_ended(holds, operation).is_some()
+}
+
 impl Holding {
     /// Of an object with these rules, of which this is held. A client with a name may be away for so many seconds before
     /// what it holds is given back. The error is that memory was refused.
@@ -108,14 +123,15 @@ impl Holding {
             alloc,
             rules,
             holds,
+            since: Vec::new(alloc),
             away,
             gone: Vec::new(alloc),
             ticking,
         })
     }
 
-    /// The server begins, in this second: all who hold something are gone, one without a name at once, and keeps its
-    /// number, which is free for nobody. The error is that memory was refused.
+    /// The server begins, in this second: what is held is known since now, and all who hold something are gone, one without a
+    /// name at once, and keeps its number, which is free for nobody. The error is that memory was refused.
     pub fn begin(&mut self, hosted: &mut Hosted, second: u64) -> Result<(), AllocError>
         ensures begins { OnOk result (Begins hosted.new.guests second self.old self.new) }
         ensures kept { OnOk result (All (IsKept hosted.new.guests) self.old.held) }
@@ -123,7 +139,9 @@ impl Holding {
     {
         seat_all(self.alloc, hosted, self.holds.all(), second)?;
         let gone = go_all(self.alloc, hosted, self.holds.all(), second, self.away)?;
+        let since = all_since(self.alloc, self.holds.all(), second)?;
         self.gone = gone;
+        self.since = since;
         Ok(())
     }
 
@@ -132,6 +150,27 @@ impl Holding {
         ensures { result.now ≡ self.now.held }
     {
         &self.holds
+    }
+
+    /// Since when each of these calls is held, in their order.
+    pub fn since(&self) -> &[HeldSince]
+        ensures { result.now ≡ self.now.since }
+    {
+        &self.since
+    }
+
+    /// Who is gone, in the order in which they went.
+    pub fn gone(&self) -> &[Holder]
+        ensures { result.now ≡ self.now.gone }
+    {
+        &self.gone
+    }
+
+    /// How many seconds a client with a name may be away before what it holds is given back.
+    pub fn away(&self) -> u64
+        ensures { result ≡ self.now.away }
+    {
+        self.away
     }
 
     /// What the object says of gone clients and of time.
@@ -148,17 +187,25 @@ impl Holding {
         self.holds.may_undo(&self.rules.holds, u32::from(session), operation, arguments)
     }
 
-    /// A call of which this number was told has ended with this reply. The error is that memory was refused, and nothing
-    /// changes.
-    pub fn ended(&mut self, told: u64, call: &LiveCall, reply: &Reply) -> Result<(), AllocError>
-        ensures ends { OnOk result (Ends self.old (told_as told call.now) reply.now self.new) }
+    /// A call of which this number was told has ended with this reply, in this second: where it was done, what it ends is
+    /// held no more. The error is that memory was refused, and nothing changes.
+    pub fn ended(
+        &mut self,
+        told: u64,
+        call: &LiveCall,
+        reply: &Reply,
+        second: u64,
+    ) -> Result<(), AllocError>
+        ensures ends { OnOk result (Ends self.old second (told_as told call.now) reply.now self.new) }
         // What is held is what its calls have left that ended, in their order.
         ensures follows { OnOk result ((past : List Happened) → AreHeld self.old.rules.holds past self.old.held →
             AreHeld self.old.rules.holds (ended_by (told_as told call.now) reply.now ∷ past) self.new.held) }
         ensures err { OnErr result (self.new ≡ self.old) }
     {
+        self.since.reserve(1)?;
         self.holds.end(
             self.alloc,
+            HoldEnds::ByDone,
             &self.rules.holds,
             EndedCall {
                 number: told,
@@ -168,7 +215,9 @@ impl Holding {
             },
             reply,
         )?;
-        end_one(&mut self.gone, seat_of(call.session()));
+        let touches = may_change(&self.rules.holds, call.operation());
+        note_end(&mut self.since, self.holds.all(), touches, told, second);
+        end_one(&mut self.gone, seat_of(call.session()), second, reply);
         Ok(())
     }
 
@@ -202,6 +251,8 @@ impl Holding {
                 session,
                 is_named,
                 when,
+                pause: FIRST_PAUSE,
+                since: second,
             },
         )?;
         Ok(!is_named)

@@ -26,5 +26,6 @@ pub mod holder;
 pub mod holding;
 pub mod laws;
 pub mod one;
+pub mod since;
 mod start;
 pub mod ticking;

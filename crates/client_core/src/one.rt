@@ -54,33 +54,39 @@ pub(crate) fn look_one(holding: &mut Holding, object: &Hosted, second: u64)
     holding.look(object, second);
 }
 
-// A call of the object ran. The error is that memory was refused.
-fn one_ended(holding: &mut Holding, object: &Hosted, ran: &Ran) -> Result<(), AllocError>
-    ensures ends { OnOk result (Ends holding.old (as_told object.now ran.now.call) ran.now.reply holding.new) }
+// A call of the object ran, in this second. The error is that memory was refused.
+fn one_ended(
+    holding: &mut Holding,
+    object: &Hosted,
+    second: u64,
+    ran: &Ran,
+) -> Result<(), AllocError>
+    ensures ends { OnOk result (Ends holding.old second (as_told object.now ran.now.call) ran.now.reply holding.new) }
     ensures rules { OnOk result (holding.new.rules ≡ holding.old.rules) }
     ensures held { OnOk result (HeldBehind holding.old.rules.holds (as_told object.now ran.now.call) ran.now.reply
         holding.old.held holding.new.held) }
 {
     let told = object.told(ran.call.number());
-    holding.ended(told, &ran.call, &ran.reply)?;
+    holding.ended(told, &ran.call, &ran.reply, second)?;
     Ok(())
 }
 
-// Calls of the object ran, in their order. The error is that memory was refused.
+// Calls of the object ran in this second, in their order. The error is that memory was refused.
 pub(crate) fn all_ended(
     holding: &mut Holding,
     object: &Hosted,
+    second: u64,
     all: &[Ran],
 ) -> Result<(), AllocError>
-    ensures ends { OnOk result (EndsAll object.now all.now holding.old holding.new) }
+    ensures ends { OnOk result (EndsAll object.now second all.now holding.old holding.new) }
     ensures rules { OnOk result (holding.new.rules ≡ holding.old.rules) }
     ensures held { OnOk result (HeldBehindAll holding.old.rules.holds object.now all.now holding.old.held holding.new.held) }
 {
     match all {
         [] => Ok(()),
         [ran, rest @ ..] => {
-            one_ended(holding, object, ran)?;
-            all_ended(holding, object, rest)?;
+            one_ended(holding, object, second, ran)?;
+            all_ended(holding, object, second, rest)?;
             Ok(())
         }
     }

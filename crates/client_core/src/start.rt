@@ -11,7 +11,7 @@ ghost use Rattle.live_core.specs.HostedSteps.{Steps};
 ghost use Rattle.client_core.specs.declared.holder.Holder.{Holder as AHolder};
 ghost use Rattle.client_core.specs.Start.{HoldsNoneOf, IsAmong, IsBelow, IsGoneBy, IsKept, KeepsTaken, NoneFreeBelow};
 
-use crate::holder::{Holder, due_for};
+use crate::holder::{FIRST_PAUSE, Holder, due_for};
 use guest_core::held::HeldCall;
 use live_core::hosted::Hosted;
 use std::alloc::{AllocError, Global};
@@ -201,6 +201,8 @@ fn go_one(
         session,
         is_named,
         when,
+        pause: FIRST_PAUSE,
+        since: second,
     })?;
     Ok(())
 }

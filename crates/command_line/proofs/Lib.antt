@@ -13,3 +13,4 @@ mod Making
 mod Once
 mod Shown
 mod Asking
+mod Naming

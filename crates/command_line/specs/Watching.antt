@@ -1,5 +1,5 @@
--- What a kept server is to tell of itself, and how long who is gone keeps what it holds.
-use Rattle.std.specs.Prelude.{◌≡◌, ◌≢◌, ℕ, List, [], ◌∷◌, ◌++◌, Some, codes, map, slice_get}
+-- What a kept server is to tell of itself, how long who is gone keeps what it holds, and what a start believes.
+use Rattle.std.specs.Prelude.{◌≡◌, ◌≢◌, ℕ, List, [], ◌∷◌, ◌++◌, Some, codes, get_or, map, slice_get, ⊤}
 use Rattle.std.specs.Borrow.{Bor}
 use Rattle.command_line.specs.Forms.{Text, IsNumber, number_of}
 use Rattle.command_line.specs.declared.watching.Apart.{Apart}
@@ -13,16 +13,20 @@ use Rattle.command_line.specs.declared.watching.Watching.{Watching}
 use Rattle.command_line.specs.declared.watching.Which.{Which}
 use Rattle.command_line.specs.declared.watching.Which.TheVariants as options
 
--- the three options, alone and in front of a value
+-- the five options, alone and in front of a value
 abbrev pub flag_of : Which → Text
 flag_of options.Status = codes "--status"
 flag_of options.Log = codes "--log"
 flag_of options.Away = codes "--away"
+flag_of options.Cut = codes "--accept-cut"
+flag_of options.Known = codes "--known"
 
 abbrev pub head_of : Which → Text
 head_of options.Status = codes "--status="
 head_of options.Log = codes "--log="
 head_of options.Away = codes "--away="
+head_of options.Cut = codes "--accept-cut="
+head_of options.Known = codes "--known="
 
 -- a word is not this option
 abbrev pub IsNot : Which → Text → Type 0
@@ -34,37 +38,55 @@ IsPartAs which w (parts.Flag found) = (found ≡ which) × (w ≡ flag_of which)
 IsPartAs which w (parts.Given found value) = (found ≡ which) × (w ≡ head_of which ++ value.now)
 IsPartAs which w parts.Other = IsNot which w
 
--- it is this option of the three, or none
+-- it is this option of the five, or none
 abbrev pub IsPart : Text → OptionPart → Type 0
 IsPart w (parts.Flag which) = w ≡ flag_of which
 IsPart w (parts.Given which value) = w ≡ head_of which ++ value.now
-IsPart w parts.Other = IsNot options.Status w × IsNot options.Log w × IsNot options.Away w
+IsPart w parts.Other = IsNot options.Status w × IsNot options.Log w × IsNot options.Away w × IsNot options.Cut w × IsNot options.Known w
 
 -- Words that are sorted: the values of each option, in order, and the other words.
 pub record Sorted : Type 0 where
   pub status : List Text
   pub log : List Text
   pub away : List Text
+  pub cut : List Text
+  pub known : List Text
   pub words : List Text
 
 abbrev pub only : List Text → Sorted
-only words = record { status = []; log = []; away = []; words = words }
+only words = record { status = []; log = []; away = []; cut = []; known = []; words = words }
 
 -- one value more in front
 abbrev pub with_value : Which → Text → Sorted → Sorted
 with_value options.Status value s = record s { status = value ∷ s.status }
 with_value options.Log value s = record s { log = value ∷ s.log }
 with_value options.Away value s = record s { away = value ∷ s.away }
+with_value options.Cut value s = record s { cut = value ∷ s.cut }
+with_value options.Known value s = record s { known = value ∷ s.known }
 
--- These words, sorted: the value of an option stands behind its `=` or is the next word, whatever that is, and is empty
--- where there is none; behind `--` stand no options.
+-- a word that begins with a hyphen (45)
+abbrev pub IsHyphen : Text → Type 0
+IsHyphen w = get_or w 0 0 ≡ 45
+
+-- a word behind an option is its value; `--known` may stand without one
+abbrev pub IsValueOf : Which → Text → Type 0
+IsValueOf options.Status w = ⊤
+IsValueOf options.Log w = ⊤
+IsValueOf options.Away w = ⊤
+IsValueOf options.Cut w = ⊤
+IsValueOf options.Known w = IsHyphen w → ⊥
+
+-- These words, sorted: the value of an option stands behind its `=` or is the next word, whatever that is but for `--known`,
+-- and is empty where there is none; behind `--` stand no options.
 pub data IsApart : List Text → Sorted → Type 0 where
   none : IsApart [] (only [])
   over : {rest : List Text} → IsApart (codes "--" ∷ rest) (only (codes "--" ∷ rest))
-  next : (which : Which) (value : Text) {rest : List Text} {s : Sorted} → IsApart rest s → IsApart (flag_of which ∷ value ∷ rest) (with_value which value s)
+  next : (which : Which) (value : Text) {rest : List Text} {s : Sorted} → IsValueOf which value → IsApart rest s → IsApart (flag_of which ∷ value ∷ rest) (with_value which value s)
+  alone : {w : Text} {rest : List Text} {s : Sorted} → IsHyphen w → IsApart (w ∷ rest) s → IsApart (flag_of options.Known ∷ w ∷ rest) (with_value options.Known [] s)
   last : (which : Which) → IsApart (flag_of which ∷ []) (with_value which [] (only []))
   joined : (which : Which) (value : Text) {rest : List Text} {s : Sorted} → IsApart rest s → IsApart ((head_of which ++ value) ∷ rest) (with_value which value s)
-  other : {w : Text} {rest : List Text} {s : Sorted} → w ≢ codes "--" → IsNot options.Status w → IsNot options.Log w → IsNot options.Away w → IsApart rest s →
+  other : {w : Text} {rest : List Text} {s : Sorted} → w ≢ codes "--" → IsNot options.Status w → IsNot options.Log w → IsNot options.Away w → IsNot options.Cut w → IsNot options.Known w →
+      IsApart rest s →
       IsApart (w ∷ rest) (record s { words = w ∷ s.words })
 
 -- these words ask for `keep`
@@ -80,11 +102,25 @@ abbrev pub texts : List (Bor Text) → List Text
 texts words = map (λ w. w.now) words
 
 abbrev pub sorted_of : Apart → Sorted
-sorted_of apart = record { status = texts apart.status.items; log = texts apart.log.items; away = texts apart.away.items; words = texts apart.words.items }
+sorted_of apart = record {
+  status = texts apart.status.items;
+  log = texts apart.log.items;
+  away = texts apart.away.items;
+  cut = texts apart.cut.items;
+  known = texts apart.known.items;
+  words = texts apart.words.items;
+}
 
 -- what was found, and behind it what is sorted
 abbrev pub ahead : Apart → Sorted → Sorted
-ahead found s = record { status = texts found.status.items ++ s.status; log = texts found.log.items ++ s.log; away = texts found.away.items ++ s.away; words = texts found.words.items ++ s.words }
+ahead found s = record {
+  status = texts found.status.items ++ s.status;
+  log = texts found.log.items ++ s.log;
+  away = texts found.away.items ++ s.away;
+  cut = texts found.cut.items ++ s.cut;
+  known = texts found.known.items ++ s.known;
+  words = texts found.words.items ++ s.words;
+}
 
 -- a value of this option was found
 abbrev pub Given : Which → Text → Apart → Apart → Type 0

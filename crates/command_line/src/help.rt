@@ -399,6 +399,9 @@ pub const STATUS_IS: &str = "S is a number of seconds, 1 to 86400, given once";
 /// What is said of a word that should say how long a client may be away.
 pub const AWAY_IS: &str = "S is a number of seconds, 0 to 86400, given once";
 
+/// What is said of a word that should say up to which line a journal is taken.
+pub const CUT_IS: &str = "it is NAME:N, with the number N of a line, 1 to 4294967295";
+
 /// What is said of a word that should say how a log is written.
 pub const LOG_IS: &str = "WORD is `text`, `json` or `none`, given once";
 
@@ -410,13 +413,15 @@ pub const KEEP_MORE: &str =
     "      --status <S>                 DIR/status.prom is written each S seconds, 1 to 86400
       --log <WORD>                 A log on standard error: `text`, `json`, else `none`
       --away <S>                   Away, a named client holds for S seconds, 0 to 86400; 30
+      --known [NAME,..]            Objects without a journal are refused: all, or these
+      --accept-cut <NAME:N>        Of NAME.journal no line behind line N counts
 
 Takes up the objects as the journals in DIR have them, writes
 `listening PLACE`, and serves all clients in one loop, until it is stopped. What
 happens to an object is written down in DIR/NAME.journal. So the object lives
 on: the next start finds it as it was, after a crash too. Where an object is
-refused, or its journal is damaged, a line says so, and nothing is served. One
-server at a time has DIR.
+refused, or its journal is damaged, a line says so, nothing is served, and
+nothing in DIR is changed. One server at a time has DIR.
 
 With --sync always an answer is written when its lines are on the disk: what a
 client has read is never lost. With --sync MS an answer is written at once, and
@@ -426,10 +431,20 @@ that time may be lost in a crash. That is faster.
 A journal is one epoch, of at most 60000 calls. Those that have ended stay, as
 DIR/NAME.000001.trace and so on: MB megabytes in all, the oldest go first.
 
-Where an object has no journal yet, its values are those of the parts in DIR, as
+An object begins where it has neither a journal nor ended epochs; with --known
+none does: its disk may be lacking. Its values are those of the parts in DIR, as
 `serve` saves them. What its paths have counted they do not tell: of an object
 with a `;` say it, by `--past buffer:put:3` for three calls of `put` before all
-others. With several the calls are done one behind the other.
+others. With several the calls are done one behind the other. Of an object with
+a journal it says nothing.
+
+Where a journal has something behind its first byte 0 that a crash does not
+leave, it is refused, `NAME.journal line N: K bytes behind it are not 0`. With
+--accept-cut NAME:N the object goes on as line N leaves it; the file is kept, as
+DIR/NAME.000003.trace.cut by the number of its epoch.
+
+An end in order begins a new epoch, so that FILE may be another one at the next
+start; DIR/NAME.source has the object as its journal knows it.
 
 Of an object with `hold a until b;` a client that is gone gives back what it
 held: at once, and one with a name when it was away for S seconds.
@@ -450,5 +465,4 @@ Example: kill it, and start it again: the cell holds what it held.
   listening 7000
 
 Exit status: 0 all was served and closed, 1 something was refused or is damaged,
-2 a wrong command line, also --past of an object that has a journal, 3 a read or
-write fault, 4 out of memory.";
+2 a wrong command line, 3 a read or write fault, 4 out of memory.";

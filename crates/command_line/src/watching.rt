@@ -1,17 +1,17 @@
-//! What a kept server is to tell of itself, and how long who is gone keeps what it holds: the options `--status S`,
-//! `--log WORD` and `--away S` of `keep`.
+//! What a kept server is to tell of itself, how long who is gone keeps what it holds, and what a start believes: the
+//! options `--status S`, `--log WORD`, `--away S`, `--accept-cut NAME:N` and `--known` of `keep`.
 //!
 //! They are taken out of the words of a command line, and the parser has the others (`request`): so it is as if they were
 //! not there.
 
-ghost use Rattle.std.specs.Prelude.{◌≡◌, ◌≢◌, ◌↔◌, ◌++◌, ℕ, codes, IfErr, IfOk, IfSome, None, IsTrue};
+ghost use Rattle.std.specs.Prelude.{◌≡◌, ◌≢◌, ◌↔◌, ◌++◌, ℕ, codes, IfErr, IfOk, IfSome, None, IsTrue, true, false};
 ghost use Rattle.command_line.specs.Forms.{IsNumber, Text, number_of};
-ghost use Rattle.command_line.specs.Watching.{texts, flag_of, head_of, IsPart, IsPartAs, IsApart, IsTakenApart};
+ghost use Rattle.command_line.specs.Watching.{texts, flag_of, head_of, IsHyphen, IsPart, IsPartAs, IsApart, IsTakenApart, IsValueOf};
 ghost use Rattle.command_line.specs.Watching.{AsksKeep, sorted_of};
 ghost use Rattle.command_line.specs.Watching.{Ends, Given, Goes, IsFormOf, IsNot, IsWatched, SaysAway, SaysLog, SaysStatus};
 ghost use Rattle.command_line.specs.declared.watching.LogForm.{LogForm as ALogForm};
-ghost use Rattle.command_line.specs.declared.watching.OptionStage.TheVariants.{Plain};
-ghost use Rattle.command_line.specs.declared.watching.Which.TheVariants.{Away, Status, Log};
+ghost use Rattle.command_line.specs.declared.watching.OptionStage.TheVariants.{Plain, Waits};
+ghost use Rattle.command_line.specs.declared.watching.Which.TheVariants.{Away, Cut, Known, Status, Log};
 ghost use Rattle.command_line.specs.declared.watching.Watching.{Watching as AWatching};
 
 use crate::help;
@@ -48,13 +48,15 @@ pub struct OddOption<'a> {
     pub means: &'a str,
 }
 
-/// The words of a command line, taken apart: the values of `--status`, of `--log` and of `--away`, in order, and the other
-/// words.
+/// The words of a command line, taken apart: the values of `--status`, of `--log`, of `--away`, of `--accept-cut` and of
+/// `--known`, in order, and the other words.
 #[derive(Drop)]
 pub struct Apart<'a> {
     status: Vec<&'a str>,
     log: Vec<&'a str>,
     away: Vec<&'a str>,
+    cut: Vec<&'a str>,
+    known: Vec<&'a str>,
     words: Vec<&'a str>,
 }
 
@@ -63,15 +65,17 @@ const MOST_SECONDS: u32 = 86_400;
 // How long a client with a name may be away where that is not said.
 const USUAL_AWAY: u32 = 30;
 
-// One of the three options.
+// One of the five options.
 #[derive(Clone, Copy)]
 enum Which {
     Status,
     Log,
     Away,
+    Cut,
+    Known,
 }
 
-// What a word is: one of the three options, the same with a value behind its `=`, or another word.
+// What a word is: one of the five options, the same with a value behind its `=`, or another word.
 #[derive(Clone, Copy)]
 enum OptionPart<'a> {
     Flag(Which),
@@ -133,6 +137,8 @@ fn flag(which: Which) -> &'static str
         Which::Status => "--status",
         Which::Log => "--log",
         Which::Away => "--away",
+        Which::Cut => "--accept-cut",
+        Which::Known => "--known",
     }
 }
 
@@ -143,6 +149,8 @@ fn head(which: Which) -> &'static str
         Which::Status => "--status=",
         Which::Log => "--log=",
         Which::Away => "--away=",
+        Which::Cut => "--accept-cut=",
+        Which::Known => "--known=",
     }
 }
 
@@ -177,7 +185,15 @@ fn part_in<'a>(word: &'a str) -> OptionPart<'a>
         OptionPart::Other => match part_as(word, Which::Log) {
             OptionPart::Flag(which) => OptionPart::Flag(which),
             OptionPart::Given(which, value) => OptionPart::Given(which, value),
-            OptionPart::Other => part_as(word, Which::Away),
+            OptionPart::Other => match part_as(word, Which::Away) {
+                OptionPart::Flag(which) => OptionPart::Flag(which),
+                OptionPart::Given(which, value) => OptionPart::Given(which, value),
+                OptionPart::Other => match part_as(word, Which::Cut) {
+                    OptionPart::Flag(which) => OptionPart::Flag(which),
+                    OptionPart::Given(which, value) => OptionPart::Given(which, value),
+                    OptionPart::Other => part_as(word, Which::Known),
+                },
+            },
         },
     }
 }
@@ -199,6 +215,14 @@ fn give<'a>(found: &mut Apart<'a>, which: Which, value: &'a str) -> Result<(), A
             found.away.push(value)?;
             Ok(())
         }
+        Which::Cut => {
+            found.cut.push(value)?;
+            Ok(())
+        }
+        Which::Known => {
+            found.known.push(value)?;
+            Ok(())
+        }
     }
 }
 
@@ -213,6 +237,8 @@ fn pass<'a>(found: &mut Apart<'a>, word: &'a str) -> Result<OptionStage, AllocEr
     requires status { IsNot Status word.now }
     requires log { IsNot Log word.now }
     requires away { IsNot Away word.now }
+    requires cut { IsNot Cut word.now }
+    requires known { IsNot Known word.now }
     ensures { IfOk result (λ next. Goes Plain word.now found.old found.new next) }
 {
     found.words.push(word)?;
@@ -240,6 +266,47 @@ fn take_plain<'a>(found: &mut Apart<'a>, word: &'a str) -> Result<OptionStage, A
     }
 }
 
+// Whether a word begins as an option does.
+fn has_hyphen(word: &str) -> bool
+    ensures { IsTrue result ↔ IsHyphen word.now }
+{
+    match word.as_bytes() {
+        [first, ..] => *first == b'-',
+        [] => false,
+    }
+}
+
+// Whether an option has no value where this word stands behind it.
+fn stands_alone(which: Which, word: &str) -> bool
+    ensures yes { result ≡ true → (which ≡ Known) × IsHyphen word.now }
+    ensures no { result ≡ false → IsValueOf which word.now }
+{
+    match which {
+        Which::Known => has_hyphen(word),
+        Which::Status => false,
+        Which::Log => false,
+        Which::Away => false,
+        Which::Cut => false,
+    }
+}
+
+// The word behind an option: its value, unless that has none.
+fn take_value<'a>(
+    found: &mut Apart<'a>,
+    which: Which,
+    word: &'a str,
+) -> Result<OptionStage, AllocError>
+    ensures { IfOk result (λ next. Goes (Waits which) word.now found.old found.new next) }
+{
+    if stands_alone(which, word) {
+        give(found, which, "")?;
+        let next = take_plain(found, word)?;
+        return Ok(next);
+    }
+    give(found, which, word)?;
+    Ok(OptionStage::Plain)
+}
+
 // The next word.
 fn take<'a>(
     found: &mut Apart<'a>,
@@ -254,8 +321,8 @@ fn take<'a>(
             Ok(next)
         }
         OptionStage::Waits(which) => {
-            give(found, which, word)?;
-            Ok(OptionStage::Plain)
+            let next = take_value(found, which, word)?;
+            Ok(next)
         }
         OptionStage::Over => {
             found.words.push(word)?;
@@ -348,7 +415,21 @@ fn away_in<'a>(values: &[&'a str]) -> Result<u32, OddOption<'a>>
 }
 
 impl<'a> Apart<'a> {
-    /// The words without the three options.
+    /// The values of `--accept-cut`, in order.
+    pub fn cuts(&self) -> &[&'a str]
+        ensures { texts result.now ≡ (sorted_of self.now).cut }
+    {
+        &self.cut
+    }
+
+    /// The values of `--known`, in order; one is empty where it has none.
+    pub fn known(&self) -> &[&'a str]
+        ensures { texts result.now ≡ (sorted_of self.now).known }
+    {
+        &self.known
+    }
+
+    /// The words without the five options.
     pub fn words(&self) -> &[&'a str]
         ensures { texts result.now ≡ (sorted_of self.now).words }
     {
@@ -391,6 +472,8 @@ fn gathered<'a>(alloc: Global, words: &'a [&'a str]) -> Result<Apart<'a>, AllocE
         status: Vec::new(alloc),
         log: Vec::new(alloc),
         away: Vec::new(alloc),
+        cut: Vec::new(alloc),
+        known: Vec::new(alloc),
         words: Vec::new(alloc),
     };
     let mut stage = OptionStage::Plain;
@@ -403,8 +486,9 @@ fn gathered<'a>(alloc: Global, words: &'a [&'a str]) -> Result<Apart<'a>, AllocE
     Ok(found)
 }
 
-/// Takes the words of a command line apart: those of `keep` have the three options no more, each with the word behind it or
-/// behind its `=`; behind `--` stand no options. The error is that memory was refused.
+/// Takes the words of a command line apart: those of `keep` have the five options no more, each with the word behind it or
+/// behind its `=`; a word that begins with a hyphen is no value of `--known`; behind `--` stand no options. The error is
+/// that memory was refused.
 pub fn taken_apart<'a>(alloc: Global, words: &'a [&'a str]) -> Result<Apart<'a>, AllocError>
     ensures { IfOk result (λ apart. IsTakenApart (texts words.now) (sorted_of apart)) }
 {
@@ -417,6 +501,8 @@ pub fn taken_apart<'a>(alloc: Global, words: &'a [&'a str]) -> Result<Apart<'a>,
         status: Vec::new(alloc),
         log: Vec::new(alloc),
         away: Vec::new(alloc),
+        cut: Vec::new(alloc),
+        known: Vec::new(alloc),
         words: others,
     })
 }

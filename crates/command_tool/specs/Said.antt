@@ -1,6 +1,8 @@
 -- What is said of the objects of a folder.
-use Rattle.std.specs.Prelude.{◌≡◌, ◌⊎◌, ℕ, Bool, true, false, ◌&&◌, List, [], ◌∷◌, ◌++◌, codes}
+use Rattle.std.specs.Prelude.{◌≡◌, ◌⊎◌, ℕ, Bool, true, false, ◌&&◌, List, [], ◌∷◌, ◌++◌, codes, decimal}
 use Rattle.decl_core.specs.ObjectForm.{ObjectForm}
+use Rattle.taken_core.specs.declared.taken.TakeFault.{TakeFault}
+use Rattle.taken_core.specs.declared.taken.TakeFault.TheVariants.{Line, Format, Behind}
 use Rattle.recover_core.specs.Epochs.{AreEpochs}
 use Rattle.recover_core.specs.Said.{epoch_words, whole_words}
 use Rattle.recover_core.specs.declared.epochs.EpochFault.{EpochFault}
@@ -11,10 +13,21 @@ abbrev pub TellsWhole : ObjectForm → List ℕ → Type 0
 TellsWhole o words =
     (texts : List (List ℕ)) × (e : Epochs) × AreEpochs o texts e × (words ≡ whole_words e.count e.entries)
 
--- behind that of another one: it has no journal, or why one of its epochs is refused
+-- why a file is not taken: for this line, for its format, or since bytes behind this line say that more was stored
+abbrev pub why_words : TakeFault → List ℕ
+why_words (Line line) = codes " line " ++ (decimal line ++ codes " bad\n")
+why_words (Format number) = codes " has format " ++ (decimal number ++ codes "\n")
+why_words (Behind line count) =
+    codes " line " ++ (decimal line ++ (codes ": " ++ (decimal count ++ codes " bytes behind it are not 0\n")))
+
+abbrev pub untaken_words : List ℕ → TakeFault → List ℕ
+untaken_words file fault = codes " " ++ (file ++ why_words fault)
+
+-- behind that of another one: it has no journal, or why a file of it is not taken, or one of its epochs is refused
 abbrev pub TellsFault : List ℕ → Type 0
 TellsFault words =
-    (words ≡ codes " no journal\n") ⊎ ((file : List ℕ) × (fault : EpochFault) × (words ≡ epoch_words file fault))
+    (words ≡ codes " no journal\n") ⊎ (((file : List ℕ) × (fault : EpochFault) × (words ≡ epoch_words file fault))
+    ⊎ ((file : List ℕ) × (fault : TakeFault) × (words ≡ untaken_words file fault)))
 
 -- behind the name of an object, and whether its epochs are whole
 abbrev pub Tells : ObjectForm → Bool → List ℕ → Type 0

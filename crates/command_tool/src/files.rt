@@ -1,7 +1,9 @@
 //! The files of an object in a folder.
 
+use cause_core::cause::{Cause, cause_of};
+use cause_core::fault::why_no_file;
 use std::alloc::{AllocError, Global};
-use std::fs::File;
+use std::fs::{self, File};
 use std::io::{self, ErrorKind, Read};
 use std::rt::Files;
 
@@ -9,7 +11,7 @@ use std::rt::Files;
 #[derive(Debug, Drop)]
 pub enum FolderFault {
     /// The file at this path cannot be read, for this reason.
-    Unread(String, ErrorKind),
+    Unread(String, Cause),
     /// Memory was refused.
     Memory,
 }
@@ -35,20 +37,30 @@ fn path_of(alloc: Global, folder: &str, name: &str) -> Result<String, AllocError
     format!(in alloc; "{folder}/{name}")
 }
 
-// The bytes of the file at a path, or `None` where it is not there.
-fn read_at<R: Files + AllocGlobal>(rt: &R, path: &str) -> io::Result<Option<Vec<u8>>> {
-    let mut file = match File::open(rt, path) {
-        Ok(file) => file,
-        Err(error) => {
-            if error.kind() == ErrorKind::NotFound {
-                return Ok(None);
-            }
-            return Err(error);
-        }
-    };
+// The bytes of a file.
+fn read_file<R: Files + AllocGlobal>(rt: &R, path: &str) -> io::Result<Vec<u8>> {
+    let mut file = File::open(rt, path)?;
     let mut bytes = Vec::new(rt.alloc());
     file.read_to_end(&mut bytes)?;
-    Ok(Some(bytes))
+    Ok(bytes)
+}
+
+// The bytes of the file at a path, or `None` where it is not there. What is no file is not opened.
+fn read_at<R: Files + AllocGlobal>(rt: &R, path: &str) -> Result<Option<Vec<u8>>, Cause> {
+    let found = match fs::metadata(rt, path) {
+        Ok(found) => found,
+        Err(error) => return match cause_of(&error) {
+            Cause::NotThere => Ok(None),
+            cause => Err(cause),
+        },
+    };
+    if let Some(cause) = why_no_file(&found) {
+        return Err(cause);
+    }
+    match read_file(rt, path) {
+        Ok(bytes) => Ok(Some(bytes)),
+        Err(error) => Err(cause_of(&error)),
+    }
 }
 
 // The bytes of a file of a folder, or `None` where it is not there.
@@ -60,21 +72,15 @@ pub(crate) fn bytes_of<R: Files + AllocGlobal>(
     let path = path_of(rt.alloc(), folder, name)?;
     match read_at(rt, path.as_str()) {
         Ok(found) => Ok(found),
-        Err(error) => Err(unread(path, error.kind())),
+        Err(Cause::NoMemory) => Err(FolderFault::Memory),
+        Err(cause) => Err(FolderFault::Unread(path, cause)),
     }
-}
-
-fn unread(path: String, cause: ErrorKind) -> FolderFault {
-    if cause == ErrorKind::OutOfMemory {
-        return FolderFault::Memory;
-    }
-    FolderFault::Unread(path, cause)
 }
 
 // Whether there is a file of this name in a folder.
 fn is_there<R: Files + AllocGlobal>(rt: &R, folder: &str, name: &str) -> Result<bool, AllocError> {
     let path = path_of(rt.alloc(), folder, name)?;
-    match File::open(rt, path.as_str()) {
+    match fs::metadata(rt, path.as_str()) {
         Ok(_) => Ok(true),
         Err(error) => Ok(error.kind() != ErrorKind::NotFound),
     }

@@ -1,10 +1,11 @@
 //! The epochs of objects, from the files of a folder.
 
-ghost use Rattle.std.specs.Prelude.{◌++◌, IfOk};
+ghost use Rattle.std.specs.Prelude.{◌≡◌, ◌++◌, List, ℕ, IfOk, MatchOption};
 ghost use Rattle.decl_core.specs.ObjectMap.{object_of, objects_of};
-ghost use Rattle.command_tool.specs.Said.{Adds, AddsAll, GoesOn, Hears, AreTold};
+ghost use Rattle.command_tool.specs.Said.{Adds, AddsAll, GoesOn, Hears, AreTold, TellsFault};
 
 use crate::files::{FolderFault, bytes_of, first_of, journal_of, trace_of};
+use crate::untaken::push_untaken;
 use decl_core::analyse::Accepted;
 use decl_core::hold::{Hold, Rules};
 use decl_core::object::Object;
@@ -16,6 +17,7 @@ use recover_core::text::{HeldFront, cut_held, read_held};
 use std::alloc::{AllocError, Global};
 use std::rt::Files;
 use std::str;
+use taken_core::taken::{TakenFile, line_in_file, take_file};
 use value_core::reply::push_number;
 
 /// What is said of the objects of a folder.
@@ -170,24 +172,65 @@ fn hear_text(
     }
 }
 
-// Hears the text of an epoch, from a file of this name. False: it is refused, and that is said.
+// The file of an epoch, taken. `None`: it is not taken, and that is said.
+fn taken(
+    alloc: Global,
+    name: &str,
+    file: &[u8],
+    said: &mut FolderReport,
+) -> Result<Option<TakenFile>, AllocError>
+    ensures { IfOk result (λ found. MatchOption found ((words : List ℕ) × TellsFault words
+        × (said.new.lines.items ≡ said.old.lines.items ++ words)) (λ _. said.new.lines.items ≡ said.old.lines.items)) }
+{
+    match take_file(alloc, file, false)? {
+        Ok(found) => Ok(Some(found)),
+        Err(fault) => {
+            push_untaken(&mut said.lines, name.as_bytes(), fault)?;
+            Ok(None)
+        }
+    }
+}
+
+// The same fault, by lines of the file.
+fn in_file(file: &[u8], fault: RecoverFault) -> RecoverFault {
+    match fault {
+        RecoverFault::Front(line) => RecoverFault::Front(line_in_file(file, line)),
+        RecoverFault::Contradicts(line) => RecoverFault::Contradicts(line_in_file(file, line)),
+        RecoverFault::Line(line, fault) => RecoverFault::Line(line_in_file(file, line), fault),
+        other => other,
+    }
+}
+
+// The same, of an epoch.
+fn of_file(file: &[u8], fault: EpochFault) -> EpochFault {
+    match fault {
+        EpochFault::Front(line) => EpochFault::Front(line_in_file(file, line)),
+        EpochFault::Epoch(epoch, fault) => EpochFault::Epoch(epoch, in_file(file, fault)),
+        other => other,
+    }
+}
+
+// Hears the epoch of a file of this name. False: it is refused, and that is said.
 fn hear(
     alloc: Global,
     object: &Object,
     holds: &[Hold],
     epochs: &mut Epochs,
     name: &str,
-    text: &[u8],
+    file: &[u8],
     said: &mut FolderReport,
 ) -> Result<bool, AllocError>
     ensures { IfOk result (λ went. Hears (object_of object.now) epochs.old said.old.lines.items went epochs.new
         said.new.lines.items) }
 {
-    push_note(&mut said.notes, name, text)?;
-    match hear_text(alloc, object, holds, epochs, text)? {
+    push_note(&mut said.notes, name, file)?;
+    let Some(text) = taken(alloc, name, file, said)? else {
+        return Ok(false);
+    };
+    match hear_text(alloc, object, holds, epochs, &text.lines)? {
         Ok(()) => Ok(true),
         Err(fault) => {
-            push_fault(&mut said.lines, name.as_bytes(), fault)?;
+            push_fault(&mut said.lines, name.as_bytes(), of_file(file, fault))?;
             Ok(false)
         }
     }
@@ -228,7 +271,7 @@ fn hear_ended<R: Files + AllocGlobal>(
     Ok(true)
 }
 
-// Says what the epochs of an object are, of which the last goes on, with this text. False: one is refused.
+// Says what the epochs of an object are, of which the last goes on, with this file. False: one is refused.
 fn audit_journal<R: Files + AllocGlobal>(
     rt: &R,
     object: &Object,
@@ -241,10 +284,14 @@ fn audit_journal<R: Files + AllocGlobal>(
     ensures { IfOk result (λ whole. Adds (object_of object.now) whole said.old.lines.items said.new.lines.items) }
 {
     let file = journal_of(rt.alloc(), name)?;
-    let epoch = match epoch_of(rt.alloc(), object, journal)? {
+    let Some(text) = taken(rt.alloc(), file.as_str(), journal, said)? else {
+        return Ok(false);
+    };
+    let epoch = match epoch_of(rt.alloc(), object, &text.lines)? {
         Ok(epoch) => epoch,
         Err(line) => {
-            push_fault(&mut said.lines, file.as_bytes(), EpochFault::Front(line))?;
+            let fault = EpochFault::Front(line_in_file(journal, line));
+            push_fault(&mut said.lines, file.as_bytes(), fault)?;
             return Ok(false);
         }
     };
@@ -334,7 +381,8 @@ fn audit_objects<R: Files + AllocGlobal>(
 
 /// Says what objects are in a folder, in order: `NAME epochs E entries K whole` where its epochs, the oldest of which there
 /// is a file first, can have happened one after another; `NAME no journal`; `NAME FILE line N bad` of the first file whose
-/// front is not read; or `NAME epoch E ` and why that one is refused. `rules` are those of the objects, in order, or none
+/// front is not read, or a line of which is not as it was written; `NAME FILE has format F`, and `NAME FILE line N: K bytes
+/// behind it are not 0` of a file that lacks lines which were stored; or `NAME epoch E ` and why that one is refused. `rules` are those of the objects, in order, or none
 /// where no object has any: where one has holds, the lines of a front that tell what was held are read as well. Of an object
 /// that does not hold so what a front tells, the epoch `was changed`.
 ///

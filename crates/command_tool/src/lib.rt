@@ -33,3 +33,4 @@ pub mod script_answer;
 pub mod serve;
 pub mod start;
 pub mod try_answer;
+mod untaken;

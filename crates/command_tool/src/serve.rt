@@ -10,6 +10,7 @@ use answer_core::answer::{ACCEPTED, REFUSED};
 use answer_core::explanation::{Telling, explained};
 use answer_core::failure::ToolFailure;
 use answer_core::lack::{Unmet, Wanted, tell_lack};
+use cause_core::cause::Cause;
 use device_core::ahead::{AheadHand, Ends};
 use device_core::dir::DirHand;
 use device_core::hand::Hand;
@@ -20,7 +21,7 @@ use serve_core::gate::Gate;
 use serve_core::serve::{ServeEnd, ServerFolder, serve_on};
 use serve_core::values::DirValues;
 use std::alloc::AllocError;
-use std::io::{ErrorKind, Write};
+use std::io::Write;
 use std::os::unix::fs::FileExt;
 use std::rt::Files;
 use std::sync::{Arc, Wait};
@@ -108,7 +109,7 @@ fn lack_of(ended: &Result<ServeEnd, LinesFault>) -> Option<Unmet> {
     match ended {
         Ok(ServeEnd::Unopened) => Some(Unmet {
             need: Wanted::Parts,
-            cause: ErrorKind::Other,
+            cause: Cause::Unknown,
         }),
         _ => None,
     }

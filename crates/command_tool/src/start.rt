@@ -15,6 +15,7 @@ use answer_core::lack::{Lacking, Unmet, Wanted};
 use answer_core::said::{telling_of, told, written};
 use answer_core::socket::{Socket, path_of};
 use answer_core::sources::{WithoutHolds, plain_source};
+use cause_core::cause::Cause;
 use command_line::request::Serving;
 use device_core::ahead::AheadHand;
 use serve_core::gate::Gate;
@@ -65,7 +66,7 @@ fn take_needs(rt: &HostRuntime, asked: Serving<'_>, text: Vec<u8>) -> Result<Ser
     let (gate, socket) = gate_at(rt, asked.address, asked.sessions)?;
     let place = match place_of(rt, asked.folder, asked.sessions) {
         Ok(place) => place,
-        Err(ToolFailure::ReadFault) => return Err(Lacking::at(Wanted::Folder, ErrorKind::Other)),
+        Err(ToolFailure::ReadFault) => return Err(Lacking::at(Wanted::Folder, Cause::Unknown)),
         Err(failure) => return Err(Lacking {
             failure,
             lack: None,

@@ -1,14 +1,13 @@
 -- One call behind the other.
-use Rattle.std.proofs.Common.{◌≡◌, ◌∙◌, ap, sym, subst, refl, ℕ, List, [], ◌∷◌, take, Result, Ok, Err, IfOk}
+use Rattle.std.proofs.Common.{◌≡◌, ◌∙◌, ap, sym, subst, refl, ℕ, List, [], ◌∷◌, Result, Ok, Err, IfOk}
 use Rattle.std.specs.declared.alloc.AllocError.{AllocError}
-use Rattle.keep_loop.specs.Journal.{recovered}
 use Rattle.crash_trial.specs.declared.device.Happened.{Happened}
 use Rattle.crash_trial.specs.declared.device.Happened.TheVariants.{Wrote, Stored, Replaced, Refused}
 use Rattle.crash_trial.specs.declared.judge.Standing.{Standing}
 use Rattle.crash_trial.specs.declared.judge.CrashOutcome.{CrashOutcome}
 use Rattle.crash_trial.specs.declared.judge.CrashOutcome.TheVariants.{Right, Wrong}
 use Rattle.crash_trial.specs.Kept.{Leaves}
-use Rattle.crash_trial.specs.Standings.{lines_behind, stored_behind, begun_behind, Follows, StandsBehind, IsFrontOf, IsJudged}
+use Rattle.crash_trial.specs.Standings.{lines_behind, stored_behind, begun_behind, Follows, StandsBehind, IsFileOf, IsJudged}
 
 lines_then : (text : List ℕ) (c : Happened) (rest : List Happened) → lines_behind text (c ∷ rest) ≡ lines_behind (lines_behind text (c ∷ [])) rest
 lines_then text (Wrote at bytes) rest = refl
@@ -47,18 +46,13 @@ stands happened old new text stored epochs is = record {
   epochs = is.epochs ∙ ap (λ n. begun_behind n happened) epochs;
 }
 
--- the lines that a crash left are judged
-pub judged : (file : List ℕ) (happened : List Happened) (left lines : List ℕ) (standing : Standing) (outcome : CrashOutcome) → Leaves file file happened left →
-    StandsBehind happened standing → lines ≡ recovered left → IsFrontOf standing lines outcome → IsJudged file happened outcome
-judged file happened left lines standing (Right found) leaves behind is front =
-    (left, standing, leaves, behind, subst (λ l. IsFrontOf standing l (Right found)) is front)
-judged file happened left lines standing (Wrong why) leaves behind is front = tt
+-- the file that a crash left is judged
+judged : (file : List ℕ) (happened : List Happened) (left : List ℕ) (standing : Standing) (outcome : CrashOutcome) → Leaves file file happened left →
+    StandsBehind happened standing → IsFileOf standing left outcome → IsJudged file happened outcome
+judged file happened left standing (Right found) leaves behind is = (left, standing, leaves, behind, is)
+judged file happened left standing (Wrong why) leaves behind is = tt
 
--- the same, of the lines that are recovered of what is left, which is read twice
-pub judged_or : (file : List ℕ) (happened : List Happened) (left x y : List ℕ) (n : ℕ) (standing : Standing) (r : Result CrashOutcome AllocError) →
-    Leaves file file happened left → StandsBehind happened standing → x ≡ left → y ≡ left → take n y ≡ recovered y →
-    IfOk r (IsFrontOf standing (take n x)) → IfOk r (IsJudged file happened)
-judged_or file happened left x y n standing (Ok outcome) leaves behind one two is front =
-    judged file happened left (take n x) standing outcome leaves behind
-    (ap (take n) (one ∙ sym two) ∙ is ∙ ap recovered two) front
-judged_or file happened left x y n standing (Err e) leaves behind one two is front = tt
+pub judged_or : (file : List ℕ) (happened : List Happened) (left x : List ℕ) (standing : Standing) (r : Result CrashOutcome AllocError) →
+    Leaves file file happened left → StandsBehind happened standing → x ≡ left → IfOk r (IsFileOf standing x) → IfOk r (IsJudged file happened)
+judged_or file happened left x standing (Ok outcome) leaves behind one is = judged file happened left standing outcome leaves behind (subst (λ f. IsFileOf standing f outcome) one is)
+judged_or file happened left x standing (Err e) leaves behind one is = tt

@@ -1,13 +1,14 @@
 //! Plays the lines of a scenario on a kept object over a journal.
 
-ghost use Rattle.keep_loop.specs.Journal.{AreLines};
+ghost use Rattle.keep_loop.specs.Taken.{IsFront};
 ghost use Rattle.keep_loop.specs.Order.{IsInOrder};
 ghost use Rattle.std.specs.Prelude.{◌≡◌, ◌≢◌, ◌<◌, ◌+◌, ◌^◌, [], length, true, IfOk, IfSome, OnOk};
 
 use decl_core::object::Object;
 use guest_core::guests::Guests;
 use keep_loop::device::Device;
-use keep_loop::journal::{Journal, recovered_are_lines, recovered_len};
+use keep_loop::head::{are_plain, is_front as is_front_of};
+use keep_loop::journal::Journal;
 use live_core::call::Limits;
 use live_core::hosted::{Hosted, HostedStart};
 use live_core::live::Live;
@@ -63,20 +64,12 @@ pub enum JournalCall {
     Sync,
 }
 
-// Whether these bytes are whole lines, none of which has a byte 0.
-fn are_lines(bytes: &[u8]) -> bool
-    ensures { result ≡ true → AreLines bytes.now }
-{
-    recovered_are_lines();
-    recovered_len(bytes) == bytes.len()
-}
-
 // Adds lines to a journal.
 fn append<D: Device>(journal: &mut Journal<D>, lines: &[u8]) -> Result<(), ScenarioStop>
     requires { IsInOrder D.seen D.may_leave journal.old }
     ensures { OnOk result (IsInOrder D.seen D.may_leave journal.new) }
 {
-    if !are_lines(lines) {
+    if !are_plain(lines) {
         return Err(ScenarioStop::Journal);
     }
     match journal.append(lines) {
@@ -98,9 +91,9 @@ fn store<D: Device>(journal: &mut Journal<D>) -> Result<(), ScenarioStop>
 
 // Whether a journal can begin with this front.
 fn is_front(front: &[u8]) -> bool
-    ensures { result ≡ true → AreLines front.now × (length front.now + 65536 < 2 ^ 62) }
+    ensures { result ≡ true → IsFront front.now × (length front.now + 65536 < 2 ^ 62) }
 {
-    are_lines(front) && front.len() <= 1 << 40
+    is_front_of(front) && front.len() <= 1 << 40
 }
 
 // Begins a journal anew. False: it could not, and goes on.

@@ -1,22 +1,23 @@
 //! Whether what is recovered behind a crash is what a crash may leave.
 
 ghost use Rattle.std.specs.Prelude.{◌∷◌, [], IfOk, OnOk};
-ghost use Rattle.crash_trial.specs.Standings.{Follows, StandsBehind, IsFrontOf, IsJudged};
+ghost use Rattle.crash_trial.specs.Standings.{Follows, StandsBehind, IsFrontOf, IsFileOf, IsJudged};
 
 use crate::crash::{SurvivingBytes, crash};
 use crate::device::Happened;
 use decl_core::object::Object;
-use keep_loop::journal::recovered_len;
+use keep_loop::taken::{lines_told, push_plain};
 use recover_core::recover::{House, Recovered};
 use recover_core::text_recover::recover;
 use std::alloc::{AllocError, Global};
+use taken_core::taken::take_file;
 
 /// What stands in a journal behind some calls.
 #[derive(Drop)]
 pub struct Standing {
     /// How many times the file was begun anew.
     pub epochs: u64,
-    /// All lines: the front, and what was added since.
+    /// All lines: the front, and what was added since, without those by which a file checks itself.
     pub text: Vec<u8>,
     /// So many bytes of them are on the disk for certain.
     pub stored: usize,
@@ -40,13 +41,13 @@ pub(crate) fn follow(
     ensures { OnOk result (Follows (call.now ∷ []) standing.old standing.new) }
 {
     match call {
-        Happened::Wrote(_, bytes) => standing.text.extend_from_slice(bytes),
+        Happened::Wrote(_, bytes) => push_plain(&mut standing.text, bytes),
         Happened::Stored => {
             standing.stored = standing.text.len();
             Ok(())
         }
         Happened::Replaced(bytes) => {
-            standing.text = bytes[..recovered_len(bytes)].to_vec(alloc)?;
+            standing.text = lines_told(alloc, bytes)?;
             standing.stored = standing.text.len();
             standing.epochs = standing.epochs.saturating_add(1);
             Ok(())
@@ -109,6 +110,25 @@ fn judge_lines(
     }
 }
 
+// What is recovered of a file that a crash left.
+fn judge_file(
+    alloc: Global,
+    object: &Object,
+    house: House,
+    standing: &Standing,
+    left: &[u8],
+) -> Result<CrashOutcome, AllocError>
+    ensures { IfOk result (IsFileOf standing.now left.now) }
+{
+    match take_file(alloc, left, false)? {
+        Err(_) => Ok(CrashOutcome::Wrong("it is not taken")),
+        Ok(_) => {
+            let lines = lines_told(alloc, left)?;
+            judge_lines(alloc, object, house, standing, &lines)
+        }
+    }
+}
+
 /// Draws a crash behind these calls, the oldest first, recovers, and says what came of it. The error is that memory was
 /// refused.
 pub fn judge(
@@ -124,12 +144,6 @@ pub fn judge(
     let standing = standing_behind(alloc, happened)?;
     match crash(alloc, file, happened, how)? {
         None => Ok(CrashOutcome::Wrong("a write past the end of the file")),
-        Some(left) => judge_lines(
-            alloc,
-            object,
-            house,
-            &standing,
-            &left[..recovered_len(&left)],
-        ),
+        Some(left) => judge_file(alloc, object, house, &standing, &left),
     }
 }

@@ -7,6 +7,7 @@ use crate::judge::{CrashOutcome, Standing, follow, judge, standing_behind};
 use crate::tell::front_behind;
 use check_core::open::{OpenedScript, open_script};
 use decl_core::object::Object;
+use keep_loop::journal::CHECK_ROOM;
 use recover_core::recover::{House, Recovered};
 use std::alloc::{AllocError, AllocFailed, Global};
 use std::io::Write;
@@ -132,6 +133,36 @@ fn play_scenario(
     }
 }
 
+// What a file was at first, and what happened to it, the oldest first.
+#[derive(Clone, Copy)]
+struct FileLog<'a> {
+    first: &'a [u8],
+    happened: &'a [Happened],
+}
+
+// The same call, of a file without the bytes for check lines at its end. A scenario has few lines: where a call writes
+// there, each crash behind it is told as wrong.
+fn without_room(alloc: Global, call: &Happened) -> Result<Happened, AllocError> {
+    match call {
+        Happened::Wrote(at, bytes) => Ok(Happened::Wrote(*at, bytes.to_vec(alloc)?)),
+        Happened::Stored => Ok(Happened::Stored),
+        Happened::Replaced(bytes) => {
+            let kept = bytes.len().saturating_sub(CHECK_ROOM);
+            Ok(Happened::Replaced(bytes[..kept].to_vec(alloc)?))
+        }
+        Happened::Refused => Ok(Happened::Refused),
+    }
+}
+
+// The same calls.
+fn all_without_room(alloc: Global, happened: &[Happened]) -> Result<Vec<Happened>, AllocError> {
+    let mut calls = Vec::new(alloc);
+    for call in happened {
+        calls.push(without_room(alloc, call)?)?;
+    }
+    Ok(calls)
+}
+
 // Whether a state was told before.
 fn was_told(tried: &TrialTally, epoch: u64, length: usize) -> bool {
     for state in &tried.states {
@@ -195,17 +226,17 @@ fn try_crash<W: Write>(
     alloc: Global,
     asked: &TrialInput,
     object: &Object,
-    file: &RecordedFile,
+    log: &FileLog<'_>,
     calls: usize,
     how: &SurvivingBytes,
     tried: &mut TrialTally,
     writer: &mut W,
 ) -> Result<(), TrialFault> {
-    let happened = file.happened();
+    let happened = log.happened;
     let happened = &happened[..calls.min(happened.len())];
     let epoch = standing_behind(alloc, happened)?.epochs;
     tried.crashes = tried.crashes.saturating_add(1);
-    let why = match judge(alloc, object, HOUSE, file.first(), happened, how)? {
+    let why = match judge(alloc, object, HOUSE, log.first, happened, how)? {
         CrashOutcome::Wrong(why) => why,
         CrashOutcome::Right(recovered) => {
             if tell_state(alloc, asked, epoch, recovered, tried, writer)? {
@@ -248,15 +279,15 @@ fn try_each<W: Write>(
     alloc: Global,
     asked: &TrialInput,
     object: &Object,
-    file: &RecordedFile,
+    log: &FileLog<'_>,
     tried: &mut TrialTally,
     writer: &mut W,
 ) -> Result<(), TrialFault> {
-    for call in 0..file.happened().len() {
-        if let Happened::Wrote(_, bytes) = &file.happened()[call] {
+    for call in 0..log.happened.len() {
+        if let Happened::Wrote(_, bytes) = &log.happened[call] {
             for byte in 0..bytes.len() + 1 {
                 let how = SurvivingBytes::Cut(call, byte);
-                try_crash(alloc, asked, object, file, call + 1, &how, tried, writer)?;
+                try_crash(alloc, asked, object, log, call + 1, &how, tried, writer)?;
             }
         }
     }
@@ -268,14 +299,14 @@ fn try_drawn<W: Write>(
     alloc: Global,
     asked: &TrialInput,
     object: &Object,
-    file: &RecordedFile,
+    log: &FileLog<'_>,
     tried: &mut TrialTally,
     writer: &mut W,
 ) -> Result<(), TrialFault> {
     for crash in 0..asked.crashes {
-        let calls = drawn(asked.seed, crash, file.happened().len()).saturating_add(1);
+        let calls = drawn(asked.seed, crash, log.happened.len()).saturating_add(1);
         let how = SurvivingBytes::Drawn(mixed(asked.seed, crash as usize, usize::MAX));
-        try_crash(alloc, asked, object, file, calls, &how, tried, writer)?;
+        try_crash(alloc, asked, object, log, calls, &how, tried, writer)?;
     }
     Ok(())
 }
@@ -377,8 +408,13 @@ fn try_all<W: Write>(
         wrong: 0,
         states: Vec::new(alloc),
     };
-    try_each(alloc, asked, object, file, &mut tried, writer)?;
-    try_drawn(alloc, asked, object, file, &mut tried, writer)?;
+    let happened = all_without_room(alloc, file.happened())?;
+    let log = FileLog {
+        first: file.first(),
+        happened: &happened,
+    };
+    try_each(alloc, asked, object, &log, &mut tried, writer)?;
+    try_drawn(alloc, asked, object, &log, &mut tried, writer)?;
     tell_tried(alloc, &tried, writer)
 }
 

@@ -5,7 +5,8 @@ use crate::scratch::Scratch;
 use crate::shelf_calls::Bytes;
 use keep_loop::device::{Device, DeviceError};
 use keep_loop::folder::FolderFile;
-use keep_loop::journal::{Journal, recover};
+use keep_loop::head::is_front;
+use keep_loop::journal::{Journal, recovered_len};
 use keep_loop::memory::Memory;
 use keep_loop::uncalled::{JournalStep, RoundFault};
 use std::alloc::Global;
@@ -13,6 +14,7 @@ use std::io::{self, ErrorKind, Write};
 use std::process;
 use std::process::Abort;
 use std::rt::Files;
+use taken_core::recover::recover;
 
 // A writer that takes nothing.
 #[derive(Drop)]
@@ -28,12 +30,14 @@ impl Write for Deaf {
     }
 }
 
-// Whether the lines of a file in memory are these.
+// Whether the lines of a file in memory are these, and it has no other ones.
 fn recovers(alloc: Global, file: Memory, want: &[u8]) -> bool {
     let mut file = file;
     match recover(alloc, &mut file) {
-        Ok(lines) => lines.as_slice() == want,
-        Err(_) => false,
+        Ok(Ok(taken)) => {
+            taken.lines.as_slice() == want && taken.size == recovered_len(file.bytes())
+        }
+        _ => false,
     }
 }
 
@@ -42,21 +46,27 @@ fn makes_steps(alloc: Global) -> Result<bool, DeviceError> {
     let mut steps = Vec::new(alloc);
     steps.push(JournalStep::Lines(b"b\n".to_vec(alloc)?))?;
     steps.push(JournalStep::Sync)?;
+    if !is_front(b"object a epoch 1\n") {
+        return Ok(false);
+    }
     let file = Memory::new(alloc, Vec::new(alloc));
-    let Ok(mut journal) = Journal::begin(alloc, file, b"a\n", 4) else {
+    let Ok(mut journal) = Journal::begin(alloc, file, b"object a epoch 1\n", 4) else {
         return Ok(false);
     };
     journal.run(&steps)?;
     let Err(DeviceError::Full) = journal.append(b"cc\n") else {
         return Ok(false);
     };
-    Ok(recovers(alloc, journal.into_device(), b"a\nb\n"))
+    Ok(recovers(alloc, journal.into_device(), b"object a epoch 1\nb\n"))
 }
 
 // Whether rounds are told as they ended: stored and answered, stored and not answered, and not stored.
 fn makes_rounds(alloc: Global) -> bool {
+    if !is_front(b"object a epoch 1\n") || !is_front(b"object d epoch 2\n") {
+        return false;
+    }
     let file = Memory::new(alloc, Vec::new(alloc));
-    let Ok(mut journal) = Journal::begin(alloc, file, b"a\n", 4) else {
+    let Ok(mut journal) = Journal::begin(alloc, file, b"object a epoch 1\n", 4) else {
         return false;
     };
     let mut answers = Vec::new(alloc);
@@ -66,14 +76,14 @@ fn makes_rounds(alloc: Global) -> bool {
     let Err(RoundFault::NotWritten) = journal.round(&mut Deaf, b"c\n", b"done\n") else {
         return false;
     };
-    let Ok(true) = journal.change(alloc, b"d\n", 1) else {
+    let Ok(true) = journal.change(alloc, b"object d epoch 2\n", 1) else {
         return false;
     };
     let Err(RoundFault::NotStored) = journal.round(&mut answers, b"e\n", b"done\n") else {
         return false;
     };
     answers.as_slice() == b"done\n".as_slice()
-        && journal.into_device().bytes() == b"d\n\0".as_slice()
+        && recovers(alloc, journal.into_device(), b"object d epoch 2\n")
 }
 
 // Catches `room_that_lacks_is_no_memory`, `steps_are_not_made`, `answers_are_not_written`, `journal_never_begins_anew`
@@ -101,8 +111,13 @@ enum JournalLine {
     At(&'static str, Deed),
 }
 
-const LINES: [JournalLine; 21] = [
-    JournalLine::At("kept.journal", Has(b"")),
+// More bytes than are looked at at once.
+const ZEROS: [u8; 8_200] = [0; 8_200];
+
+const LINES: [JournalLine; 30] = [
+    // Nothing is made before something takes its place.
+    JournalLine::At("kept.journal", Lacks),
+    JournalLine::Reads(b""),
     JournalLine::Replaces(b"a\n\0\0"),
     JournalLine::At("kept.journal", Has(b"a\n\0\0")),
     JournalLine::At("kept.journal.new", Lacks),
@@ -123,6 +138,15 @@ const LINES: [JournalLine; 21] = [
     JournalLine::At("kept.journal", Has(b"c\nf\n\0")),
     JournalLine::At("kept.journal.new", RemoveFolder),
     JournalLine::Replaces(b"e\n"),
+    // One that stands ready takes its place, cut to what is given, or made longer.
+    JournalLine::At("kept.next", Put(b"\0\0\0\0\0\0")),
+    JournalLine::Replaces(b"h\n\0\0"),
+    JournalLine::At("kept.journal", Has(b"h\n\0\0")),
+    JournalLine::At("kept.next", Lacks),
+    JournalLine::At("kept.next", Put(b"\0\0")),
+    JournalLine::Replaces(&ZEROS),
+    JournalLine::At("kept.journal", Has(&ZEROS)),
+    JournalLine::At("kept.journal.new", Lacks),
     // What was written beside it cannot be put in its place.
     JournalLine::At("kept.journal", Remove),
     JournalLine::At("kept.journal", MakeFolder),
@@ -160,8 +184,8 @@ fn play<R: Abort + Files + AllocGlobal + Copy + Drop>(rt: R, process: u32) -> io
     scratch.remove()
 }
 
-// Catches `written_at_the_end`, `older_file_is_not_cut`, `removed_file_is_written`, `half_a_file_is_put` and
-// `renaming_is_not_looked_at`: no clause says what a folder has.
+// Catches `written_at_the_end`, `longer_ready_file_is_not_cut`, `shorter_ready_file_is_not_filled`,
+// `removed_file_is_written`, `half_a_file_is_put` and `renaming_is_not_looked_at`: no clause says what a folder has.
 #[test]
 fn the_file_of_a_journal_in_a_folder(rt: HostRuntime) {
     play(rt, process::id(rt.process())).expect(&rt, "a folder");

@@ -21,3 +21,5 @@ mod scratch;
 mod shelf_calls;
 #[cfg(test)]
 mod shelves;
+#[cfg(test)]
+mod taken;

@@ -1,10 +1,9 @@
 -- The held call that a call ends, and what is left.
-use Rattle.std.proofs.Common.{◌≡◌, ◌⊎◌, inl, inr, ℕ, zero, suc, ◌+◌, ◌<◌, ◌≤◌, List, [], ◌∷◌, ◌++◌, length, Some, refl, sym, ap, subst, ◌∙◌, arith, get_or, take, drop}
+use Rattle.std.proofs.Common.{◌≡◌, ◌⊎◌, inl, inr, ℕ, zero, suc, ◌+◌, ◌<◌, ◌≤◌, List, [], ◌∷◌, ◌++◌, length, Option, Some, refl, sym, ap, subst, ◌∙◌, arith, get_or, take, drop}
 use Rattle.std.specs.Prelude.{◌≢◌, slice_get, All, remove}
 use Rattle.std.proofs.lemmas.List.Elements.{All-cons}
 use Rattle.word_core.specs.Events.{Called}
-use Rattle.decl_core.specs.HoldForm.{HoldForm}
-use Rattle.guest_core.specs.Held.{HeldCall, NoneOwn, NoneFits, Fits, IsEnded, GivesOne, GivesBy, Gives, hold_ended}
+use Rattle.guest_core.specs.Held.{HeldCall, NoneOwn, NoneFits, Fits, IsEnded, GivesOne, GivesBy}
 use Rattle.guest_core.specs.Places.{IsNewestOwn, IsOldest}
 
 -- one more, from the end
@@ -84,9 +83,9 @@ take_whole (x ∷ xs) zero h = absurd (omega (arith, h))
 take_whole (x ∷ xs) (suc n) h = ap (λ l. x ∷ l) (take_whole xs n (omega (arith, h)))
 
 -- what is held once a call has ended that ends this hold: what is left of what was held, and what the call holds itself
-pub end_is : (holds : List HoldForm) (c : Called) (rule count : ℕ) (old mid new more : List HeldCall) → hold_ended holds c.operation ≡ Some rule → count ≡ length old → mid ≡ old ++ more →
-    IsLeft (Fits rule c.arguments) c.session count mid new → (left : List HeldCall) × Gives holds c old left × (new ≡ left ++ more)
-end_is holds c rule count old mid new more is counted grown x = (
+pub end_is : (found : Option ℕ) (c : Called) (rule count : ℕ) (old mid new more : List HeldCall) → found ≡ Some rule → count ≡ length old → mid ≡ old ++ more →
+    IsLeft (Fits rule c.arguments) c.session count mid new → (left : List HeldCall) × GivesBy found c old left × (new ≡ left ++ more)
+end_is found c rule count old mid new more is counted grown x = (
   x.0,
   subst (λ o. GivesBy o c old x.0) (sym is) (subst (λ h. GivesOne (Fits rule c.arguments) c.session h x.0) (ap (take count) grown ∙ front_is old more count counted) x.1),
   x.2 ∙ ap (λ d. x.0 ++ d) (ap (drop count) grown ∙ back_is old more count counted),

@@ -8,8 +8,10 @@ use Rattle.apply_core.specs.declared.reply.Reply.{Reply}
 use Rattle.apply_core.specs.declared.reply.Reply.TheVariants.{Done, Refused, Failed}
 use Rattle.decl_core.specs.HoldForm.{HoldForm}
 use Rattle.word_core.specs.Events.{Called, Happened, began, ended}
-use Rattle.guest_core.specs.Held.{HeldCall, hold_of_op, hold_ended, begun_by, begun, Fits, NoneFits, IsEnded, GivesOne, GivesBy, is_loose, AreHeld, at_first, at_begin, at_end, HoldsOwn, MayUndoBy, KeepsHolds}
-use Rattle.guest_core.specs.Laws.{one_by, one_done, taken, given, held_by, EachGivenOnce, NeverMoreGiven}
+use Rattle.guest_core.specs.declared.hold_ends.HoldEnds.{HoldEnds}
+use Rattle.guest_core.specs.declared.hold_ends.HoldEnds.TheVariants.{ByDone, ByAny}
+use Rattle.guest_core.specs.Held.{HeldCall, hold_of_op, hold_ended, ended_so, begun_by, begun, Fits, NoneFits, IsEnded, GivesOne, GivesBy, is_loose, at_first, at_begin, at_end, HoldsOwn, MayUndoBy, KeepsHolds}
+use Rattle.guest_core.specs.Laws.{one_by, one_done, taken, given, held_by, EachGivenOnce, NeverMoreGiven, IsNotDone, OnlyDoneEnds}
 
 held_both : (r : ℕ) (xs ys : List HeldCall) → held_by r (xs ++ ys) ≡ held_by r xs + held_by r ys
 held_both r [] ys = omega arith
@@ -62,6 +64,13 @@ given_one holds r (Some s) c held left strict may gives = elim (eqb_tells s r) [
   | inr p ↦ (let none : one_by r (Some s) ≡ 0 = rw p.0 refl in omega (arith, none, other_one r s c.session c.arguments held left none gives))
 ]
 
+-- who may end what a call of its operation ends may end what it ends so
+pub may_so : (ends : HoldEnds) (holds : List HoldForm) (reply : Reply) (found : Option ℕ) (session : ℕ) (arguments : List Datum) (held : List HeldCall) → MayUndoBy holds found session arguments held → MayUndoBy holds (ended_so ends reply found) session arguments held
+may_so ByAny holds reply found session arguments held may = may
+may_so ByDone holds (Done d) found session arguments held may = may
+may_so ByDone holds (Refused word) found session arguments held may = tt
+may_so ByDone holds (Failed failure) found session arguments held may = tt
+
 -- what a call holds from its end on
 begun_one : (r : ℕ) (o : Option ℕ) (c : Called) (reply : Reply) → held_by r (begun_by o c reply) ≡ one_done r o reply
 begun_one r None c (Done d) = refl
@@ -72,13 +81,19 @@ begun_one r (Some s) c (Refused word) = refl
 begun_one r (Some s) c (Failed failure) = refl
 
 pub each_given_once : EachGivenOnce
-each_given_once holds past held r strict at_first keeps = refl
-each_given_once holds past held r strict (at_begin {past = before} is) keeps = each_given_once holds before held r strict is keeps
-each_given_once holds past held r strict (at_end {c = c} {reply = reply} {past = before} was left is gives) keeps =
-    let so_far = each_given_once holds before was r strict is keeps.0 in
-    let one = given_one holds r (hold_ended holds c.operation) c was left strict (keeps.1 was is) gives in
+each_given_once ends holds past held r strict at_first keeps = refl
+each_given_once ends holds past held r strict (at_begin {past = before} is) keeps = each_given_once ends holds before held r strict is keeps
+each_given_once ends holds past held r strict (at_end {c = c} {reply = reply} {past = before} was left is gives) keeps =
+    let so_far = each_given_once ends holds before was r strict is keeps.0 in
+    let may = may_so ends holds reply (hold_ended holds c.operation) c.session c.arguments was (keeps.1 was is) in
+    let one = given_one holds r (ended_so ends reply (hold_ended holds c.operation)) c was left strict may gives in
     let more = begun_one r (hold_of_op holds c.operation) c reply in
     omega (arith, so_far, one, more, held_both r left (begun holds c reply))
 
 pub never_more_given : NeverMoreGiven
-never_more_given holds past held r strict is keeps = omega (arith, each_given_once holds past held r strict is keeps)
+never_more_given ends holds past held r strict is keeps = omega (arith, each_given_once ends holds past held r strict is keeps)
+
+pub only_done_ends : OnlyDoneEnds
+only_done_ends holds c (Done d) held left not_done gives = absurd not_done
+only_done_ends holds c (Refused word) held left not_done gives = gives
+only_done_ends holds c (Failed failure) held left not_done gives = gives

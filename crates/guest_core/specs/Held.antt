@@ -6,6 +6,8 @@ use Rattle.apply_core.specs.declared.reply.Reply.{Reply}
 use Rattle.apply_core.specs.declared.reply.Reply.TheVariants.{Done, Refused, Failed}
 use Rattle.decl_core.specs.HoldForm.{HoldForm, is_one_of}
 use Rattle.path_tree.specs.Known.{next}
+use Rattle.guest_core.specs.declared.hold_ends.HoldEnds.{HoldEnds}
+use Rattle.guest_core.specs.declared.hold_ends.HoldEnds.TheVariants.{ByDone, ByAny}
 use Rattle.word_core.specs.Events.{Called, Happened, began, ended}
 
 -- a call that is held: its number, its session, the place of its hold in the object, and what it is held with
@@ -78,19 +80,30 @@ abbrev pub GivesBy : Option ℕ → Called → List HeldCall → List HeldCall �
 GivesBy None c held left = left ≡ held
 GivesBy (Some r) c held left = GivesOne (Fits r c.arguments) c.session held left
 
--- what is left once a call has ended, however it ended
-abbrev pub Gives : List HoldForm → Called → List HeldCall → List HeldCall → Type 0
-Gives holds c held left = GivesBy (hold_ended holds c.operation) c held left
+-- of the hold that a call of an operation ends: it ends where the call was done; by the rule of before with any end
+abbrev pub ended_so : HoldEnds → Reply → Option ℕ → Option ℕ
+ended_so ByDone (Done d) found = found
+ended_so ByDone (Refused word) found = None
+ended_so ByDone (Failed failure) found = None
+ended_so ByAny reply found = found
+
+-- what is left once a call has ended with this reply
+abbrev pub Gives : HoldEnds → List HoldForm → Called → Reply → List HeldCall → List HeldCall → Type 0
+Gives ends holds c reply held left = GivesBy (ended_so ends reply (hold_ended holds c.operation)) c held left
 
 -- What is held after what happened (the newest first); of what is held the oldest first. A hold begins with the end of a
--- done call, and ends with any end of a call that ends it.
-pub data AreHeld (holds : List HoldForm) : List Happened → List HeldCall → Type 0 where
-  at_first : AreHeld holds [] []
-  at_begin : {c : Called} {past : List Happened} {held : List HeldCall} → AreHeld holds past held →
-      AreHeld holds (began c ∷ past) held
+-- done call, and ends with the end of one that ends it, as such ends do.
+pub data AreHeldBy (ends : HoldEnds) (holds : List HoldForm) : List Happened → List HeldCall → Type 0 where
+  at_first : AreHeldBy ends holds [] []
+  at_begin : {c : Called} {past : List Happened} {held : List HeldCall} → AreHeldBy ends holds past held →
+      AreHeldBy ends holds (began c ∷ past) held
   at_end : {c : Called} {reply : Reply} {past : List Happened} (held left : List HeldCall) →
-      AreHeld holds past held → Gives holds c held left →
-      AreHeld holds (ended c reply ∷ past) (left ++ begun holds c reply)
+      AreHeldBy ends holds past held → Gives ends holds c reply held left →
+      AreHeldBy ends holds (ended c reply ∷ past) (left ++ begun holds c reply)
+
+-- the same, where done calls alone end what is held
+abbrev pub AreHeld : List HoldForm → List Happened → List HeldCall → Type 0
+AreHeld holds past held = AreHeldBy ByDone holds past held
 
 -- a session holds what a call of it would end
 pub record HoldsOwn (r session : ℕ) (arguments : List Datum) (held : List HeldCall) : Type 0 where
@@ -117,9 +130,9 @@ abbrev pub MayUndo : List HoldForm → ℕ → ℕ → List Datum → List HeldC
 MayUndo holds session op arguments held = MayUndoBy holds (hold_ended holds op) session arguments held
 
 -- each call that ended could be made by its session, by what was held then
-abbrev pub KeepsHolds : List HoldForm → List Happened → Type 0
-KeepsHolds holds [] = Unit {0}
-KeepsHolds holds (began c ∷ past) = KeepsHolds holds past
-KeepsHolds holds (ended c reply ∷ past) =
-    KeepsHolds holds past
-    × ((held : List HeldCall) → AreHeld holds past held → MayUndo holds c.session c.operation c.arguments held)
+abbrev pub KeepsHolds : HoldEnds → List HoldForm → List Happened → Type 0
+KeepsHolds ends holds [] = Unit {0}
+KeepsHolds ends holds (began c ∷ past) = KeepsHolds ends holds past
+KeepsHolds ends holds (ended c reply ∷ past) =
+    KeepsHolds ends holds past
+    × ((held : List HeldCall) → AreHeldBy ends holds past held → MayUndo holds c.session c.operation c.arguments held)

@@ -6,13 +6,14 @@ ghost use Rattle.value_core.specs.declared.datum.Datum.{Datum as ADatum};
 ghost use Rattle.decl_core.specs.HoldForm.{is_one_of as is_among};
 ghost use Rattle.decl_core.specs.HoldMap.{holds_of};
 ghost use Rattle.guest_core.specs.Held.{HeldCall as AHeldCall, begun, Fits, Gives, GivesOne, MayUndo, NoneFits};
-ghost use Rattle.guest_core.specs.Held.{hold_ended as hold_ended_in, hold_of_op as hold_of_op_in};
+ghost use Rattle.guest_core.specs.Held.{ended_so as ended_so_in, hold_ended as hold_ended_in, hold_of_op as hold_of_op_in};
 ghost use Rattle.decl_core.specs.ObjectMap.{object_of, operation_of};
 ghost use Rattle.guest_core.specs.Undo.{given_to, IsFirstUndo, IsUndoOf};
 ghost use Rattle.guest_core.specs.Views.{called_of};
 ghost use Rattle.guest_core.specs.Held.{IsEnded, NoneOwn, reply_data};
 ghost use Rattle.guest_core.specs.Places.{IsNewest, IsNewestOwn, IsOldest};
 
+use crate::hold_ends::HoldEnds;
 use apply_core::reply::Reply;
 use decl_core::hold::Hold;
 use decl_core::object::{Object, Operation};
@@ -161,6 +162,20 @@ pub fn hold_ended(holds: &[Hold], op: OpId) -> Option<usize>
                 Some(place + 1)
             }
         }
+    }
+}
+
+// The hold that a call ends with this reply, of that which its operation ends.
+fn ended_so(ends: HoldEnds, reply: &Reply, found: Option<usize>) -> Option<usize>
+    ensures { result ≡ ended_so_in ends reply.now found }
+{
+    match ends {
+        HoldEnds::ByAny => found,
+        HoldEnds::ByDone => match reply {
+            Reply::Done(_) => found,
+            Reply::Refused(_) => None,
+            Reply::Failed(_) => None,
+        },
     }
 }
 
@@ -377,22 +392,25 @@ impl Holds {
         Ok(())
     }
 
-    /// A call has ended with this reply. The error is that memory was refused, and nothing changes.
+    /// A call has ended with this reply: where such an end ends a hold, that is held no more. The error is that memory was
+    /// refused, and nothing changes.
     pub fn end(
         &mut self,
         alloc: Global,
+        ends: HoldEnds,
         holds: &[Hold],
         call: EndedCall<'_>,
         reply: &Reply,
     ) -> Result<(), AllocError>
         ensures ended { OnOk result ((left : List AHeldCall)
-            × Gives (holds_of holds.now) (called_of call.entry) self.old left
+            × Gives ends (holds_of holds.now) (called_of call.entry) reply.now self.old left
             × (self.new ≡ left ++ begun (holds_of holds.now) (called_of call.entry) reply.now)) }
         ensures kept { IsErr result → self.new ≡ self.old }
     {
         let count = self.all().len();
         self.begin(alloc, holds, call, reply)?;
-        if let Some(rule) = hold_ended(holds, call.operation) {
+        let ended = ended_so(ends, reply, hold_ended(holds, call.operation));
+        if let Some(rule) = ended {
             self.give(count, rule, call.session, call.arguments);
         }
         Ok(())

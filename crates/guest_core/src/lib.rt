@@ -11,16 +11,17 @@
 //!
 //! `answer` has what a call, a call under a key and a cancel are refused or answered.
 //!
-//! What sessions hold are calls that are done, until a call that ends a hold has ended: it follows from what happened
+//! What sessions hold are calls that are done, until a call that ends a hold is done: it follows from what happened
 //! alone (`specs/Held.antt`, `AreHeld`). `held` keeps it, end by end, says who may end what, and what is to be called
-//! for who is gone. `hold_laws` says that a hold that not anybody may end is never given back more often than it was
-//! taken.
+//! for who is gone; `hold_ends` has the rule of before, by which each end of such a call did. `hold_laws` says that a
+//! hold that not anybody may end is never given back more often than it was taken, and what a refused call leaves.
 #![tactic(auto)]
 
 pub mod answer;
 pub mod guest;
 pub mod guests;
 pub mod held;
+pub mod hold_ends;
 pub mod hold_laws;
 pub mod kept;
 pub mod keys;

@@ -10,7 +10,7 @@ use Rattle.guest_core.specs.Keys.{Keys, HasKey, fresh_keys, remembered}
 use Rattle.guest_core.proofs.Items.{get_set}
 use Rattle.guest_core.proofs.Sound.{sound_changed}
 use Rattle.live_core.specs.Fronts.{client_of as client_from}
-use Rattle.history_law.specs.Keys.{KeyedCall, KeyEvent, epoch_began, name_came, call_ended, IsAmong, StaysKnown, Gives, IsNext, IsRemembered}
+use Rattle.history_law.specs.Keys.{KeyedCall, KeyEvent, epoch_began, name_came, call_ended, IsAmong, StaysKnown, Gives, IsNext, IsRememberedUnder}
 use Rattle.history_law.proofs.Counted.{Events, CallsAreNext, calls_on, next_own, next_other, next_came, next_apart, next_began, stands_once}
 use Rattle.history_law.specs.Keyed.{HaveKeys}
 
@@ -55,13 +55,13 @@ keys_alike f told v new h sound like = record {
   };
   kept = λ q x key k c at has.
       let l = like q x at in
-      subst (λ n. IsRemembered told f n key c) l.named
+      subst (λ n. IsRememberedUnder told f n key c) l.named
       (h.kept l.place l.guest key k c l.there (record { there = ap (λ (ks : List RememberedCall). slice_get ks k) l.kept ∙ has.there; key_is = has.key_is ∙ sym l.next }));
 }
 
 -- what is kept, where one event more is told
-still_kept : (f : Opening) (x : KeyEvent) (told : Events) (name : List ℕ) (key : ℕ) (c : RememberedCall) → ((newer : Events) → StaysKnown name newer → StaysKnown name (x ∷ newer)) → IsRemembered told f name key c →
-    IsRemembered (x ∷ told) f name key c
+still_kept : (f : Opening) (x : KeyEvent) (told : Events) (name : List ℕ) (key : ℕ) (c : RememberedCall) → ((newer : Events) → StaysKnown name newer → StaysKnown name (x ∷ newer)) → IsRememberedUnder told f name key c →
+    IsRememberedUnder (x ∷ told) f name key c
 still_kept f x told name key c more (inl is) = inl (record { newer = x ∷ is.newer; older = is.older; told_is = ap (λ (l : Events). x ∷ l) is.told_is; stays = more is.newer is.stays })
 still_kept f x told name key c more (inr line) = inr line
 
@@ -105,13 +105,13 @@ keys_call f told v p g c h there =
         ];
       };
       kept = λ q x key k d at has. elim (get_set v.guests p now q x at) [
-        | inl here ↦ subst (λ (y : Guest). HasKey y.keys key k d → IsRemembered (call_ended call ∷ told) f y.name key d) here.1 (λ own. own_kept f told g c h p there key k d own) has
+        | inl here ↦ subst (λ (y : Guest). HasKey y.keys key k d → IsRememberedUnder (call_ended call ∷ told) f y.name key d) here.1 (λ own. own_kept f told g c h p there key k d own) has
         | inr apart ↦ still_kept f (call_ended call) told x.name key d (λ newer stays. stays) (h.kept q x key k d apart.1 has)
       ];
     }
   where
     own_kept : (f : Opening) (told : Events) (g : Guest) (c : RememberedCall) → HaveKeys f told v → (p : ℕ) → slice_get v.guests p ≡ Some g → (key k : ℕ) (d : RememberedCall) → HasKey (remembered g.keys c) key k d →
-        IsRemembered (call_ended (record { name = g.name; key = g.keys.next; call = c }) ∷ told) f g.name key d
+        IsRememberedUnder (call_ended (record { name = g.name; key = g.keys.next; call = c }) ∷ told) f g.name key d
     own_kept f told g c h p there key k d own = elim (one_more g.keys c key k d own) [
       | inl newest ↦ inl (record {
         newer = [];

@@ -28,12 +28,13 @@ use Rattle.history_law.specs.Awaits.{Lines}
 use Rattle.history_law.specs.Talk.{Line, Part}
 use Rattle.history_law.specs.Talk.Part.{Accepts, Answers, Ends, Withdraws}
 use Rattle.history_law.specs.Talk.Talk.{Away}
-use Rattle.history_law.specs.Answered.{IsAnswerTo, IsRefusalText, IsSaidOf}
+use Rattle.client_core.specs.Refusals.{IsRefusalText}
+use Rattle.history_law.specs.Answered.{IsAnswerTo, IsSaidOf}
 use Rattle.history_law.specs.Done.{AreAnswered, CrashLeavesDone, IsDone, IsDoneIn, IsRepeatOf, LinesAreAnswered}
 use Rattle.history_law.proofs.Going.{every_map}
 use Rattle.history_law.proofs.Keying.{repeats_are_of_their_keys}
 use Rattle.history_law.proofs.Lists.{every_in}
-use Rattle.history_law.proofs.Plain.{bye_plain, cancelled_plain, gone_plain, not_held_plain, opened_plain, refusal_plain, waiting_plain}
+use Rattle.history_law.proofs.Plain.{bye_plain, cancelled_plain, gone_plain, hinted_plain, not_held_plain, opened_plain, refusal_plain, waiting_plain}
 use Rattle.history_law.proofs.Standing.{repeats_stand}
 use Rattle.history_law.proofs.AskedTurning.{nobody_asked}
 use Rattle.history_law.proofs.OpenParts.{Along, Knows, Names, Opens, by_open}
@@ -52,7 +53,7 @@ no_repeat : (text shown : List ℕ) (number : ℕ) (reply : Reply) → SaysNoRep
 no_repeat text shown number reply plain is same = (plain number reply).1 (sym is ∙ same)
 
 refused_no_repeat : (text : List ℕ) (number : ℕ) (reply : Reply) → IsRefusalText text → text ≡ repeated_text number reply → ⊥
-refused_no_repeat text number reply (line, bad, is) same = no_repeat text _ number reply (refusal_plain line bad) is same
+refused_no_repeat text number reply (line, bad, (hint, may, is)) same = no_repeat text _ number reply (hinted_plain line bad hint) is same
 
 -- what an object says of a key it says of a client that has a session
 abbrev repeats_of : (s : Scene) (session : Option ℕ) (calls key : ℕ) (operation : Option ℕ) (arguments : List Datum) (number : ℕ) (reply : Reply) → Says s session calls key operation arguments (keys.Repeated number reply) →

@@ -42,16 +42,17 @@ use Rattle.client_core.specs.Held.{waits_of}
 use Rattle.history_law.specs.Happens.{with_ran, all_happen}
 use Rattle.client_core.specs.State.{Peer, State, change, changed, counted, nobody, opened_at, opened_in, opening, told_to, waits_at, who_at, who_in, with_object, session_by}
 use Rattle.client_core.specs.Deeds.{Texts, Deed, Nothing, OnlyTold, Then}
+use Rattle.client_core.specs.Refusals.{refusal_text}
 use Rattle.client_core.specs.Asked.{IsNew, IsRefused, OpensBare, OpensAs, Opens, Ends, AllEnd, Submits, GetsNumber, Sits, Calls, Repeats, RepeatsUnder, IsTurnedAway, AnswersCall, LetsGo, AnswersCancel, AnswersInside, Goes, Quits, Acts, Heeds, keyed_text}
 use Rattle.client_core.specs.Custody.{not_held_text}
 use Rattle.client_core.specs.Gone.{CallsFor, SeatsOne, Frees}
 use Rattle.client_core.specs.ToldInside.{Sees, IsWhy, state_by, form_at, object_in}
 use Rattle.client_core.proofs.Doing.{ends_keeps, all_end_keeps}
 use Rattle.history_law.specs.Said.{Account, SaysNoReply}
-use Rattle.history_law.proofs.Plain.{refusal_plain, opened_plain, accepted_plain, withdrawn_plain, cancelled_plain, bye_plain, waiting_plain, gone_plain, not_held_plain, why_plain, state_plain, who_plain, list_plain}
+use Rattle.history_law.proofs.Plain.{hinted_plain, refusal_plain, opened_plain, accepted_plain, withdrawn_plain, cancelled_plain, bye_plain, waiting_plain, gone_plain, not_held_plain, why_plain, state_plain, who_plain, list_plain}
 use Rattle.history_law.proofs.Going.{ran_more, all_alike, told_alike, no_account, both, at_one, at_own, every_map, every_both}
 use Rattle.history_law.proofs.Doing.{to_true}
-use Rattle.history_law.specs.Awaits.{IsIn}
+use Rattle.history_law.specs.Awaits.{IsElementOf}
 use Rattle.history_law.proofs.Ends.{true_false}
 use Rattle.history_law.proofs.Lists.{change_at, changed_was, has_peer, set_at}
 use Rattle.history_law.specs.Asked.{Claims, AreAsked, ClientHas, IsHere}
@@ -66,7 +67,7 @@ use Rattle.history_law.proofs.Clients.{nameless_is, one_client}
 abbrev IsPlain : Texts → Type 0
 IsPlain said = Every (λ (s : ℕ × List ℕ). SaysNoReply s.1) said
 
-every_one : {X : Type 0} (P : X → Type 0) (xs : List X) (x : X) → Every P xs → IsIn x xs → P x
+every_one : {X : Type 0} (P : X → Type 0) (xs : List X) (x : X) → Every P xs → IsElementOf x xs → P x
 every_one P [] x all is = absurd is
 every_one P (y ∷ xs) x all (inl is) = subst P is all.0
 every_one P (y ∷ xs) x all (inr is) = every_one P xs x all.1 is
@@ -113,7 +114,7 @@ why_none object number text (inr is) = subst SaysNoReply (sym is.text_is) (state
 
 -- no call waits of the session without a name of the one at a place
 abbrev pub IsIdleAt : ℕ → State → Type 0
-IsIdleAt place s = (o : OpenObject) (object : Scene) (c : Called) → opened_at s place ≡ Some o → slice_get s.objects o.object ≡ Some object → IsIn c object.hall.waiting →
+IsIdleAt place s = (o : OpenObject) (object : Scene) (c : Called) → opened_at s place ≡ Some o → slice_get s.objects o.object ≡ Some object → IsElementOf c object.hall.waiting →
     slice_get object.guests.seats o.session ≡ Some Nameless → c.session ≢ o.session
 
 module _ (claims : Claims) where
@@ -150,7 +151,7 @@ module _ (claims : Claims) where
   done_only place text none old new said added a n = done_told place text old new said added a (inr none) n
 
   pub done_refused : (place : ℕ) → DoneBy (IsRefused place)
-  done_refused place old new said added a (line, is, only) = done_only place (line_text line) (refusal_plain line is) old new said added a only
+  done_refused place old new said added a is = done_only place (refusal_text is.line is.hint) (hinted_plain is.line is.is is.hint) old new said added a is.only
 
   -- one thing, and another behind it
   pub done_two : (old mid new : State) (one two added further : Texts) → Done old one added mid → Done mid two further new → Done old (one ++ two) (added ++ further) new
@@ -328,7 +329,7 @@ module _ (claims : Claims) where
             (every_map (λ (s : ℕ × List ℕ). SaysNoReply s.1) (λ (s : ℕ × List ℕ). IsOwn claims old.objects account s.1) first (λ s x. inr x) none) all);
         asked = same_asked claims mid new objects peers
             (all_ends_asked claims at after items start mid ended [] ends
-            (λ r is s c at_s wait. made.others r is c (subst (λ (y : Scene). IsIn c y.hall.waiting) (same_Some s after (sym at_s ∙ stands)) wait)) a);
+            (λ r is s c at_s wait. made.others r is c (subst (λ (y : Scene). IsElementOf c y.hall.waiting) (same_Some s after (sym at_s ∙ stands)) wait)) a);
       }
 
   -- a call is made for one that is gone
@@ -515,7 +516,7 @@ module _ (claims : Claims) where
       done_goes old new said added at is.object is.after is.line is.there (does (cancels session number is.line is.cancels)) go.own is.lines same.0
       (ends_said SaysNoReply at session number text start new said [] (withdrawn_plain number) is.ends)
       (ends_asked claims at session number text start new said [] is.ends
-      (λ s c at_s wait. (go.waits c (subst (λ (y : Scene). IsIn c y.hall.waiting) (same_Some s is.after (sym at_s ∙ stands)) wait)).1)
+      (λ s c at_s wait. (go.waits c (subst (λ (y : Scene). IsElementOf c y.hall.waiting) (same_Some s is.after (sym at_s ∙ stands)) wait)).1)
       (scene_asked claims old.objects old.peers at is.object is.after is.there go.asked_of (λ Is place o by at_o some has. here_alike Is is.object.guests is.after.guests o.session go.alike has)
       (λ place o c by at_o wait same_session nameless.
       a.waits place o is.object c by (ap (slice_get old.objects) at_o ∙ is.there) (go.waits c wait).0 same_session (ap (λ (l : List SeatHolder). slice_get l o.session) (sym go.alike.seats) ∙ nameless)) a))

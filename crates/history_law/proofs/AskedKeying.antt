@@ -15,7 +15,7 @@ use Rattle.live_core.specs.Fronts.{client_of}
 use Rattle.live_core.specs.Scene.{Scene}
 use Rattle.live_core.specs.HostedSteps.{Steps, BeginsBy, rests}
 use Rattle.history_law.specs.Happens.{all_happen}
-use Rattle.history_law.specs.Keys.{KeyEvent, KeyedCall, epoch_began, IsKeptLine, IsRemembered}
+use Rattle.history_law.specs.Keys.{KeyEvent, KeyedCall, epoch_began, IsKeptLine, IsRememberedUnder}
 use Rattle.history_law.specs.Keyed.{HaveKeys, with_steps}
 use Rattle.history_law.proofs.Keeping.{steps_keep_keys, epoch_keeps_keys}
 use Rattle.keep_loop.specs.Texts.{to}
@@ -188,7 +188,7 @@ replied_so claims first last turns h j told events k reply each was is = elim (e
 
 -- a call that is remembered
 pub remembered_so : (claims : Claims) (first last : Table) (turns : List Turn) (h : HaveOneHistory first last turns) (j : ℕ) (told events : List KeyEvent) (f : Opening) (g : Guest) (key : ℕ) (c : RememberedCall) (reply : Reply) →
-    Each (RanOrTold claims first last turns h j told) events → IsRemembered events f g.name key c → c.reply ≡ Some reply →
+    Each (RanOrTold claims first last turns h j told) events → IsRememberedUnder events f g.name key c → c.reply ≡ Some reply →
     IsItsCall claims first last turns h j (under g key c) reply ⊎ (WasTold told (under g key c) ⊎ IsKeptLine f.clients f.kept g.name key c)
 remembered_so claims first last turns h j told events f g key c reply each (inl is) reply_is =
     elim (replied_so claims first last turns h j told events (under g key c) reply each (record { newer = is.newer; older = is.older; cut = is.told_is }) reply_is) [

@@ -8,6 +8,7 @@ use Rattle.value_core.specs.declared.datum.Datum.{Datum}
 use Rattle.word_core.specs.Events.{Called}
 use Rattle.guest_core.specs.declared.answer.SubmitFault.TheVariants as faults
 use Rattle.guest_core.specs.declared.seats.SeatHolder.{SeatHolder}
+use Rattle.guest_core.specs.declared.seats.SeatHolder.TheVariants.{Nameless, Named}
 use Rattle.guest_core.specs.Keys.{asks as asks_for}
 use Rattle.live_core.specs.Scene.{Scene}
 use Rattle.session_text.specs.declared.line.ReplyLine.TheVariants as lines
@@ -32,7 +33,7 @@ use Rattle.client_core.specs.Moves.{BeginsHeld}
 use Rattle.client_core.specs.Turns.HearsLine.{does, cancels, sees, puts_off, holds, refuses}
 use Rattle.client_core.specs.Turns.GoesOn.{rests, does as does_more}
 use Rattle.client_core.specs.Turns.EndsHeld.{all, quits, goes_on}
-use Rattle.client_core.specs.Turns.{HearsLine, HearsLast, HearsAt, TakesLine, GoesOn, EndsAsk, EndsHeld, WithdrawsAt, Leaves, LeavesIf, Comes, IfHere, AllLeave, Notes, place_of}
+use Rattle.client_core.specs.Turns.{HearsLine, HearsLast, HearsAt, TakesLine, GoesOn, EndsAsk, EndsHeld, WithdrawsAt, Leaves, LeavesIf, AsksAgain, EndsFor, EndsForIf, Comes, IfHere, AllLeave, Notes, place_of}
 use Rattle.client_core.specs.Given as told
 use Rattle.client_core.specs.Gone.{CallsFor, Frees, SeatsOne, Settles}
 use Rattle.client_core.specs.Gone.Settles.{rests as settled, goes_on as settles_on, calls as calls_one, seats as seats_two, frees as frees_one}
@@ -45,7 +46,7 @@ use Rattle.table_core.specs.Seen.{IsQuiet, seen}
 use Rattle.table_core.specs.declared.table.Table.{Table}
 use Rattle.history_law.specs.Replied.{AreTold, HaveOneHistory}
 use Rattle.history_law.proofs.TurnLiving.{lives_on}
-use Rattle.history_law.specs.Awaits.{AllHeld, IsIn}
+use Rattle.history_law.specs.Awaits.{AllHeld, IsElementOf}
 use Rattle.history_law.proofs.Ends.{with_waits_some}
 use Rattle.history_law.proofs.Lists.{change_at, changed_was, every_in, has_peer, set_was}
 use Rattle.history_law.specs.Asked.{Claims, IsKnown, no_claims}
@@ -65,7 +66,7 @@ takes_opened place asked old mid t =
 -- Fewer calls wait, of the same clients, and those at places have opened what they had.
 record Shrinks (old new : State) : Type 0 where
   objects : (j : ℕ) (now : Scene) → slice_get new.objects j ≡ Some now → (was : Scene) × (slice_get old.objects j ≡ Some was) × (now.guests.seats ≡ was.guests.seats)
-      × ((c : Called) → IsIn c now.hall.waiting → IsIn c was.hall.waiting)
+      × ((c : Called) → IsElementOf c now.hall.waiting → IsElementOf c was.hall.waiting)
   peers : (q : ℕ) (now : OpenObject) → opened_at new q ≡ Some now → (was : OpenObject) × (opened_at old q ≡ Some was) × (was.object ≡ now.object) × (was.session ≡ now.session)
 
 shrinks_none : (old new : State) → new.objects ≡ old.objects → ((q : ℕ) → opened_at new q ≡ opened_at old q) → Shrinks old new
@@ -195,7 +196,7 @@ module _ (claims : Claims) where
   -- a call is let go: no call of its session waits then
   record HasGone (object session : ℕ) (old new : State) : Type 0 where
     shrinks : Shrinks old new
-    none : (now : Scene) (c : Called) → slice_get new.objects object ≡ Some now → IsIn c now.hall.waiting → c.session ≢ session
+    none : (now : Scene) (c : Called) → slice_get new.objects object ≡ Some now → IsElementOf c now.hall.waiting → c.session ≢ session
 
   has_gone : (object session number : ℕ) (old new : State) (said added : Texts) → AllAsked claims old.objects old.peers → LetsGo object session number old said added new → HasGone object session old new
   has_gone object session number old new said added a is = record {
@@ -205,14 +206,14 @@ module _ (claims : Claims) where
           is.object,
           ap (slice_get old.objects) (sym own.0) ∙ is.there,
           ap (λ (x : Scene). x.guests.seats) own.1 ∙ go.alike.seats,
-          λ c wait. (go.waits c (subst (λ (x : Scene). IsIn c x.hall.waiting) own.1 wait)).0,
+          λ c wait. (go.waits c (subst (λ (x : Scene). IsElementOf c x.hall.waiting) own.1 wait)).0,
         )
         | inr other ↦ (now, other.1, refl, λ c wait. wait)
       ];
       peers = λ q now at_q. ends_peers object session number (withdrawn_text number) (with_object old object is.after) new said [] is.ends q now at_q;
     };
     none = λ now c at_j wait. elim (set_was old.objects object object is.after now is.object is.there (ap (λ (l : List Scene). slice_get l object) (sym same) ∙ at_j)) [
-      | inl own ↦ (go.waits c (subst (λ (x : Scene). IsIn c x.hall.waiting) own.1 wait)).1
+      | inl own ↦ (go.waits c (subst (λ (x : Scene). IsElementOf c x.hall.waiting) own.1 wait)).1
       | inr other ↦ absurd (other.0 refl)
     ];
   }
@@ -227,8 +228,8 @@ module _ (claims : Claims) where
   cancel_shrinks place number old new said added a (inl is) = (has_gone is.opened.object is.session is.number old new is.ended added a is.lets_go).shrinks
   cancel_shrinks place number old new said added a (inr (inl is)) =
       shrinks_none old new (ap (λ (s : State). s.objects) is.only.left) (λ q. ap (λ (s : State). opened_at s q) is.only.left)
-  cancel_shrinks place number old new said added a (inr (inr (text, is, only))) =
-      shrinks_none old new (ap (λ (s : State). s.objects) only.left) (λ q. ap (λ (s : State). opened_at s q) only.left)
+  cancel_shrinks place number old new said added a (inr (inr is)) =
+      shrinks_none old new (ap (λ (s : State). s.objects) is.only.left) (λ q. ap (λ (s : State). opened_at s q) is.only.left)
 
   ends_ask : (place : ℕ) (asked : Result Ask AllocError) → DoneBy claims (EndsAsk place asked)
   ends_ask place (Ok (asks.Open name client)) = refused place refusals.Opened
@@ -315,9 +316,27 @@ module _ (claims : Claims) where
   if_here who deed each old new said added a (inl (here, is)) = each (place_of old who) old new said added a is
   if_here who deed each old new said added a (inr (none, is)) = done_nothing claims old new said added a is
 
+  -- a call of a session that has a name may wait
+  again_idle : (place : ℕ) (s : State) → AsksAgain s place → IsIdleAt place s
+  again_idle place s (opened, by, waits, (scene, there, (p, g, is))) o object c at_o at_object wait nameless same =
+      let own : o ≡ opened = same_Some o opened (sym at_o ∙ by) in
+      let same_object : object ≡ scene = same_Some object scene (sym at_object ∙ ap (λ (x : OpenObject). slice_get s.objects x.object) own ∙ there) in
+      wrong (sym nameless ∙ ap (λ (x : Scene). slice_get x.guests.seats o.session) same_object ∙ ap (λ (x : OpenObject). slice_get scene.guests.seats x.session) own ∙ is.seat)
+    where
+      wrong : Some Nameless ≡ Some (Named p) → ⊥
+      wrong e = cc
+
+  ends_for : (place : ℕ) → DoneBy claims (EndsFor place)
+  ends_for place old new said added a (inl (again, is)) = goes claims place old new said added a (again_idle place old again) is
+  ends_for place old new said added a (inr (other, is)) = leaves place old new said added a is
+
+  ends_for_if : (place : ℕ) → DoneBy claims (EndsForIf place)
+  ends_for_if place old new said added a (inl (who, here, is)) = ends_for place old new said added a is
+  ends_for_if place old new said added a (inr (none, is)) = done_nothing claims old new said added a is
+
   all_leave : (n : ℕ) → DoneBy claims (AllLeave n)
   all_leave zero = done_nothing claims
-  all_leave (suc n) = done_then claims (AllLeave n) (LeavesIf n) (all_leave n) (leaves_if n)
+  all_leave (suc n) = done_then claims (AllLeave n) (EndsForIf n) (all_leave n) (ends_for_if n)
 
   pub noted : (note : Note) → DoneBy claims (Notes note)
   noted (notes.Joins who) old new said added a is = done_then claims (LeavesIf (place_of old who)) (Comes who) (leaves_if (place_of old who)) (comes who) old new said added a is

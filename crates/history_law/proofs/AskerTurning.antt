@@ -25,7 +25,7 @@ use Rattle.client_core.specs.Asked.{Goes}
 use Rattle.client_core.specs.Turns.HearsLine.{does, cancels, sees, puts_off, holds, refuses}
 use Rattle.client_core.specs.Turns.GoesOn.{rests, does as does_more}
 use Rattle.client_core.specs.Turns.EndsHeld.{all, quits, goes_on}
-use Rattle.client_core.specs.Turns.{HearsLine, HearsLast, HearsAt, TakesLine, GoesOn, EndsAsk, EndsHeld, Withdraws, WithdrawsAt, Leaves, LeavesIf, Comes, IfHere, AllLeave, Notes, place_of}
+use Rattle.client_core.specs.Turns.{HearsLine, HearsLast, HearsAt, TakesLine, GoesOn, EndsAsk, EndsHeld, Withdraws, WithdrawsAt, Leaves, LeavesIf, EndsFor, EndsForIf, Comes, IfHere, AllLeave, Notes, place_of}
 use Rattle.client_core.specs.Gone.{Settles}
 use Rattle.client_core.specs.Gone.Settles.{rests as settled, goes_on as settles_on, calls as calls_one, seats as seats_two, frees as frees_one}
 use Rattle.history_law.proofs.Plain.{refusal_plain, bye_plain}
@@ -242,9 +242,17 @@ module _ (heard : Lines) where
   did_if_here who deed each past old new said added a (inl (here, is)) = each (place_of old who) past old new said added a is
   did_if_here who deed each past old new said added a (inr (none, is)) = did_nothing heard past old new said added a is
 
+  did_ends_for : (place : ℕ) → DidBy heard (EndsFor place)
+  did_ends_for place past old new said added a (inl (again, is)) = did_leaves heard place past old new said added a is
+  did_ends_for place past old new said added a (inr (other, is)) = did_leave place past old new said added a is
+
+  did_ends_for_if : (place : ℕ) → DidBy heard (EndsForIf place)
+  did_ends_for_if place past old new said added a (inl (who, here, is)) = did_ends_for place past old new said added a is
+  did_ends_for_if place past old new said added a (inr (none, is)) = did_nothing heard past old new said added a is
+
   did_all_leave : (n : ℕ) → DidBy heard (AllLeave n)
   did_all_leave zero = did_nothing heard
-  did_all_leave (suc n) = did_then heard (AllLeave n) (LeavesIf n) (did_all_leave n) (did_leave_if n)
+  did_all_leave (suc n) = did_then heard (AllLeave n) (EndsForIf n) (did_all_leave n) (did_ends_for_if n)
 
   pub did_notes : (note : Note) → DidBy heard (Notes note)
   did_notes (notes.Joins who) past old new said added a is =

@@ -18,7 +18,7 @@ use Rattle.live_core.specs.Scene.{Scene}
 use Rattle.live_core.specs.HostedSteps.{IsFollowed}
 use Rattle.history_law.specs.Stands.{AreSeated}
 use Rattle.history_law.proofs.Seating.{seated_enters, seated_leaves, seated_number, seated_renewed}
-use Rattle.history_law.specs.Awaits.{IsIn}
+use Rattle.history_law.specs.Awaits.{IsElementOf}
 use Rattle.history_law.specs.Asked.{Claim, ClientHas, HasAskedFor, IsAskedOf, IsHere, IsKnown}
 use Rattle.history_law.proofs.Clients.{free_is, has_guest, has_other, has_seat, has_set, has_taken, nameless_is, one_client, session_at}
 
@@ -59,7 +59,7 @@ has_renewed : (Is : Guest → Type 0) (v : Guests) (s : ℕ) → ClientHas Is v 
 has_renewed Is v s (inl is) = inl (get_renewed v.seats s Nameless is)
 has_renewed Is v s (inr (p, g, is, ok)) = inr (p, g, record { seat = get_renewed v.seats s (Named p) is.seat; there = is.there }, ok)
 
-pub numbered_was : (n : ℕ) (cs : List Called) (d : Called) → IsIn d (numbered_from n cs) → (c : Called) × IsIn c cs × (c.session ≡ d.session)
+pub numbered_was : (n : ℕ) (cs : List Called) (d : Called) → IsElementOf d (numbered_from n cs) → (c : Called) × IsElementOf c cs × (c.session ≡ d.session)
 numbered_was n [] d is = absurd is
 numbered_was n (c ∷ cs) d (inl is) = (c, inl refl, ap (λ (x : Called). x.session) is)
 numbered_was n (c ∷ cs) d (inr is) = let on = numbered_was (n + 1) cs d is in (on.0, inr on.1, on.2)
@@ -187,7 +187,7 @@ module _ (claim : Claim) where
   pub record HasBegun (old new : Scene) : Type 1 where
     pub asked_of : IsAskedOf claim new
     pub here : (Is : List ℕ → Type 0) (s : ℕ) → ClientHas (IsHere Is) old.guests s → ClientHas (IsHere Is) new.guests s
-    pub waits : (d : Called) → IsIn d new.hall.waiting → (c : Called) × IsIn c old.hall.waiting × (c.session ≡ d.session)
+    pub waits : (d : Called) → IsElementOf d new.hall.waiting → (c : Called) × IsElementOf c old.hall.waiting × (c.session ≡ d.session)
     pub back : (s : ℕ) → slice_get new.guests.seats s ≡ Some Nameless → slice_get old.guests.seats s ≡ Some Nameless
 
   pub has_begun : (old new : Scene) (past : List PastEvent) → IsFollowed old past new → IsAskedOf claim old → HasBegun old new
@@ -199,6 +199,6 @@ module _ (claim : Claim) where
           (subst (λ (l : List Called). Every (IsKnown claim (record old.guests { seats = map renewed old.guests.seats })) l) (sym is.begun.waiting) (known_numbered old.guests 0 old.hall.waiting a.waits));
     };
     here = λ Is s has. subst (λ (v : Guests). ClientHas (IsHere Is) v s) (sym is.guests) (has_renewed (IsHere Is) old.guests s has);
-    waits = λ d at. numbered_was 0 old.hall.waiting d (subst (λ (l : List Called). IsIn d l) is.begun.waiting at);
+    waits = λ d at. numbered_was 0 old.hall.waiting d (subst (λ (l : List Called). IsElementOf d l) is.begun.waiting at);
     back = λ s at. nameless_before old.guests.seats s (subst (λ (v : Guests). slice_get v.seats s ≡ Some Nameless) is.guests at);
   }

@@ -22,7 +22,7 @@ use Rattle.history_law.proofs.KeptGoing.{objects_stand, crash_leaves_answered}
 use Rattle.history_law.proofs.TurnLiving.{turns_have_one_history}
 use Rattle.live_core.specs.declared.past.PastRun.{PastRun}
 use Rattle.history_law.specs.Played.{LeavesHeld}
-use Rattle.history_law.specs.Crashed.{IsHeldBehind, IsHeldAhead, CrashLeavesHeld, HasStarted, start_text}
+use Rattle.history_law.specs.Crashed.{IsHeldBehind, IsHeldAhead, CrashLeavesHeld, HasStartedAnew, start_text}
 use Rattle.history_law.specs.Ended.{HoldsBy}
 use Rattle.history_law.proofs.Playing.{next_leaves_held, start_leaves_held}
 use Rattle.history_law.proofs.HoldTurning.{turns_hold}
@@ -112,7 +112,7 @@ crash_leaves_held first limits seen found waits honest between = record {
         inr (ahead first l.last j o rules past (l.answered ++ l.later) l.runs s h text (found j) (subst (λ (x : List ℕ). Fronts l.last j x) same so.stands)
         (no_bytes (found j) since.0 (sym (ap (since_in j) so.just ∙ since_change j so.front so.before) ∙ since.1)))
 
-    from_start : (j : ℕ) (o : ObjectForm) (rules : RulesForm) (past : List Ended) (events : List PastRun) → j < limits.journals → front_in j seen ≡ None → (s : HasStarted first j o events) →
+    from_start : (j : ℕ) (o : ObjectForm) (rules : RulesForm) (past : List Ended) (events : List PastRun) → j < limits.journals → front_in j seen ≡ None → (s : HasStartedAnew first j o events) →
         (h : HoldsBy first j rules past) → HasBegun (rules_of Gives Fronts) l.last j seen (l.answered ++ l.later) → LeavesHeld first j o rules past (start_text rules s h.custody) (found j)
     from_start j o rules past events within none s h (inl agrees) =
         let so : BeginsNone j (l.answered ++ l.later) × (before_in j seen ≡ []) = subst (λ (x : Option (List ℕ)). Agrees j x (before_in j seen) (l.answered ++ l.later)) none agrees in

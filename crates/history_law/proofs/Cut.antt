@@ -2,7 +2,7 @@
 use Rattle.std.proofs.Common.{◌≡◌, ℕ, ◌≤◌, true, false, List, [], ◌∷◌, ◌++◌, length, take, drop, refl, sym, ap, ◌∙◌, subst, arith, zero, suc, append_assoc, length-append}
 use Rattle.std.specs.Str.Lines.{lines}
 use Rattle.std.proofs.lemmas.Option.{slice_get_within}
-use Rattle.keep_loop.specs.Journal.{recovered, AreLines, Begins, IsBetween}
+use Rattle.keep_loop.specs.Journal.{AreLines, Begins, IsBetween}
 use Rattle.history_law.specs.CrashLaws.{TellsParts, IsLeft}
 use Rattle.history_law.proofs.Texts.{lines_cut}
 use Rattle.path_tree.specs.Path.{Path}
@@ -116,13 +116,11 @@ legal_front o front text found more ends parts front_are begins found_are is leg
       omega (arith, tell_grows o mid (lines more) legal.heard split.2, legal.counted),
     )
 
-pub crashed : ((file : List ℕ) → AreLines (recovered file)) → (o : ObjectForm) (front stored text file : List ℕ) (ends : ℕ) → TellsParts o front → AreLines front → Begins front stored → AreLines stored →
-    IsLegalTrace o text ends → IsBetween stored text (recovered file)
-    → IsLeft o stored text ends (recovered file)
-crashed are o front stored text file ends parts front_are begins stored_are legal between =
-    let found = recovered file in
+pub crashed : (o : ObjectForm) (front stored text found : List ℕ) (ends : ℕ) → TellsParts o front → AreLines front → Begins front stored → AreLines stored →
+    IsLegalTrace o text ends → AreLines found → IsBetween stored text found → IsLeft o stored text ends found
+crashed o front stored text found ends parts front_are begins stored_are legal are between =
     let rest = between.all_stored in
     let on : Begins front found = (begins.0 ++ rest.0, rest.1 ∙ ap (λ (l : List ℕ). l ++ rest.0) begins.1 ∙ append_assoc front begins.0 rest.0) in
-    let whole = legal_front o front text found between.nothing_else.0 ends parts front_are on (are file) between.nothing_else.1 legal in
+    let whole = legal_front o front text found between.nothing_else.0 ends parts front_are on are between.nothing_else.1 legal in
     let kept = legal_front o front found stored rest.0 whole.0 parts front_are begins stored_are rest.1 whole.1 in
     record { between = between; left = whole.0; legal = whole.1; most = whole.2; kept = kept.0; was_legal = kept.1; least = kept.2 }

@@ -3,7 +3,6 @@ use Rattle.std.proofs.Common.{◌≡◌, inl, inr, ◌∙◌, ap, sym, subst, re
 use Rattle.std.specs.Prelude.{Option, Some, None, slice_get, slice_set}
 use Rattle.std.proofs.lemmas.Option.{slice_get_within}
 use Rattle.decl_core.specs.declared.object.Object.{Object}
-use Rattle.session_text.specs.Lines.{line_text}
 use Rattle.live_core.specs.Hall.{Every, Hall}
 use Rattle.audit_core.specs.Steps.{Step, ran}
 use Rattle.live_core.specs.Scene.{Scene, with_guests}
@@ -13,11 +12,12 @@ use Rattle.guest_core.specs.Guests.{Guests}
 use Rattle.history_law.specs.Happens.{all_happen}
 use Rattle.keep_loop.specs.Texts.{to}
 use Rattle.client_core.specs.Asked.{IsRefused}
+use Rattle.client_core.specs.Refusals.{refusal_text}
 use Rattle.client_core.specs.Deeds.{Texts, Deed, Nothing, OnlyTold, Then}
 use Rattle.client_core.specs.State.{Peer, State, one_text, told_to, who_in}
 use Rattle.history_law.specs.Said.{Account, AllWent, Went, SaysNoReply}
 use Rattle.history_law.proofs.Going.{all_more, all_alike, told_alike, get_at, no_account, both, went_none, went_then, at_one, went_one, went_quiet}
-use Rattle.history_law.proofs.Plain.{refusal_plain}
+use Rattle.history_law.proofs.Plain.{hinted_plain}
 use Rattle.history_law.specs.Answers.{IsTold, AllAlong}
 use Rattle.history_law.specs.Awaits.{Lines, HasAsked, waits_in, Awaits}
 use Rattle.history_law.proofs.Ends.{along_both, along_map}
@@ -196,7 +196,7 @@ module _ (heard : Lines) where
       did_along place text past old new said added a (plain_along heard old.objects no_account past (told_to old.peers place text) (plain_to old.peers place text none)) n
 
   pub did_refused : (place : ℕ) → DidBy heard (IsRefused place)
-  did_refused place past old new said added a (line, is, only) = did_only place (line_text line) (refusal_plain line is) past old new said added a only
+  did_refused place past old new said added a is = did_only place (refusal_text is.line is.hint) (hinted_plain is.line is.is is.hint) past old new said added a is.only
 
   -- one thing, and another behind it
   abbrev pub did_two : (past : Texts) (old mid new : State) (one two added further : Texts) → Did heard past old one added mid → Did heard (past ++ one) mid two further new → Did heard past old (one ++ two) (added ++ further) new

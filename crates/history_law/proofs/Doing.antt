@@ -31,13 +31,14 @@ use Rattle.client_core.specs.declared.client.OpenObject.{OpenObject}
 use Rattle.history_law.specs.Happens.{with_ran, all_happen}
 use Rattle.client_core.specs.State.{Peer, State, one_text, opened_at, told_to, who_in, session_by}
 use Rattle.client_core.specs.Deeds.{Texts, Deed, Nothing, OnlyTold, Then}
+use Rattle.client_core.specs.Refusals.{refusal_text}
 use Rattle.client_core.specs.Asked.{IsRefused, OpensBare, OpensAs, Opens, Ends, AllEnd, Submits, IsUnheld, GetsNumber, Sits, Calls, Repeats, RepeatsUnder, IsTurnedAway, AnswersCall, LetsGo, AnswersCancel, AnswersInside, LeavesObject, Goes, Quits, Acts, Heeds, keyed_text}
 use Rattle.client_core.specs.Custody.{not_held_text}
 use Rattle.client_core.specs.Gone.{CallsFor, SeatsOne, Frees}
 use Rattle.client_core.specs.ToldInside.{Sees, IsWhy, state_by, form_at, object_in}
 use Rattle.client_core.proofs.Doing.{ends_keeps, all_end_keeps, follows_keeps}
 use Rattle.history_law.specs.Said.{Account, AllWent, SaysNoReply, IsTrue, Says}
-use Rattle.history_law.proofs.Plain.{refusal_plain, opened_plain, accepted_plain, withdrawn_plain, cancelled_plain, bye_plain, waiting_plain, gone_plain, not_held_plain, why_plain, state_plain, who_plain, list_plain}
+use Rattle.history_law.proofs.Plain.{hinted_plain, refusal_plain, opened_plain, accepted_plain, withdrawn_plain, cancelled_plain, bye_plain, waiting_plain, gone_plain, not_held_plain, why_plain, state_plain, who_plain, list_plain}
 use Rattle.history_law.proofs.Going.{ran_more, all_alike, told_alike, no_account, both, went_none, went_then, at_one, at_own, went_one, went_quiet, true_before, true_behind, every_map, every_both}
 
 -- it says what happened
@@ -77,7 +78,7 @@ tells_only place text none old new said added n =
     (to_true (IsTrue old.objects no_account) old.peers place text (inr none))
 
 pub tells_refused : (place : ℕ) → TellsBy (IsRefused place)
-tells_refused place old new said added (line, is, only) = tells_only place (line_text line) (refusal_plain line is) old new said added only
+tells_refused place old new said added is = tells_only place (refusal_text is.line is.hint) (hinted_plain is.line is.is is.hint) old new said added is.only
 
 -- one thing, and another behind it
 pub tells_two : (old mid new : State) (one two added further : Texts) → Tells old one added mid → Tells mid two further new → Tells old (one ++ two) (added ++ further) new

@@ -17,12 +17,12 @@ use Rattle.client_core.specs.Asked as told
 use Rattle.client_core.specs.Asked.{AllEnd}
 use Rattle.client_core.specs.Deeds.{Texts}
 use Rattle.client_core.specs.State.{Peer, State, change, waiting, opened_in, who_in}
-use Rattle.history_law.specs.Awaits.{IsIn, Pool}
+use Rattle.history_law.specs.Awaits.{IsElementOf, Pool}
 use Rattle.history_law.proofs.Ends.{true_false}
 use Rattle.history_law.proofs.Lists.{calls_of}
 use Rattle.history_law.specs.Dealt.{Dealt, dealt_ends, ends_for, is_for}
 use Rattle.history_law.specs.TurnStands.{Stands, Wants}
-use Rattle.history_law.specs.Talk.{Line, Talk, Part, Wanted, Follows, line_in, text_in, end_in, texts_to}
+use Rattle.history_law.specs.Talk.{Line, Talk, Part, Wanted, Follows, line_in, text_of_part, end_in, texts_to}
 use Rattle.history_law.specs.Talk.Part.{Ends}
 use Rattle.history_law.specs.Talk.Talk.{Away, Here}
 use Rattle.history_law.proofs.OrderLists.{is_who, ran_ends, told_mine, told_other}
@@ -32,7 +32,7 @@ use Rattle.history_law.proofs.Voicing.{Deal, IsClose, Voice, ends_told, no_ends,
 -- a part by which a call that waits waits no more, and what is told of it
 pub record IsEnding (part : Wanted → Part) (text : ℕ → List ℕ) : Type 0 where
   pub follows : (w : Wanted) (held : List Line) → Follows (part w) (Here (Some w) held) (Here None held)
-  pub text_is : (w : Wanted) → text_in (part w) ≡ text w.number ∷ []
+  pub text_is : (w : Wanted) → text_of_part (part w) ≡ text w.number ∷ []
   pub line_is : (w : Wanted) → line_in (part w) ≡ []
 
 idle_now : (x : Option OpenObject) → waits_of (with_waits false x) ≡ false
@@ -138,7 +138,7 @@ at_dealt at object all old new said added is o j = by (at == j)
     by false = refl
 
 pub all_voice : (c n at : ℕ) (object : Scene) (all : List Ran) (objects : List Scene) (pool : Pool) (old new : State) (said added : Texts) (t : Talk) →
-    ((d : Called) → IsIn d (calls_of all) → pool at d) → Stands c n objects pool old.peers t → (is : AllEnd at object all old said added new) →
+    ((d : Called) → IsElementOf d (calls_of all) → pool at d) → Stands c n objects pool old.peers t → (is : AllEnd at object all old said added new) →
     Voice c (IsClose objects) (ends_told c (deal_at at (deal_all at object all old new said added is))) said (λ (now : Talk). Stands c n objects pool new.peers now) t []
 all_voice c n at object [] objects pool old new said added t each stands is =
     voiced_map c (IsClose objects) no_ends _ said said _ _ t [] (λ o j. by (at == j) o) refl (λ now is. is)

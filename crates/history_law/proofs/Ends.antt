@@ -14,7 +14,7 @@ use Rattle.client_core.specs.Held.{with_waits}
 use Rattle.client_core.specs.Asked.{Ends, AllEnd}
 use Rattle.client_core.specs.Deeds.{Texts}
 use Rattle.client_core.specs.State.{Peer, State, change, waiting, one_text, opened_in, who_in}
-use Rattle.history_law.specs.Awaits.{IsIn, Lines, HasAsked, Pool, IsSeated, AllSeated, AreAlone}
+use Rattle.history_law.specs.Awaits.{IsElementOf, Lines, HasAsked, Pool, IsSeated, AllSeated, AreAlone}
 use Rattle.history_law.specs.Answers.{AllAlong}
 use Rattle.history_law.proofs.Lists.{Apart, one_of_session, calls_of, changed_was, has_peer}
 use Rattle.history_law.proofs.Places.{all_past, alone_changed}
@@ -45,13 +45,13 @@ along_map T U past (s ∷ said) f (one, all) = (f past s.0 s.1 one, along_map T 
 
 -- these calls, and others
 abbrev pub with_ran : ℕ → List Ran → Pool → Pool
-with_ran at all base j d = ((j ≡ at) × IsIn d (calls_of all)) ⊎ base j d
+with_ran at all base j d = ((j ≡ at) × IsElementOf d (calls_of all)) ⊎ base j d
 
 module _ (heard : Lines) where
   -- what is told of the end of a call
   abbrev pub TellsEnd : Texts → Object → Called → ℕ → List ℕ → Texts → Type 0
   TellsEnd past object c number text said =
-      (said ≡ []) ⊎ ((who : ℕ) × (said ≡ (who, text) ∷ []) × HasAsked heard who object c × IsIn (who, accepted_text number) past)
+      (said ≡ []) ⊎ ((who : ℕ) × (said ≡ (who, text) ∷ []) × HasAsked heard who object c × IsElementOf (who, accepted_text number) past)
 
   -- who waits where fewer calls are there
   pub seated_pool : (past : Texts) (objects : List Scene) (was is : Pool) (p : Peer) →
@@ -106,7 +106,7 @@ module _ (heard : Lines) where
           a.here,
           e.told ∙ ap (λ (w : Option ℕ). one_text w text) (ap who_in peer.1 ∙ a.who_is),
           asked,
-          subst (λ n. IsIn (a.here, accepted_text n) past) is.told_is a.accepted,
+          subst (λ n. IsElementOf (a.here, accepted_text n) past) is.told_is a.accepted,
         ),
         subst (λ (ps : List Peer). AllSeated heard past old.objects rest ps) (sym left)
             (λ q p now. others q p (changed_was old.peers place (waiting false) q p now)),
@@ -173,8 +173,8 @@ module _ (heard : Lines) where
   -- of all that ran
   pub all_end : (T : Texts → ℕ → List ℕ → Type 0) (Run : Ran → Type 0) (at : ℕ) (object : Scene) (all : List Ran) (past : Texts) (base : Pool) (cs : List Called) (old new : State) (said added : Texts) →
       slice_get old.objects at ≡ Some object →
-      ((p : Texts) (who : ℕ) (r : Ran) → Run r → HasAsked heard who object.hall.object r.call → IsIn (who, accepted_text (told_of object r.call.number)) p →
-      T p who (ended_text (told_of object r.call.number) r.reply)) → Every Run all → Apart cs → ((d : Called) → with_ran at all base at d → IsIn d cs) →
+      ((p : Texts) (who : ℕ) (r : Ran) → Run r → HasAsked heard who object.hall.object r.call → IsElementOf (who, accepted_text (told_of object r.call.number)) p →
+      T p who (ended_text (told_of object r.call.number) r.reply)) → Every Run all → Apart cs → ((d : Called) → with_ran at all base at d → IsElementOf d cs) →
       AllSeated heard past old.objects (with_ran at all base) old.peers → AreAlone old.peers → AllEnd at object all old said added new →
       AllAlong T past said × AllSeated heard (past ++ said) old.objects base new.peers × AreAlone new.peers × (new.objects ≡ old.objects)
   all_end T Run at object [] past base cs old new said added there answer runs apart all_in seated alone n =

@@ -12,7 +12,7 @@ use Rattle.client_core.specs.declared.client.OpenObject.{OpenObject}
 use Rattle.client_core.specs.Asked.{AllEnd, Ends}
 use Rattle.client_core.specs.Deeds.{Texts}
 use Rattle.client_core.specs.State.{Peer, State, change, changed, opened_in, opening, waiting, who_in}
-use Rattle.history_law.specs.Awaits.{IsIn}
+use Rattle.history_law.specs.Awaits.{IsElementOf}
 use Rattle.history_law.proofs.Ends.{with_waits_some}
 use Rattle.history_law.proofs.Lists.{calls_of, changed_was, every_in, has_peer, set_was}
 use Rattle.history_law.specs.Asked.{Claims, ClientHas, HasAskedFor, IsAskedOf, IsHere, IsKnown}
@@ -26,7 +26,7 @@ none_some o is = cc
 
 -- no call of a session of the object at a place waits
 abbrev pub NoneAt : List Scene → ℕ → ℕ → Type 0
-NoneAt objects at session = (s : Scene) (c : Called) → slice_get objects at ≡ Some s → IsIn c s.hall.waiting → c.session ≢ session
+NoneAt objects at session = (s : Scene) (c : Called) → slice_get objects at ≡ Some s → IsElementOf c s.hall.waiting → c.session ≢ session
 
 -- one opens something
 opening_was : (peers : List Peer) (place : ℕ) (now : OpenObject) (q : ℕ) (o : OpenObject) → opened_in (slice_get (change peers place (opening now)) q) ≡ Some o →
@@ -60,7 +60,7 @@ module _ (claims : Claims) where
   -- one object goes on
   pub scene_asked : (objects : List Scene) (peers : List Peer) (at : ℕ) (s now : Scene) → slice_get objects at ≡ Some s → IsAskedOf (claims.called at) now →
       ((Is : List ℕ → Type 0) (place : ℕ) (o : OpenObject) → opened_in (slice_get peers place) ≡ Some o → o.object ≡ at → o.session ≢ 0 → ClientHas (IsHere Is) s.guests o.session → ClientHas (IsHere Is) now.guests o.session) →
-      ((place : ℕ) (o : OpenObject) (c : Called) → opened_in (slice_get peers place) ≡ Some o → o.object ≡ at → IsIn c now.hall.waiting → c.session ≡ o.session → slice_get now.guests.seats o.session ≡ Some Nameless →
+      ((place : ℕ) (o : OpenObject) (c : Called) → opened_in (slice_get peers place) ≡ Some o → o.object ≡ at → IsElementOf c now.hall.waiting → c.session ≡ o.session → slice_get now.guests.seats o.session ≡ Some Nameless →
       o.waits ≡ true) → AllAsked claims objects peers → AllAsked claims (slice_set objects at now) peers
   scene_asked objects peers at s now there is here waits a = record {
     asked = λ j x at_j. elim (set_was objects at j now x s there at_j) [
@@ -74,7 +74,7 @@ module _ (claims : Claims) where
     ];
     alone = a.alone;
     waits = λ place o x c by at_o wait same nameless. elim (set_was objects at o.object now x s there at_o) [
-      | inl own ↦ waits place o c by (sym own.0) (subst (λ (y : Scene). IsIn c y.hall.waiting) own.1 wait) same (subst (λ (y : Scene). slice_get y.guests.seats o.session ≡ Some Nameless) own.1 nameless)
+      | inl own ↦ waits place o c by (sym own.0) (subst (λ (y : Scene). IsElementOf c y.hall.waiting) own.1 wait) same (subst (λ (y : Scene). slice_get y.guests.seats o.session ≡ Some Nameless) own.1 nameless)
       | inr other ↦ a.waits place o x c by other.1 wait same nameless
     ];
   }
@@ -150,7 +150,7 @@ module _ (claims : Claims) where
   pub opens_asked : (objects : List Scene) (peers : List Peer) (place : ℕ) (now : OpenObject) (s : Scene) → slice_get objects now.object ≡ Some s →
       (now.session ≢ 0 → ClientHas (IsHere (OpenedAs claims (who_in (slice_get peers place)) now)) s.guests now.session) →
       ((q : ℕ) (u : OpenObject) → opened_in (slice_get peers q) ≡ Some u → now.session ≢ 0 → u.object ≡ now.object → u.session ≡ now.session → q ≡ place) →
-      ((c : Called) → IsIn c s.hall.waiting → c.session ≡ now.session → slice_get s.guests.seats now.session ≡ Some Nameless → now.waits ≡ true) → AllAsked claims objects peers →
+      ((c : Called) → IsElementOf c s.hall.waiting → c.session ≡ now.session → slice_get s.guests.seats now.session ≡ Some Nameless → now.waits ≡ true) → AllAsked claims objects peers →
       AllAsked claims objects (change peers place (opening now))
   opens_asked objects peers place now s there here alone waits a = record {
     asked = a.asked;
@@ -180,7 +180,7 @@ module _ (claims : Claims) where
       | inl own ↦
           let x_is : x ≡ s = same_Some x s (sym at ∙ ap (λ (y : OpenObject). slice_get objects y.object) own.1 ∙ there) in
           ap (λ (y : OpenObject). y.waits) own.1
-          ∙ waits c (subst (λ (y : Scene). IsIn c y.hall.waiting) x_is wait) (same ∙ ap (λ (y : OpenObject). y.session) own.1)
+          ∙ waits c (subst (λ (y : Scene). IsElementOf c y.hall.waiting) x_is wait) (same ∙ ap (λ (y : OpenObject). y.session) own.1)
           (subst (λ (y : OpenObject). slice_get s.guests.seats y.session ≡ Some Nameless) own.1 (subst (λ (y : Scene). slice_get y.guests.seats o.session ≡ Some Nameless) x_is nameless))
       | inr other ↦ a.waits q o x c other.1 at wait same nameless
     ];
@@ -219,7 +219,7 @@ module _ (claims : Claims) where
 
   -- a session leaves that nobody has
   pub left_asked : (objects : List Scene) (peers : List Peer) (at : ℕ) (s : Scene) (guests : Guests) (session : ℕ) → slice_get objects at ≡ Some s → HasLeft (claims.called at) s.guests guests session →
-      ((c : Called) → IsIn c s.hall.waiting → slice_get s.guests.seats session ≡ Some Nameless → c.session ≢ session) →
+      ((c : Called) → IsElementOf c s.hall.waiting → slice_get s.guests.seats session ≡ Some Nameless → c.session ≢ session) →
       ((q : ℕ) (o : OpenObject) → opened_in (slice_get peers q) ≡ Some o → o.object ≡ at → o.session ≢ 0 → o.session ≢ session) → AllAsked claims objects peers →
       AllAsked claims (slice_set objects at (with_guests s guests)) peers
   left_asked objects peers at s guests session there left idle apart a =
@@ -253,7 +253,7 @@ module _ (claims : Claims) where
   ends_asked at session number text old new said added (inr (nobody, n)) none a = same_asked old new (ap (λ (s : State). s.objects) n.left) (ap (λ (s : State). s.peers) n.left) a
 
   pub all_ends_asked : (at : ℕ) (object : Scene) (all : List Ran) (old new : State) (said added : Texts) → AllEnd at object all old said added new →
-      ((r : Called) → IsIn r (calls_of all) → NoneAt old.objects at r.session) → AllAsked claims old.objects old.peers → AllAsked claims new.objects new.peers
+      ((r : Called) → IsElementOf r (calls_of all) → NoneAt old.objects at r.session) → AllAsked claims old.objects old.peers → AllAsked claims new.objects new.peers
   all_ends_asked at object [] old new said added n none a = same_asked old new (ap (λ (s : State). s.objects) n.left) (ap (λ (s : State). s.peers) n.left) a
   all_ends_asked at object (r ∷ all) old new said added (mid, first, rest, told, one, more) none a =
       all_ends_asked at object all mid new rest added more

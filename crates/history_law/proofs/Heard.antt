@@ -15,8 +15,8 @@ use Rattle.keep_loop.specs.declared.served.LineEnd.TheVariants as ends
 use Rattle.keep_loop.specs.Cuts.{IsCut}
 use Rattle.client_core.specs.Deeds.{Texts}
 use Rattle.client_core.specs.State.{Peer, State, who_at, who_in}
-use Rattle.history_law.specs.Asker.{AreCut, HasSaid, end_by}
-use Rattle.history_law.specs.Awaits.{IsIn, Lines, SaidBy, HasOpened, HasAsked, AreHeard, Awaits}
+use Rattle.history_law.specs.Asker.{AreCut, HasSaid, end_of_asker}
+use Rattle.history_law.specs.Awaits.{IsElementOf, Lines, SaidBy, HasOpened, HasAsked, AreHeard, Awaits}
 use Rattle.history_law.proofs.Lines.{heard_map, heard_whole, said_map}
 use Rattle.history_law.proofs.Lists.{in_behind, in_front}
 use Rattle.history_law.proofs.AskerTurning.{IsHereAt}
@@ -81,7 +81,7 @@ heard_both who (t ∷ ts) us =
 pub said_more : (ts us : List Turn) (who : ℕ) (line : List ℕ) (b : Bool) → HasSaid ts who line b → HasSaid (ts ++ us) who line b
 said_more ts us who line b is = record {
   heard = is.heard;
-  is_heard = subst (λ (l : List (List ℕ × LineEnd)). IsIn (is.heard, end_by b) l) (sym (heard_both who ts us)) (in_front (is.heard, end_by b) (heard_of who ts) (heard_of who us) is.is_heard);
+  is_heard = subst (λ (l : List (List ℕ × LineEnd)). IsElementOf (is.heard, end_of_asker b) l) (sym (heard_both who ts us)) (in_front (is.heard, end_of_asker b) (heard_of who ts) (heard_of who us) is.is_heard);
   line_is = is.line_is;
 }
 
@@ -113,7 +113,7 @@ no_feed_input x y is = wrong (ap (λ (z : List ℕ × LineEnd). z.1) is)
     wrong e = cc
 
 -- behind a line without an LF there is none
-pub cut_last : (ended : ℕ) (came : List ℕ) (xs ys : List (List ℕ × LineEnd)) (line : List ℕ) (end : LineEnd) (earlier : List ℕ) → IsCut ended came (xs ++ (line, end) ∷ ys) → IsIn (earlier, ends.Input) xs → ⊥
+pub cut_last : (ended : ℕ) (came : List ℕ) (xs ys : List (List ℕ × LineEnd)) (line : List ℕ) (end : LineEnd) (earlier : List ℕ) → IsCut ended came (xs ++ (line, end) ∷ ys) → IsElementOf (earlier, ends.Input) xs → ⊥
 cut_last ended came [] ys line end earlier cuts is = is
 cut_last ended came ((x, ends.Feed) ∷ xs) ys line end earlier (free, (few, rest, cut, goes)) (inl is) = no_feed_input x earlier is
 cut_last ended came ((x, ends.Feed) ∷ xs) ys line end earlier (free, (few, rest, cut, goes)) (inr is) = cut_last ended rest xs ys line end earlier goes is
@@ -147,11 +147,11 @@ is_here_at before after t who line end past s place is cut a here = by end refl
     free : NoLineFeed (strip_carriage_return line)
     free = strip_no_feed line (cut_no_feed cuts.0 cuts.1 (heard_of who before) (heard_of who after) line end cuts.2)
 
-    said : (b : Bool) → end ≡ end_by b → HasSaid (before ++ t ∷ []) who (strip_carriage_return line) b
+    said : (b : Bool) → end ≡ end_of_asker b → HasSaid (before ++ t ∷ []) who (strip_carriage_return line) b
     said b ended = record {
       heard = line;
-      is_heard = subst (λ (l : List (List ℕ × LineEnd)). IsIn (line, end_by b) l) (sym (own_heard before [] t who line end is))
-          (in_behind (line, end_by b) (heard_of who before) ((line, end) ∷ []) (inl (ap (λ (e : LineEnd). (line, e)) ended)));
+      is_heard = subst (λ (l : List (List ℕ × LineEnd)). IsElementOf (line, end_of_asker b) l) (sym (own_heard before [] t who line end is))
+          (in_behind (line, end_of_asker b) (heard_of who before) ((line, end) ∷ []) (inl (ap (λ (e : LineEnd). (line, e)) ended)));
       line_is = refl;
     }
 

@@ -11,6 +11,7 @@ use Rattle.live_core.specs.Epochs.{numbered_from}
 use Rattle.live_core.specs.Hall.{Every}
 use Rattle.decl_core.specs.HoldForm.{RulesForm}
 use Rattle.guest_core.specs.Held.{HeldCall, MayUndo}
+use Rattle.guest_core.specs.declared.hold_ends.HoldEnds.TheVariants.{ByDone}
 use Rattle.guest_core.proofs.Given.{each_given_once, never_more_given}
 use Rattle.audit_core.specs.Steps.{Step, told_by, happened_of}
 use Rattle.live_core.specs.Scene.{Scene}
@@ -199,6 +200,6 @@ turns_give_once first last turns accounts j o rules past ends r apart s k over s
     let now = turns_keep_holds first last turns accounts j o rules past ends apart s k over in
     record {
       holds = record { custody = now.custody; there = now.there; rules_are = now.rules_are; are = now.keeps.are };
-      once = each_given_once rules.holds ends now.custody.held r strict now.keeps.are now.keeps.kept;
-      never_more = never_more_given rules.holds ends now.custody.held r strict now.keeps.are now.keeps.kept;
+      once = each_given_once ByDone rules.holds ends now.custody.held r strict now.keeps.are now.keeps.kept;
+      never_more = never_more_given ByDone rules.holds ends now.custody.held r strict now.keeps.are now.keeps.kept;
     }

@@ -22,7 +22,7 @@ use Rattle.live_core.specs.Calls.{IsAsked, AreRemembered, seat_of}
 use Rattle.live_core.specs.Fronts.{client_of as client_from}
 use Rattle.live_core.specs.Scene.{Scene, told_of}
 use Rattle.live_core.specs.HostedSteps as hosted
-use Rattle.history_law.specs.Keys.{epoch_began, name_came, call_ended, client_of, IsRemembered as IsKnown, all_told, oldest}
+use Rattle.history_law.specs.Keys.{epoch_began, name_came, call_ended, client_of, IsRememberedUnder as IsKnown, all_told, oldest}
 use Rattle.history_law.proofs.Counted.{Events, no_calls, nothing_told}
 use Rattle.history_law.proofs.Keyed.{keys_stand_once}
 use Rattle.history_law.proofs.Lasting.{repeats_stand}

@@ -35,7 +35,7 @@ use Rattle.client_core.proofs.Turning.{turns_move}
 use Rattle.table_core.specs.Moves.{Gives, Fronts}
 use Rattle.table_core.specs.Seen.{seen}
 use Rattle.table_core.specs.declared.table.Table.{Table}
-use Rattle.history_law.specs.Kept.{RunsAreSteps, Stood, ObjectsStand, IsServed, LinesAreRead, GoesOnBehind, NextIsServed, AreReadBehind, ReadsIn, IsReadAhead, IsFoundOf, CrashLeavesAnswered}
+use Rattle.history_law.specs.Kept.{RunsAreSteps, Stood, ObjectsStand, IsServed, LinesAreRead, GoesOnBehind, NextIsServed, AreReadBehind, ReadsInText, IsReadAhead, IsFoundOf, CrashLeavesAnswered}
 use Rattle.history_law.proofs.Empty.{no_bytes, no_lines, not_within, nothing_played, front_change, since_change}
 
 -- an object went by steps
@@ -292,7 +292,7 @@ module _ (first last : Table) (j : ℕ) (o : ObjectForm) (stood : Stood first j 
 
 reads_in : (first last : Table) (j : ℕ) (o : ObjectForm) → Stood first j o → (front : Option (List ℕ)) (before found : List ℕ) (answered later : List Turn) →
     Runs Gives first (answered ++ later) last → Agrees j front before (answered ++ later) →
-    Begins (added_by j answered) (before ++ found) → Begins (before ++ found) (added_by j (answered ++ later)) → ReadsIn first j o front answered later last found
+    Begins (added_by j answered) (before ++ found) → Begins (before ++ found) (added_by j (answered ++ later)) → ReadsInText first j o front answered later last found
 reads_in first last j o stood None before found answered later runs (none, nothing) all only =
     lines_are_read first last j answered later found runs
     (subst (λ (l : List ℕ). Begins (added_by j answered) (l ++ found)) nothing all)

@@ -22,12 +22,12 @@ use Rattle.live_core.specs.Scene.{Scene}
 use Rattle.history_law.specs.Stands.{AreSeated}
 use Rattle.history_law.proofs.Seating.{seated_keys, seated_remembered}
 use Rattle.history_law.proofs.Tables.{whose}
-use Rattle.history_law.specs.Awaits.{IsIn}
+use Rattle.history_law.specs.Awaits.{IsElementOf}
 use Rattle.history_law.proofs.Lists.{Apart, apart_more, between_in, calls_of, every_in, in_behind, settled_out}
 use Rattle.history_law.specs.Asked.{AreTheirOwn, Claim, ClientHas, HasAskedFor, IsAskedOf, IsHere, IsItsOwn, IsKnown}
 use Rattle.history_law.proofs.Clients.{has_set, has_small, nameless_is, one_client, session_at}
 
-pub all_in : {X : Type 0} (P : X → Type 0) (xs : List X) → ((x : X) → IsIn x xs → P x) → Every P xs
+pub all_in : {X : Type 0} (P : X → Type 0) (xs : List X) → ((x : X) → IsElementOf x xs → P x) → Every P xs
 all_in P [] f = tt
 all_in P (x ∷ xs) f = (f x (inl refl), all_in P xs (λ y is. f y (inr is)))
 
@@ -80,7 +80,7 @@ here_alike Is old new s a (inr (p, g, is, here)) =
     inr (p, now.0, record { seat = ap (λ (l : List SeatHolder). slice_get l s) a.seats ∙ is.seat; there = now.1 }, (now.2 ∙ here.0, subst Is (sym now.3) here.1))
 
 -- calls stand apart without one of them
-apart_without : (front behind : List Called) (x : Called) → Apart (front ++ x ∷ behind) → Apart (front ++ behind) × ((c : Called) → IsIn c (front ++ behind) → c.session ≢ x.session)
+apart_without : (front behind : List Called) (x : Called) → Apart (front ++ x ∷ behind) → Apart (front ++ behind) × ((c : Called) → IsElementOf c (front ++ behind) → c.session ≢ x.session)
 apart_without [] behind x apart = (apart.1, λ c is same. every_in (λ (d : Called). x.session ≢ d.session) behind c apart.0 is (sym same))
 apart_without (y ∷ front) behind x apart =
     let on = apart_without front behind x apart.1 in (
@@ -92,7 +92,7 @@ apart_without (y ∷ front) behind x apart =
       ],
     )
 
-joined_was : (xs : List Called) (c d : Called) → IsIn d (xs ++ c ∷ []) → IsIn d xs ⊎ (c ≡ d)
+joined_was : (xs : List Called) (c d : Called) → IsElementOf d (xs ++ c ∷ []) → IsElementOf d xs ⊎ (c ≡ d)
 joined_was [] c d (inl is) = inr is
 joined_was [] c d (inr is) = absurd is
 joined_was (x ∷ xs) c d (inl is) = inl (inl is)
@@ -152,12 +152,12 @@ module _ (claim : Claim) where
   -- calls ran, and these are left
   pub record HaveSettled (began : Guests) (s : Scene) (v : Guests) (all : List Ran) (new : Guests) (are : AreRemembered s v all new) (left : List Called) : Type 0 where
     pub own : AreTheirOwn claim began s v all new are
-    pub known : (c : Called) → IsIn c left → IsKnown claim new c
+    pub known : (c : Called) → IsElementOf c left → IsKnown claim new c
     pub alike : Alike began new
-    pub others : (r : Called) → IsIn r (calls_of all) → (c : Called) → IsIn c left → c.session ≢ r.session
+    pub others : (r : Called) → IsElementOf r (calls_of all) → (c : Called) → IsElementOf c left → c.session ≢ r.session
 
   have_settled : (o : ObjectForm) (t : Told) (waiting left : List Called) (all : List Ran) → Settles o t waiting all left → (began : Guests) (s : Scene) (v new : Guests) (are : AreRemembered s v all new) → AreSeated v →
-      Alike began v → Apart waiting → ((c : Called) → IsIn c waiting → IsKnown claim v c) → HaveSettled began s v all new are left
+      Alike began v → Apart waiting → ((c : Called) → IsElementOf c waiting → IsKnown claim v c) → HaveSettled began s v all new are left
   have_settled o t waiting left all (rests none) began s v new are seated a apart known = record {
     own = tt;
     known = λ c is. subst (λ (x : Guests). IsKnown claim x c) (sym are) (known c is);
@@ -187,8 +187,8 @@ module _ (claim : Claim) where
     pub asked_of : IsAskedOf claim new
     pub own : AreTheirOwn claim old.guests does.mid does.mid.guests a.ran.items new.guests does.remembered
     pub alike : Alike old.guests new.guests
-    pub waits : (d : Called) → IsIn d new.hall.waiting → IsIn d old.hall.waiting ⊎ (asked old.hall session operation arguments ≡ d)
-    pub others : (r : Called) → IsIn r (calls_of a.ran.items) → (c : Called) → IsIn c new.hall.waiting → c.session ≢ r.session
+    pub waits : (d : Called) → IsElementOf d new.hall.waiting → IsElementOf d old.hall.waiting ⊎ (asked old.hall session operation arguments ≡ d)
+    pub others : (r : Called) → IsElementOf r (calls_of a.ran.items) → (c : Called) → IsElementOf c new.hall.waiting → c.session ≢ r.session
 
   pub has_made : (old new : Scene) (session operation : ℕ) (arguments : List Datum) (a : Taken) (does : Does old session operation arguments a new) → IsAskedOf claim old → SomebodyHas old.guests session →
       TellsOf old.guests (asked old.hall session operation arguments) → HasMade old new session operation arguments a does
@@ -201,8 +201,8 @@ module _ (claim : Claim) where
     own = settled.own;
     alike = settled.alike;
     waits = λ d at. joined_was old.hall.waiting c d
-        (settled_out _ t (old.hall.waiting ++ c ∷ []) does.mid.hall.waiting a.ran.items (does.takes.settles t held).settles d (inr (subst (λ (h : Hall). IsIn d h.waiting) hall at)));
-    others = λ r ran d at. settled.others r ran d (subst (λ (h : Hall). IsIn d h.waiting) hall at);
+        (settled_out _ t (old.hall.waiting ++ c ∷ []) does.mid.hall.waiting a.ran.items (does.takes.settles t held).settles d (inr (subst (λ (h : Hall). IsElementOf d h.waiting) hall at)));
+    others = λ r ran d at. settled.others r ran d (subst (λ (h : Hall). IsElementOf d h.waiting) hall at);
   }
     where
       t : Told
@@ -220,7 +220,7 @@ module _ (claim : Claim) where
       seated : AreSeated does.mid.guests
       seated = seated_keys old.guests session _ does.mid.guests does.takes.asked_by is.seated
 
-      knows : (d : Called) → IsIn d (old.hall.waiting ++ c ∷ []) → IsKnown claim does.mid.guests d
+      knows : (d : Called) → IsElementOf d (old.hall.waiting ++ c ∷ []) → IsKnown claim does.mid.guests d
       knows d at = elim (joined_was old.hall.waiting c d at) [
         | inl was ↦ known_others old.guests session _ does.mid.guests d is.seated.sound does.takes.asked_by (every_in (λ (x : Called). x.session ≢ session) old.hall.waiting d does.takes.taken.free was)
             (every_in (IsKnown claim old.guests) old.hall.waiting d is.waits was)
@@ -237,7 +237,7 @@ module _ (claim : Claim) where
     pub own : IsItsOwn claim old.guests old.guests call
     pub asked_of : IsAskedOf claim new
     pub alike : Alike old.guests new.guests
-    pub waits : (d : Called) → IsIn d new.hall.waiting → IsIn d old.hall.waiting × (d.session ≢ session)
+    pub waits : (d : Called) → IsElementOf d new.hall.waiting → IsElementOf d old.hall.waiting × (d.session ≢ session)
 
   pub has_let_go : (old new : Scene) (session told : ℕ) (call : Called) → LetsGo old session told call new → IsAskedOf claim old → HasLetGo old new session call
   has_let_go old new session told call lets is =
@@ -245,13 +245,13 @@ module _ (claim : Claim) where
       let held = is.held.1 in
       let without = apart_without left.front left.behind call (subst Apart left.waited held.kept.one_each) in
       let hall : new.hall.waiting ≡ left.front ++ left.behind = ap (λ (h : Hall). h.waiting) left.left in
-      let other : (d : Called) → IsIn d (left.front ++ left.behind) → d.session ≢ session = λ d at same. without.1 d at (same ∙ sym lets.of) in
-      let still : (d : Called) → IsIn d (left.front ++ left.behind) → IsIn d old.hall.waiting =
-      λ d at. subst (λ (l : List Called). IsIn d l) (sym left.waited) (between_in left.front left.behind call d (inr at)) in
+      let other : (d : Called) → IsElementOf d (left.front ++ left.behind) → d.session ≢ session = λ d at same. without.1 d at (same ∙ sym lets.of) in
+      let still : (d : Called) → IsElementOf d (left.front ++ left.behind) → IsElementOf d old.hall.waiting =
+      λ d at. subst (λ (l : List Called). IsElementOf d l) (sym left.waited) (between_in left.front left.behind call d (inr at)) in
       record {
         own = its_own old.guests old.guests call is.seated (alike_same old.guests)
             (every_in (IsKnown claim old.guests) old.hall.waiting call is.waits
-            (subst (λ (l : List Called). IsIn call l) (sym left.waited) (in_behind call left.front (call ∷ left.behind) (inl refl))));
+            (subst (λ (l : List Called). IsElementOf call l) (sym left.waited) (in_behind call left.front (call ∷ left.behind) (inl refl))));
         asked_of = record {
           seated = seated_keys old.guests session _ new.guests lets.remembers is.seated;
           held = (is.held.0, lets.held is.held.0 held);
@@ -260,5 +260,5 @@ module _ (claim : Claim) where
               (λ d at. known_others old.guests session _ new.guests d is.seated.sound lets.remembers (other d at) (every_in (IsKnown claim old.guests) old.hall.waiting d is.waits (still d at))));
         };
         alike = alike_at old.guests old.guests session _ new.guests is.seated.sound lets.remembers (alike_same old.guests);
-        waits = λ d at. let here = subst (λ (l : List Called). IsIn d l) hall at in (still d here, other d here);
+        waits = λ d at. let here = subst (λ (l : List Called). IsElementOf d l) hall at in (still d here, other d here);
       }

@@ -22,15 +22,17 @@ use Rattle.client_core.specs.declared.ask.Ask.TheVariants as asks
 use Rattle.client_core.specs.declared.client.OpenObject.{OpenObject}
 use Rattle.client_core.specs.Held.{is_some, waits_of, with_waits}
 use Rattle.client_core.specs.Asked as told
-use Rattle.client_core.specs.Asked.{Goes, IsRefusal}
+use Rattle.client_core.specs.Asked.{Goes}
+use Rattle.client_core.specs.Refusals.{IsRefusal}
 use Rattle.client_core.specs.Deeds.{Texts, Nothing, OnlyTold, Then}
 use Rattle.client_core.specs.State.{Peer, State, change, comer, held_in, nobody, opened_at, opened_in, told_to, waiting, waits_at, who_at, who_in, with_object}
 use Rattle.client_core.specs.Turns.EndsHeld.{all, quits, goes_on}
-use Rattle.client_core.specs.Turns.{EndsAsk, EndsHeld, WithdrawsAt, Leaves, LeavesIf, Comes, IfHere, AllLeave, Notes, place_of}
-use Rattle.history_law.proofs.Plain.{bye_plain, refusal_plain}
-use Rattle.history_law.specs.Awaits.{Awaits, IsIn, Lines, waits_in}
+use Rattle.client_core.specs.Turns.{EndsAsk, EndsHeld, WithdrawsAt, Leaves, LeavesIf, AsksAgain, EndsFor, EndsForIf, Comes, IfHere, AllLeave, Notes, place_of}
+use Rattle.history_law.proofs.Plain.{bye_plain, plain_refusal, refusal_plain}
+use Rattle.history_law.specs.Awaits.{Awaits, IsElementOf, Lines, waits_in}
 use Rattle.history_law.proofs.Acting.{did_leaves}
 use Rattle.history_law.proofs.Deeds.{Did, did_nothing, did_two}
+use Rattle.history_law.proofs.Ends.{true_false}
 use Rattle.history_law.proofs.Lists.{between_in, change_at, changed_was, every_in, has_peer, one_of_session, same_or_not}
 use Rattle.history_law.proofs.AskerTurning.{did_comes, did_ends_ask, did_takes, did_withdraws_at}
 use Rattle.history_law.specs.TurnStands.{AreHeld, Stands, StandsIn}
@@ -72,7 +74,7 @@ ends_idle place (Ok (asks.Open name client)) old new said added is idle = only_i
 ends_idle place (Ok (asks.Call key name arguments)) old new said added is idle = only_idle place _ old new said added is idle
 ends_idle place (Ok (asks.Cancel number)) old new said added (inl is) idle = lets_idle place is.opened.object is.session is.number old new is.ended added is.lets_go idle
 ends_idle place (Ok (asks.Cancel number)) old new said added (inr (inl is)) idle = only_idle place _ old new said added is.only idle
-ends_idle place (Ok (asks.Cancel number)) old new said added (inr (inr (line, bad, only))) idle = only_idle place _ old new said added only idle
+ends_idle place (Ok (asks.Cancel number)) old new said added (inr (inr is)) idle = only_idle place _ old new said added is.only idle
 ends_idle place (Ok (asks.Inside sight)) old new said added is idle = only_idle place _ old new said added is idle
 ends_idle place (Ok asks.Quit) old new said added is idle = only_idle place _ old new said added is idle
 ends_idle place (Ok (asks.Answer refusal)) old new said added is idle = only_idle place _ old new said added is idle
@@ -109,11 +111,11 @@ module _ (heard : Lines) where
       refused asked line bad d to only = acted_only heard place (line_text line) asked past old new said added d (λ c here first asks_so. (asked, is_some (opened_at old place), asks_so, to c)) (plain_end (line_text line) (refusal_plain line bad)) only
 
       by : (asked : Result Ask AllocError) → EndsAsk place asked old said added new → Acted heard past place asked old said added new
-      by (Ok (asks.Open name client)) is = refused (Ok (asks.Open name client)) (lines.Refused refusals.Opened) tt (did_ends_ask heard place (Ok (asks.Open name client)) past old new said added a is) (λ c. inr (lines.Refused refusals.Opened, tt, refl)) is
+      by (Ok (asks.Open name client)) is = refused (Ok (asks.Open name client)) (lines.Refused refusals.Opened) tt (did_ends_ask heard place (Ok (asks.Open name client)) past old new said added a is) (λ c. inr (plain_refusal (lines.Refused refusals.Opened) tt)) is
       by (Ok (asks.Call key name arguments)) is =
           let d = did_ends_ask heard place (Ok (asks.Call key name arguments)) past old new said added a is in
           refused (Ok (asks.Call key name arguments)) (lines.Unsubmitted faults.Gone) tt d
-          (λ c. call_refused heard c old.objects d.account key name arguments (line_text (lines.Unsubmitted faults.Gone)) (lines.Unsubmitted faults.Gone, tt, refl)) is
+          (λ c. call_refused heard c old.objects d.account key name arguments (line_text (lines.Unsubmitted faults.Gone)) (plain_refusal (lines.Unsubmitted faults.Gone) tt)) is
       by (Ok (asks.Cancel number)) is =
           let d = did_ends_ask heard place (Ok (asks.Cancel number)) past old new said added a is in
           let Is : ℕ → Part → Type 0 = λ c. IsSo heard c false old.objects d.account in
@@ -124,7 +126,7 @@ module _ (heard : Lines) where
       by (Ok asks.Quit) is = acted_only heard place bye_text (Ok asks.Quit) past old new said added (did_ends_ask heard place (Ok asks.Quit) past old new said added a is)
           (λ c here first asks_so. (Ok asks.Quit, is_some (opened_at old place), asks_so, refl)) (plain_end bye_text bye_plain) is
       by (Ok (asks.Answer refusal)) is = refused (Ok (asks.Answer refusal)) (lines.Refused refusal) tt (did_ends_ask heard place (Ok (asks.Answer refusal)) past old new said added a is) (λ c. refl) is
-      by (Err e) is = refused (Err e) (lines.Unsubmitted faults.Gone) tt (did_ends_ask heard place (Err e) past old new said added a is) (λ c. (lines.Unsubmitted faults.Gone, tt, refl)) is
+      by (Err e) is = refused (Err e) (lines.Unsubmitted faults.Gone) tt (did_ends_ask heard place (Err e) past old new said added a is) (λ c. plain_refusal (lines.Unsubmitted faults.Gone) tt) is
 
   -- the held lines of one that leaves are answered, and it has gone
   parted : (place : ℕ) (past : Texts) (old mid new : State) (said added none lines_none : Texts) → Awaits heard past old.objects old.peers → waits_at old place ≡ false → EndsHeld place old said added mid →
@@ -227,8 +229,8 @@ module _ (heard : Lines) where
           let there = w.is_there in
           let scene : there.0 ≡ is.object = same_Some there.0 is.object (sym there.1 ∙ is.there) in
           let object : w.object ≡ is.object = same_Some w.object is.object (sym w.there ∙ is.there) in
-          let c_waits : IsIn c is.object.hall.waiting = subst (λ (cs : List Called). IsIn c cs) (sym behind.waited) (between_in behind.front behind.behind c c (inl refl)) in
-          let call : w.call ≡ c = one_of_session is.object.hall.waiting w.call c t.1.kept.one_each (subst (λ (s : Scene). IsIn w.call s.hall.waiting) scene there.2) c_waits (w.session_is ∙ sym gone.of) in
+          let c_waits : IsElementOf c is.object.hall.waiting = subst (λ (cs : List Called). IsElementOf c cs) (sym behind.waited) (between_in behind.front behind.behind c c (inl refl)) in
+          let call : w.call ≡ c = one_of_session is.object.hall.waiting w.call c t.1.kept.one_each (subst (λ (s : Scene). IsElementOf w.call s.hall.waiting) scene there.2) c_waits (w.session_is ∙ sym gone.of) in
           sym w.told_is ∙ ap (λ (s : Scene). told_of s w.call.number) object ∙ ap (λ (d : Called). told_of is.object d.number) call ∙ sym (is.cancels.told_is t.0 t.1)
 
       ended : told.Ends opened.object opened.session number (withdrawn_text number) (with_object old opened.object is.after) said [] new → waits_at new place ≡ false
@@ -262,13 +264,49 @@ module _ (heard : Lines) where
       spoke_as heard past old new said (is.said_first ++ is.said_then) added (is.added_first ++ is.added_then) is.told is.lines
       (spoke_two heard past old is.mid new is.said_first is.said_then is.added_first is.added_then one rest)
 
+  -- one goes whose call waits: it is told nothing more
+  spoke_again : (place : ℕ) (past : Texts) (old new : State) (said added : Texts) → Awaits heard past old.objects old.peers → AsksAgain old place → Goes place old said added new → Spoke heard past old said added new
+  spoke_again place past old new said added a again goes =
+      spoke_quiet heard past old new said added d (λ c n t s. by c n t s (is_who (who_at old place) c))
+    where
+      d : Did heard past old said added new
+      d = did_leaves heard place past old new said added a goes
+
+      by : (c n : ℕ) (t : Talk) → StandsIn c n old t → (who_at old place ≡ Some c) ⊎ (who_at old place ≡ Some c → ⊥) → Voice c (IsSo heard c false old.objects d.account) no_ends said (StandsIn c n new) t []
+      by c n t s (inr other) = voiced_none c (IsSo heard c false old.objects d.account) said (StandsIn c n new) t (ap (texts_to c) goes.0) (goes_other c n place old new said added t other goes s)
+      by c n t s (inl here) = let talk = here_talk c n place old t s here in own talk.0 talk.1 talk.2 (subst (λ (u : Talk). StandsIn c n old u) talk.2 s)
+        where
+          own : (waits : Option Wanted) (held : List Line) → t ≡ Here waits held → StandsIn c n old (Here waits held) → Voice c (IsSo heard c false old.objects d.account) no_ends said (StandsIn c n new) t []
+          own None held is s =
+              let seat = seat_of c n place old None held s here in
+              absurd (true_false again.0.waits again.2 (sym (ap waits_of again.1) ∙ ap (λ (x : Option Peer). waits_of (opened_in x)) seat.1 ∙ seat.4))
+          own (Some w) held is s =
+              subst (λ (u : Talk). Voice c (IsSo heard c false old.objects d.account) no_ends said (StandsIn c n new) u []) (sym is) (record {
+                parts = leaves_part ∷ [];
+                now = Away;
+                course = (Away, refl, refl);
+                stands = goes_away c n place old new said added (Here (Some w) held) here goes s;
+                heard = refl;
+                texts = sym (ap (texts_to c) goes.0);
+                all = (tt, tt);
+                ends_are = λ o j. refl;
+              })
+
+  spoke_ends_for : (place : ℕ) → SpokeBy heard (EndsFor place)
+  spoke_ends_for place past old new said added a (inl (again, is)) = spoke_again place past old new said added a again is
+  spoke_ends_for place past old new said added a (inr (other, is)) = spoke_leave place past old new said added a is
+
+  spoke_ends_for_if : (place : ℕ) → SpokeBy heard (EndsForIf place)
+  spoke_ends_for_if place past old new said added a (inl (who, here, is)) = spoke_ends_for place past old new said added a is
+  spoke_ends_for_if place past old new said added a (inr (none, is)) = spoke_nothing heard past old new said added a is
+
   pub spoke_leave_if : (place : ℕ) → SpokeBy heard (LeavesIf place)
   spoke_leave_if place past old new said added a (inl (who, here, is)) = spoke_leave place past old new said added a is
   spoke_leave_if place past old new said added a (inr (none, is)) = spoke_nothing heard past old new said added a is
 
   pub spoke_all_leave : (k : ℕ) → SpokeBy heard (AllLeave k)
   spoke_all_leave zero = spoke_nothing heard
-  spoke_all_leave (suc k) = spoke_then heard (AllLeave k) (LeavesIf k) (spoke_all_leave k) (spoke_leave_if k)
+  spoke_all_leave (suc k) = spoke_then heard (AllLeave k) (EndsForIf k) (spoke_all_leave k) (spoke_ends_for_if k)
 
   pub spoke_leaves : (who : ℕ) → SpokeBy heard (IfHere who Leaves)
   spoke_leaves who past old new said added a (inl (here, is)) = spoke_leave (place_of old who) past old new said added a is

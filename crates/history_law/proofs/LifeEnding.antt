@@ -13,6 +13,7 @@ use Rattle.live_core.specs.Hall as hall
 use Rattle.live_core.specs.Settles.{Settles, rests, runs, contents_of}
 use Rattle.live_core.specs.Front.{IsLong}
 use Rattle.live_core.specs.Front as front
+use Rattle.guest_core.specs.declared.hold_ends.HoldEnds.TheVariants.{ByDone}
 use Rattle.recover_core.specs.Laws.{AreEndings, HeldAreLines, IsEnding}
 use Rattle.history_law.specs.Ended.{ends_of}
 use Rattle.history_law.proofs.TurnHolding.{calls_end, ends_alike, ends_both, quiet_none}
@@ -162,4 +163,4 @@ turns_end_so first last (t ∷ turns) (a ∷ accounts) j o past ends k (mid, giv
     turn_ends (Changes journal text begins) says = subst (λ (l : List Step). AreEndings o (ends_of s l ++ past)) (sym (says.1 j)) are
 
 pub held_says_so : HeldAreLines → HeldSaysSo
-held_says_so law t j o rules past are h = law o rules.holds past h.custody.held are h.are
+held_says_so law t j o rules past are h = law ByDone o rules.holds past h.custody.held are h.are

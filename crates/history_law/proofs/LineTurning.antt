@@ -29,7 +29,7 @@ use Rattle.table_core.specs.Moves.{Gives}
 use Rattle.table_core.specs.Seen.{seen}
 use Rattle.table_core.specs.declared.table.Table.{Table}
 use Rattle.history_law.specs.Asker.{AreCut, HasSaid, said_by}
-use Rattle.history_law.specs.AskedLines.{CallsAreOfLines, CrashLeavesLines, HasOpenedAs, KeysAreOfLines, RepeatsAreOfLines, by_lines, rules_in}
+use Rattle.history_law.specs.AskedLines.{CallsAreOfLines, CrashLeavesLines, HasOpenedAs, KeysAreOfLines, RepeatsAreOfLines, by_lines, rules_in_custody}
 use Rattle.history_law.specs.Awaits.{Awaits, Lines}
 use Rattle.history_law.specs.Kept.{LeavesAnswered}
 use Rattle.history_law.specs.Turns.{AllAsked}
@@ -51,11 +51,11 @@ use Rattle.history_law.proofs.Repeating.{repeats_asked}
 use Rattle.history_law.proofs.Runs.{quiet_awaits, said_next, turned as turned_so, turns_on}
 
 -- what is held follows, and the rules stay
-behind_rules : (c d : Option Custody) (s : Scene) (ran : List _) → Behind c s ran d → rules_in d ≡ rules_in c
-behind_rules None d s ran is = ap rules_in is
-behind_rules (Some c) d s ran is = ap rules_in is.2
+behind_rules : (c d : Option Custody) (s : Scene) (ran : List _) → Behind c s ran d → rules_in_custody d ≡ rules_in_custody c
+behind_rules None d s ran is = ap rules_in_custody is
+behind_rules (Some c) d s ran is = ap rules_in_custody is.2
 
-passes_rules : (old new : Scene) (c d : Option Custody) (lines : List ℕ) → Passes old c lines new d → rules_in d ≡ rules_in c
+passes_rules : (old new : Scene) (c d : Option Custody) (lines : List ℕ) → Passes old c lines new d → rules_in_custody d ≡ rules_in_custody c
 passes_rules old new c d lines stays = refl
 passes_rules old new c d lines (quiet step is) = refl
 passes_rules old new c d lines (calls session operation arguments a does may behind) = behind_rules c d new a.ran.items behind
@@ -66,7 +66,7 @@ record SameAt (first s : State) (j : ℕ) (x : Scene) : Type 0 where
   was : Scene
   there : slice_get first.objects j ≡ Some was
   object : x.hall.object ≡ was.hall.object
-  rules : rules_in (slice_get s.custody j) ≡ rules_in (slice_get first.custody j)
+  rules : rules_in_custody (slice_get s.custody j) ≡ rules_in_custody (slice_get first.custody j)
 
 abbrev SameAs : State → State → Type 0
 SameAs first s = (j : ℕ) (x : Scene) → slice_get s.objects j ≡ Some x → SameAt first s j x
@@ -77,7 +77,7 @@ same_first s j x there = record { was = x; there = there; object = refl; rules =
 same_state : (first old new : State) → new.objects ≡ old.objects → new.custody ≡ old.custody → SameAs first old → SameAs first new
 same_state first old new objects custody same j x there =
     let s = same j x (ap (λ (l : List Scene). slice_get l j) (sym objects) ∙ there) in
-    record { was = s.was; there = s.there; object = s.object; rules = ap (λ (l : List Custody). rules_in (slice_get l j)) custody ∙ s.rules }
+    record { was = s.was; there = s.there; object = s.object; rules = ap (λ (l : List Custody). rules_in_custody (slice_get l j)) custody ∙ s.rules }
 
 same_step : (first old new : State) (added : Texts) (account : Account) → AllWent old.objects added account new.objects → ((j : ℕ) (s : Scene) → slice_get old.objects j ≡ Some s → PassesAt old j s added new) →
     SameAs first old → SameAs first new
@@ -89,7 +89,7 @@ same_step first old new added account went passes same j x there =
       was = s.was;
       there = s.there;
       object = all_object h.0 x (to j added) h.2.0 ∙ s.object;
-      rules = ap rules_in p.held_is ∙ passes_rules h.0 p.scene (slice_get old.custody j) p.held p.lines p.passes ∙ s.rules;
+      rules = ap rules_in_custody p.held_is ∙ passes_rules h.0 p.scene (slice_get old.custody j) p.held p.lines p.passes ∙ s.rules;
     }
 
 same_begins : (first old new : State) (journal : ℕ) (text : List ℕ) → BeginsHeld old journal text new → SameAs first old → SameAs first new
@@ -100,11 +100,11 @@ same_begins first old new journal text is same j x there = elim (set_was old.obj
         was = s.was;
         there = s.there;
         object = ap (λ (y : Scene). y.hall.object) own.1 ∙ is.begins.begun.followed.begun.object ∙ s.object;
-        rules = ap (λ (l : List Custody). rules_in (slice_get l j)) is.custody ∙ s.rules;
+        rules = ap (λ (l : List Custody). rules_in_custody (slice_get l j)) is.custody ∙ s.rules;
       }
   | inr other ↦
       let s = same j x other.1 in
-      record { was = s.was; there = s.there; object = s.object; rules = ap (λ (l : List Custody). rules_in (slice_get l j)) is.custody ∙ s.rules }
+      record { was = s.was; there = s.there; object = s.object; rules = ap (λ (l : List Custody). rules_in_custody (slice_get l j)) is.custody ∙ s.rules }
 ]
 
 -- these turns, up to one of them, behind a first table
@@ -189,7 +189,7 @@ module _ (first : Table) (whole : List Turn) (heard : Lines) (more : (who : ℕ)
           there = s.there;
           by = inr (record {
             custody = call.custody;
-            rules_are = sym s.rules ∙ ap rules_in call.has;
+            rules_are = sym s.rules ∙ ap rules_in_custody call.has;
             session = session;
             owed = subst (λ (o : Object). IsOwed (object_of o) call.custody session operation arguments) s.object call.owed;
           });

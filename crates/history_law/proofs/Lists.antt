@@ -12,23 +12,23 @@ use Rattle.live_core.specs.Settles.Settles.{rests, runs}
 use Rattle.live_core.specs.Scene.{Scene}
 use Rattle.client_core.specs.declared.client.OpenObject.{OpenObject}
 use Rattle.client_core.specs.State.{Peer, change, opened_in}
-use Rattle.history_law.specs.Awaits.{IsIn}
+use Rattle.history_law.specs.Awaits.{IsElementOf}
 
-pub in_front : {X : Type 0} (x : X) (xs ys : List X) → IsIn x xs → IsIn x (xs ++ ys)
+pub in_front : {X : Type 0} (x : X) (xs ys : List X) → IsElementOf x xs → IsElementOf x (xs ++ ys)
 in_front x [] ys is = absurd is
 in_front x (y ∷ xs) ys (inl is) = inl is
 in_front x (y ∷ xs) ys (inr is) = inr (in_front x xs ys is)
 
-pub in_behind : {X : Type 0} (x : X) (xs ys : List X) → IsIn x ys → IsIn x (xs ++ ys)
+pub in_behind : {X : Type 0} (x : X) (xs ys : List X) → IsElementOf x ys → IsElementOf x (xs ++ ys)
 in_behind x [] ys is = is
 in_behind x (y ∷ xs) ys is = inr (in_behind x xs ys is)
 
-pub in_at : {X : Type 0} (xs : List X) (k : ℕ) (x : X) → slice_get xs k ≡ Some x → IsIn x xs
+pub in_at : {X : Type 0} (xs : List X) (k : ℕ) (x : X) → slice_get xs k ≡ Some x → IsElementOf x xs
 in_at [] k x is = absurd (grind (arith, is))
 in_at (y ∷ xs) zero x is = inl (same_Some y x is)
 in_at (y ∷ xs) (suc k) x is = inr (in_at xs k x is)
 
-pub every_in : {X : Type 0} (P : X → Type 0) (xs : List X) (x : X) → Every P xs → IsIn x xs → P x
+pub every_in : {X : Type 0} (P : X → Type 0) (xs : List X) (x : X) → Every P xs → IsElementOf x xs → P x
 every_in P [] x all is = absurd is
 every_in P (y ∷ xs) x all (inl is) = subst P is all.0
 every_in P (y ∷ xs) x all (inr is) = every_in P xs x all.1 is
@@ -37,7 +37,7 @@ every_in P (y ∷ xs) x all (inr is) = every_in P xs x all.1 is
 abbrev pub Apart : List Called → Type 0
 Apart cs = EachPair (λ (c d : Called). c.session ≢ d.session) cs
 
-pub one_of_session : (cs : List Called) (c d : Called) → Apart cs → IsIn c cs → IsIn d cs → c.session ≡ d.session → c ≡ d
+pub one_of_session : (cs : List Called) (c d : Called) → Apart cs → IsElementOf c cs → IsElementOf d cs → c.session ≡ d.session → c ≡ d
 one_of_session [] c d apart is also same = absurd is
 one_of_session (x ∷ cs) c d apart (inl is) (inl also) same = sym is ∙ also
 one_of_session (x ∷ cs) c d apart (inl is) (inr also) same =
@@ -59,21 +59,21 @@ abbrev pub calls_of : List Ran → List Called
 calls_of all = map (λ (r : Ran). r.call) all
 
 abbrev RanOrLeft : List Ran → List Called → Called → Type 0
-RanOrLeft all left c = IsIn c (calls_of all) ⊎ IsIn c left
+RanOrLeft all left c = IsElementOf c (calls_of all) ⊎ IsElementOf c left
 
-pub left_out : (front behind : List Called) (x c : Called) → IsIn c (front ++ x ∷ behind) → (x ≡ c) ⊎ IsIn c (front ++ behind)
+pub left_out : (front behind : List Called) (x c : Called) → IsElementOf c (front ++ x ∷ behind) → (x ≡ c) ⊎ IsElementOf c (front ++ behind)
 left_out [] behind x c is = is
 left_out (y ∷ front) behind x c (inl is) = inr (inl is)
 left_out (y ∷ front) behind x c (inr is) = elim (left_out front behind x c is) [ inl a ↦ inl a | inr a ↦ inr (inr a) ]
 
-pub between_in : (front behind : List Called) (x c : Called) → (x ≡ c) ⊎ IsIn c (front ++ behind) → IsIn c (front ++ x ∷ behind)
+pub between_in : (front behind : List Called) (x c : Called) → (x ≡ c) ⊎ IsElementOf c (front ++ behind) → IsElementOf c (front ++ x ∷ behind)
 between_in [] behind x c is = is
 between_in (y ∷ front) behind x c (inl is) = inr (between_in front behind x c (inl is))
 between_in (y ∷ front) behind x c (inr (inl is)) = inl is
 between_in (y ∷ front) behind x c (inr (inr is)) = inr (between_in front behind x c (inr is))
 
 -- each that waited ran or is left, and nobody else
-pub settled_in : (o : ObjectForm) (t : Told) (waiting left : List Called) (all : List Ran) → Settles o t waiting all left → (c : Called) → IsIn c waiting → RanOrLeft all left c
+pub settled_in : (o : ObjectForm) (t : Told) (waiting left : List Called) (all : List Ran) → Settles o t waiting all left → (c : Called) → IsElementOf c waiting → RanOrLeft all left c
 settled_in o t waiting left all (rests none) c is = inr is
 settled_in o t waiting left all (runs front behind r more first reply fails goes) c is =
     elim (left_out front behind r.call c is) [
@@ -81,7 +81,7 @@ settled_in o t waiting left all (runs front behind r more first reply fails goes
       | inr other ↦ elim (settled_in o _ (front ++ behind) left more goes c other) [ inl a ↦ inl (inr a) | inr a ↦ inr a ]
     ]
 
-pub settled_out : (o : ObjectForm) (t : Told) (waiting left : List Called) (all : List Ran) → Settles o t waiting all left → (c : Called) → RanOrLeft all left c → IsIn c waiting
+pub settled_out : (o : ObjectForm) (t : Told) (waiting left : List Called) (all : List Ran) → Settles o t waiting all left → (c : Called) → RanOrLeft all left c → IsElementOf c waiting
 settled_out o t waiting left all (rests none) c (inl is) = absurd is
 settled_out o t waiting left all (rests none) c (inr is) = is
 settled_out o t waiting left all (runs front behind r more first reply fails goes) c (inl (inl is)) = between_in front behind r.call c (inl is)

@@ -33,7 +33,7 @@ use Rattle.history_law.specs.Said.{Account, AllWent}
 use Rattle.history_law.proofs.Going.{ran_more, at_one, at_own, told_alike, went_one}
 use Rattle.history_law.proofs.Plain.{accepted_plain, cancelled_plain, withdrawn_plain}
 use Rattle.history_law.specs.Answers.{IsTold}
-use Rattle.history_law.specs.Awaits.{IsIn, Lines, HasAsked, HasOpened, Pool, waits_in, IsOpenedBy, IsAwaited, IsSeated, AllSeated, AreAlone, AllHeld, Awaits}
+use Rattle.history_law.specs.Awaits.{IsElementOf, Lines, HasAsked, HasOpened, Pool, waits_in, IsOpenedBy, IsAwaited, IsSeated, AllSeated, AreAlone, AllHeld, Awaits}
 use Rattle.history_law.proofs.Deeds.{Did, DidBy, IsPlain, plain_to, did_as, did_before, did_goes, did_only, did_refused}
 use Rattle.history_law.proofs.Ends.{all_end, one_end, with_ran}
 use Rattle.history_law.proofs.Lists.{Apart, apart_more, between_in, calls_of, changed_was, every_in, has_peer, in_behind, in_front, left_out, one_of_session, set_at, settled_in, settled_out}
@@ -44,8 +44,8 @@ pub record HasDone (before after : Scene) (c : Called) (all : List Ran) : Type 0
   pub object : after.hall.object ≡ before.hall.object
   pub told : (n : ℕ) → told_of after n ≡ told_of before n
   pub apart : Apart (before.hall.waiting ++ c ∷ [])
-  pub ran_in : (d : Called) → IsIn d (before.hall.waiting ++ c ∷ []) → IsIn d (calls_of all) ⊎ IsIn d after.hall.waiting
-  pub ran_out : (d : Called) → IsIn d (calls_of all) ⊎ IsIn d after.hall.waiting → IsIn d (before.hall.waiting ++ c ∷ [])
+  pub ran_in : (d : Called) → IsElementOf d (before.hall.waiting ++ c ∷ []) → IsElementOf d (calls_of all) ⊎ IsElementOf d after.hall.waiting
+  pub ran_out : (d : Called) → IsElementOf d (calls_of all) ⊎ IsElementOf d after.hall.waiting → IsElementOf d (before.hall.waiting ++ c ∷ [])
   pub held : (t : Told) × IsHeld after.hall t
   pub free : IsFree before.hall c.session
 
@@ -63,10 +63,10 @@ has_done before after session operation arguments taken done (t, held) =
         base = ap (λ (s : Scene). s.base) done.left ∙ done.takes.tells.base;
       });
       apart = apart_more before.hall.waiting c held.kept.one_each done.takes.taken.free;
-      ran_in = λ d is. subst (λ (h : Hall). IsIn d (calls_of all) ⊎ IsIn d h.waiting) (sym hall)
+      ran_in = λ d is. subst (λ (h : Hall). IsElementOf d (calls_of all) ⊎ IsElementOf d h.waiting) (sym hall)
           (settled_in _ t (before.hall.waiting ++ c ∷ []) done.mid.hall.waiting all settles.settles d is);
       ran_out = λ d is. settled_out _ t (before.hall.waiting ++ c ∷ []) done.mid.hall.waiting all settles.settles d
-          (subst (λ (h : Hall). IsIn d (calls_of all) ⊎ IsIn d h.waiting) hall is);
+          (subst (λ (h : Hall). IsElementOf d (calls_of all) ⊎ IsElementOf d h.waiting) hall is);
       held = (with_all t all, subst (λ (h : Hall). IsHeld h (with_all t all)) (sym hall) (done.takes.held t held));
       free = done.takes.taken.free;
     }
@@ -131,7 +131,7 @@ module _ (heard : Lines) where
       )) (each_among items []) facts.apart
       (λ d is. elim is [
         | inl a ↦ facts.ran_out d (inl a.1)
-        | inr b ↦ facts.ran_out d (inr (subst (λ (s : Scene). IsIn d s.hall.waiting) (same_Some b.0 after (sym b.1 ∙ set_at old.objects at after before there)) b.2))
+        | inr b ↦ facts.ran_out d (inr (subst (λ (s : Scene). IsElementOf d s.hall.waiting) (same_Some b.0 after (sym b.1 ∙ set_at old.objects at after before there)) b.2))
       ])
       (subst (λ (l : List Scene). AllSeated heard (past ++ first) l (with_ran at items (waits_in made)) start.peers) (sym begins) seated) alone ends in
       let same : new.objects ≡ made = objects ∙ all.3 ∙ begins in
@@ -216,7 +216,7 @@ module _ (heard : Lines) where
         session_is = refl;
         told_is = ap (told_of is.after) (sym is.does.takes.number);
         asked = asks_for;
-        accepted = in_behind (m.who, text) past first (subst (λ (s : Texts). IsIn (m.who, text) s) (sym first_is) (inl refl));
+        accepted = in_behind (m.who, text) past first (subst (λ (s : Texts). IsElementOf (m.who, text) s) (sym first_is) (inl refl));
       } in
       runs_did past first old _ is.mid new at seat.session operation arguments is.before is.after is.taken is.there is.does facts refl a.held
       (all_changed heard (past ++ first) made pool old.peers place (opening now) seated
@@ -239,7 +239,7 @@ module _ (heard : Lines) where
           let w = (a.seated q peer.0 peer.1).waits u peer.2 waits in
           let there = w.is_there in
           let scene : there.0 ≡ is.before = same_Some there.0 is.before (sym there.1 ∙ ap (slice_get old.objects) object ∙ is.there) in
-          every_in (λ (d : Called). d.session ≢ seat.session) is.before.hall.waiting w.call free (subst (λ (s : Scene). IsIn w.call s.hall.waiting) scene there.2) (w.session_is ∙ session)
+          every_in (λ (d : Called). d.session ≢ seat.session) is.before.hall.waiting w.call free (subst (λ (s : Scene). IsElementOf w.call s.hall.waiting) scene there.2) (w.session_is ∙ session)
 
       -- what one has opened that waits there
       was_opened : (now : OpenObject) (q : ℕ) (o : OpenObject) → opened_in (slice_get (change old.peers place (opening now)) q) ≡ Some o →
@@ -281,17 +281,17 @@ module _ (heard : Lines) where
       stay_set old.objects at is.object is.after pool is.there object
       (λ d waits. (
         d,
-        elim (left_out behind.front behind.behind c d (subst (λ (cs : List Called). IsIn d cs) behind.waited waits)) [
+        elim (left_out behind.front behind.behind c d (subst (λ (cs : List Called). IsElementOf d cs) behind.waited waits)) [
           | inl x ↦ inl (refl, sym x)
-          | inr x ↦ inr (waits_here old.objects at is.object is.after d is.there (subst (λ (cs : List Called). IsIn d cs) (sym hall) x))
+          | inr x ↦ inr (waits_here old.objects at is.object is.after d is.there (subst (λ (cs : List Called). IsElementOf d cs) (sym hall) x))
         ],
         record { session = refl; operation = refl; arguments = refl; told = told d.number },
       ))
       (λ j d other waits. inr (waits_others old.objects at is.after j d other waits)) in
-      let waited : (d : Called) → pool at d → IsIn d is.object.hall.waiting = λ d x. subst (λ (cs : List Called). IsIn d cs) (sym behind.waited) (between_in behind.front behind.behind c d
+      let waited : (d : Called) → pool at d → IsElementOf d is.object.hall.waiting = λ d x. subst (λ (cs : List Called). IsElementOf d cs) (sym behind.waited) (between_in behind.front behind.behind c d
       (elim x [
         | inl y ↦ inl (sym y.1)
-        | inr y ↦ inr (subst (λ (cs : List Called). IsIn d cs) (ap (λ (s : Scene). s.hall.waiting) (same_Some y.0 is.after (sym y.1 ∙ set_at old.objects at is.after is.object is.there)) ∙ hall) y.2)
+        | inr y ↦ inr (subst (λ (cs : List Called). IsElementOf d cs) (ap (λ (s : Scene). s.hall.waiting) (same_Some y.0 is.after (sym y.1 ∙ set_at old.objects at is.after is.object is.there)) ∙ hall) y.2)
       ])) in
       let end = one_end heard past at is.after c pool rest session number (withdrawn_text number) (with_object old at is.after) new said []
       (set_at old.objects at is.after is.object is.there) gone.of (is.cancels.told_is t.0 t.1 ∙ sym (told c.number)) (λ j d x. x)

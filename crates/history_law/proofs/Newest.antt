@@ -7,7 +7,9 @@ use Rattle.apply_core.specs.declared.reply.Reply.{Reply}
 use Rattle.apply_core.specs.declared.reply.Reply.TheVariants.{Done, Refused, Failed}
 use Rattle.word_core.specs.Events.{Called}
 use Rattle.decl_core.specs.HoldForm.{HoldForm}
-use Rattle.guest_core.specs.Held.{HeldCall, Fits, NoneOwn, NoneFits, GivesOne, GivesBy, MayUndo, MayUndoBy, begun_by, begun, hold_ended, hold_of_op, is_loose}
+use Rattle.guest_core.specs.Held.{HeldCall, Fits, NoneOwn, NoneFits, GivesOne, GivesBy, MayUndo, MayUndoBy, begun_by, begun, ended_so, hold_ended, hold_of_op, is_loose}
+use Rattle.guest_core.specs.declared.hold_ends.HoldEnds.TheVariants.{ByDone}
+use Rattle.guest_core.proofs.Given.{may_so}
 use Rattle.guest_core.proofs.Newest.{undo_gives_newest}
 use Rattle.history_law.specs.Newest.{DueStays, DueGivesNewest}
 use Rattle.history_law.proofs.TurnKeeping.{at_place, every_here}
@@ -106,13 +108,16 @@ pub due_stays : DueStays
 due_stays o rules front behind c d hold past held left told reply k other due gives =
     let may : MayUndo rules.holds d.session d.operation d.arguments held =
     every_here (λ (x : Called). MayUndo rules.holds x.session x.operation x.arguments held) front behind d k.may in
-    let one = left_newest rules.holds (hold_ended rules.holds d.operation) d held left c.session due.place hold may gives other due.strict due.newest.own due.newest.there due.newest.newest in
+    let may_end = may_so ByDone rules.holds reply (hold_ended rules.holds d.operation) d.session d.arguments held may in
+    let one = left_newest rules.holds (ended_so ByDone reply (hold_ended rules.holds d.operation)) d held left c.session due.place hold may_end gives other due.strict due.newest.own due.newest.there due.newest.newest in
     let more : List HeldCall = begun rules.holds (record d { number = told }) reply in
     let all = newest_front c.session left more one.0 hold one.1 one.2 (begun_others (hold_of_op rules.holds d.operation) (record d { number = told }) reply c.session other) in
     record { place = one.0; newest = record { there = all.0; own = due.newest.own; newest = all.1 }; undo = due.undo; strict = due.strict }
 
 pub due_gives_newest : DueGivesNewest
-due_gives_newest o rules c hold held left apart due gives =
+due_gives_newest o rules c (Done d) hold held left apart due gives =
     let ends : hold_ended rules.holds c.operation ≡ Some hold.rule = apart.own hold.rule due.undo.ends.rule 0 c.operation due.undo.ends.held due.undo.ends.first in
     let mine : GivesOne (Fits hold.rule c.arguments) c.session held left = subst (λ (e : Option ℕ). GivesBy e c held left) ends gives in
     undo_gives_newest o rules.holds held left c.session due.place c.operation hold c.arguments due.newest due.undo mine
+due_gives_newest o rules c (Refused word) hold held left apart due gives = gives
+due_gives_newest o rules c (Failed failure) hold held left apart due gives = gives

@@ -5,6 +5,7 @@ use Rattle.std.proofs.lemmas.Option.{same_Some, slice_get_within}
 use Rattle.word_core.specs.Events.{Called, Happened, began, ended}
 use Rattle.live_core.specs.Hall.{Every}
 use Rattle.decl_core.specs.HoldForm.{HoldForm}
+use Rattle.guest_core.specs.declared.hold_ends.HoldEnds.TheVariants.{ByDone}
 use Rattle.guest_core.specs.Held.{MayUndo, KeepsHolds}
 use Rattle.audit_core.specs.Steps.{Step}
 use Rattle.live_core.specs.Scene.{Scene}
@@ -95,7 +96,7 @@ recovered_is_older first last turns accounts j o f past ends found lost served o
     )
 
 -- of an older part each call could be made that ended
-older_keeps : (holds : List HoldForm) (later past : List Happened) → KeepsHolds holds (later ++ past) → KeepsHolds holds past
+older_keeps : (holds : List HoldForm) (later past : List Happened) → KeepsHolds ByDone holds (later ++ past) → KeepsHolds ByDone holds past
 older_keeps holds [] past k = k
 older_keeps holds (began c ∷ later) past k = older_keeps holds later past k
 older_keeps holds (ended c reply ∷ later) past k = older_keeps holds later past k.0

@@ -20,10 +20,10 @@ use Rattle.client_core.specs.Deeds.{Texts, Nothing, OnlyTold}
 use Rattle.client_core.specs.Gone.{CallsFor}
 use Rattle.client_core.specs.State.{Peer, State, change, comer, counted, left_with, nobody, one_text, opened_at, opened_in, opening, told_to, waiting, who_at, who_in, with_object}
 use Rattle.client_core.specs.Turns.EndsHeld.{all, quits, goes_on}
-use Rattle.client_core.specs.Turns.{AllLeave, Comes, EndsAsk, EndsHeld, Leaves, LeavesIf, Notes, TakesLine, WithdrawsAt, place_of}
+use Rattle.client_core.specs.Turns.{AllLeave, Comes, EndsAsk, EndsForIf, EndsHeld, Leaves, LeavesIf, Notes, TakesLine, WithdrawsAt, place_of}
 use Rattle.keep_loop.specs.declared.served.Note.{Note}
 use Rattle.keep_loop.specs.declared.served.Note.TheVariants as notes
-use Rattle.history_law.specs.Awaits.{IsIn}
+use Rattle.history_law.specs.Awaits.{IsElementOf}
 use Rattle.history_law.specs.Talk.{texts_to}
 use Rattle.history_law.proofs.Going.{every_both, every_map}
 use Rattle.history_law.proofs.Lists.{IsChanged, change_at, changed_was, has_peer}
@@ -84,7 +84,7 @@ pub back_only : (place : ℕ) (text : List ℕ) (old new : State) (said added : 
 back_only place text old new said added is = back_same old new (ap (λ (s : State). s.peers) is.left)
 
 pub back_refused : (place : ℕ) (old new : State) (said added : Texts) → IsRefused place old said added new → Back old new
-back_refused place old new said added (line, bad, only) = back_same old new (ap (λ (s : State). s.peers) only.left)
+back_refused place old new said added is = back_same old new (ap (λ (s : State). s.peers) is.only.left)
 
 -- a call has ended
 was_open : (x : Option OpenObject) (o : OpenObject) → with_waits false x ≡ Some o → (u : OpenObject) × (x ≡ Some u) × (u.object ≡ o.object)
@@ -255,10 +255,15 @@ leave_if_back : (place : ℕ) (old new : State) (said added : Texts) → LeavesI
 leave_if_back place old new said added (inl (who, here, is)) = leaves_back place old new said added is
 leave_if_back place old new said added (inr (none, is)) = back_nothing old new said added is
 
+ends_for_back : (place : ℕ) (old new : State) (said added : Texts) → EndsForIf place old said added new → Back old new
+ends_for_back place old new said added (inl (who, here, inl (again, is))) = back_goes place old new said added is
+ends_for_back place old new said added (inl (who, here, inr (other, is))) = leaves_back place old new said added is
+ends_for_back place old new said added (inr (none, is)) = back_nothing old new said added is
+
 all_leave_back : (k : ℕ) (old new : State) (said added : Texts) → AllLeave k old said added new → Back old new
 all_leave_back zero old new said added is = back_nothing old new said added is
 all_leave_back (suc k) old new said added is =
-    back_two old is.mid new (all_leave_back k old is.mid is.said_first is.added_first is.one) (leave_if_back k is.mid new is.said_then is.added_then is.two)
+    back_two old is.mid new (all_leave_back k old is.mid is.said_first is.added_first is.one) (ends_for_back k is.mid new is.said_then is.added_then is.two)
 
 comes_back : (who : ℕ) (old new : State) (said added : Texts) → Comes who old said added new → Back old new
 comes_back who old new said added (none, added_none, left) =
@@ -297,9 +302,9 @@ all_has at object (r ∷ runs) old new said added (mid, first, rest, told_is, on
     (every_map (λ (s : ℕ × List ℕ). HasAt mid s.0 at) (λ (s : ℕ × List ℕ). HasAt old s.0 at) rest (λ s h. back_ends at _ _ _ old mid first [] one s.0 at h) (all_has at object runs mid new rest added more)))
 
 -- what is so of each that is told something
-pub told_has : (c : ℕ) (P : ℕ → Type 0) (said : Texts) → Every (λ (s : ℕ × List ℕ). P s.0) said → (x : List ℕ) → IsIn x (texts_to c said) → P c
+pub told_has : (c : ℕ) (P : ℕ → Type 0) (said : Texts) → Every (λ (s : ℕ × List ℕ). P s.0) said → (x : List ℕ) → IsElementOf x (texts_to c said) → P c
 told_has c P [] each x is = absurd is
 told_has c P (s ∷ said) (one, more) x is = elim (eqb_tells s.0 c) [
   | inl y ↦ subst P y.1 one
-  | inr y ↦ told_has c P said more x (subst (λ (b : Bool). IsIn x ((if b then s.1 ∷ [] else []) ++ texts_to c said)) y.0 is)
+  | inr y ↦ told_has c P said more x (subst (λ (b : Bool). IsElementOf x ((if b then s.1 ∷ [] else []) ++ texts_to c said)) y.0 is)
 ]

@@ -36,6 +36,7 @@ use Rattle.client_core.specs.declared.ask.Sight.TheVariants as insides
 use Rattle.client_core.specs.declared.client.OpenObject.{OpenObject}
 use Rattle.client_core.specs.Asks.{Asks, IsWide, TableDoes, asked_by}
 use Rattle.client_core.specs.Asked as told
+use Rattle.client_core.specs.Refusals.{refusal_text}
 use Rattle.client_core.specs.Asked.{AllEnd, AnswersCall, AnswersCancel, AnswersInside, Calls, Heeds, IsRefused, Opens as OpensOne, Repeats, Sits, keyed_text}
 use Rattle.client_core.specs.Custody.{not_held_text}
 use Rattle.client_core.specs.Deeds.{Texts, OnlyTold}
@@ -59,7 +60,7 @@ use Rattle.history_law.proofs.Doing.{to_true}
 use Rattle.history_law.proofs.Going.{every_both, every_map}
 use Rattle.history_law.proofs.Lists.{change_at, has_peer}
 use Rattle.history_law.proofs.OpenBack.{Back, HasAt, all_has, back_begun, back_call, back_cancel, back_goes, back_inside, back_makes, back_only, back_refused, begun, has_opened, sits_object, to_has}
-use Rattle.history_law.proofs.OpenParts.{AreCalm, AreQuiet, IsBusy, IsCalm, busy_in, calls_opens, calm_by, calm_ended, Fact, HasNone, IsOfIt, IsOpenFor, IsQuiet, Keeps, Knows, Names, Opens, OpensOn, Speaks, by_open, keeps_by, knows_any, knows_now, names_went, quiet_along, quiet_by, quiet_opens, quiet_refusal, quiet_to, texts_every}
+use Rattle.history_law.proofs.OpenParts.{AreCalm, AreQuiet, IsBusy, IsCalm, busy_in, calls_opens, calm_by, calm_ended, Fact, HasNone, IsOfIt, IsOpenFor, IsQuiet, Keeps, Knows, Names, Opens, OpensOn, Speaks, by_open, keeps_by, knows_any, knows_now, names_went, quiet_along, quiet_by, quiet_hinted, quiet_opens, quiet_refusal, quiet_to, texts_every}
 use Rattle.history_law.proofs.OrderDoing.{Acted, IsTurn, said_of}
 use Rattle.history_law.proofs.OrderLists.{told_mine, told_other}
 use Rattle.history_law.proofs.OrderStanding.{mine_is}
@@ -122,7 +123,7 @@ pub only_quiet : (place : ℕ) (text : List ℕ) (old new : State) (said added :
 only_quiet place text old new said added is only = subst AreQuiet (sym only.told) (quiet_to old.peers place text is)
 
 pub refused_quiet : (place : ℕ) (old new : State) (said added : Texts) → IsRefused place old said added new → AreQuiet said
-refused_quiet place old new said added (line, bad, only) = only_quiet place (line_text line) old new said added (quiet_refusal line bad) only
+refused_quiet place old new said added is = only_quiet place (refusal_text is.line is.hint) old new said added (quiet_hinted is.line is.is is.hint) is.only
 
 calls_calm : (place : ℕ) (key : Option ℕ) (name : List ℕ) (arguments : List Datum) (old new : State) (said added : Texts) → Calls place key name arguments old said added new → AreCalm said
 calls_calm place key name arguments old new said added is =
@@ -212,7 +213,7 @@ apart_by b text no_a no_b at = record {
   no_quit = λ is. no_b (sym (first_is 98 b _ at.0 (is ∙ at.1)));
 }
 
-record IsAnswered (heard : Lines) (c : ℕ) (objects : List Scene) (account : Account) (first : Line) (text : List ℕ) (now : Talk) (parts : List Part) : Type 0 where
+record IsAnsweredBetween (heard : Lines) (c : ℕ) (objects : List Scene) (account : Account) (first : Line) (text : List ℕ) (now : Talk) (parts : List Part) : Type 0 where
   rest : List Part
   parts_are : parts ≡ Answers first text ∷ rest
   mid : Talk
@@ -222,7 +223,7 @@ record IsAnswered (heard : Lines) (c : ℕ) (objects : List Scene) (account : Ac
   free : (had : Option Open) → IsBusy mid had
 
 answered : (heard : Lines) (c : ℕ) (objects : List Scene) (account : Account) (first : Line) (held : List Line) (text : List ℕ) (now : Talk) → IsApart text → (parts : List Part) → Course parts (Here None (first ∷ held)) now →
-    lines_of parts ≡ [] → texts_of parts ≡ text ∷ [] → Every (IsSo heard c false objects account) parts → IsAnswered heard c objects account first text now parts
+    lines_of parts ≡ [] → texts_of parts ≡ text ∷ [] → Every (IsSo heard c false objects account) parts → IsAnsweredBetween heard c objects account first text now parts
 answered heard c objects account first held text now apart [] course none texts all = absurd (no_text text [] texts)
 answered heard c objects account first held text now apart (Comes ∷ parts) (mid, is, course) none texts all = absurd is
 answered heard c objects account first held text now apart (Hears line end ∷ parts) (mid, is, course) none texts all = absurd (no_line none)

@@ -30,7 +30,7 @@ use Rattle.keep_loop.specs.declared.served.LineEnd.{LineEnd}
 use Rattle.client_core.specs.declared.ask.Ask.TheVariants as asks
 use Rattle.client_core.specs.declared.client.OpenObject.{OpenObject}
 use Rattle.client_core.specs.Asks.{Asks}
-use Rattle.client_core.specs.Asked.{IsRefusal}
+use Rattle.client_core.specs.Refusals.{IsRefusal, refusal_text}
 use Rattle.client_core.specs.Deeds.{Texts}
 use Rattle.client_core.specs.State.{Peer, State, opened_in, told_to, who_in}
 use Rattle.history_law.specs.Said.{Account, AllWent, SaysNoReply}
@@ -42,14 +42,14 @@ use Rattle.history_law.specs.Talk.{Line, Part, Talk, Wanted, Course, Follows, en
 use Rattle.history_law.specs.Talk.Part.{Comes, Hears, Between, Answers, Accepts, Ends, Withdraws, Quits, Leaves}
 use Rattle.history_law.specs.Talk.Talk.{Away, Here}
 use Rattle.history_law.specs.Turns.{AllAsked, OpenedAs}
-use Rattle.history_law.specs.Open.{IsBehind, IsRunOf, Open, OpensNothing}
+use Rattle.history_law.specs.Open.{IsBehind, IsRunOfOpen, Open, OpensNothing}
 use Rattle.history_law.proofs.AskedDoing.{Done}
 use Rattle.history_law.proofs.Deeds.{Did, all_object, was_at}
 use Rattle.history_law.proofs.Doing.{to_true}
 use Rattle.history_law.proofs.Going.{all_more, both, every_map}
 use Rattle.history_law.proofs.OpenBack.{Back, HasAt, told_has}
 use Rattle.history_law.proofs.OrderDoing.{repeated_end}
-use Rattle.history_law.proofs.Plain.{BeginsWith, refusal_plain}
+use Rattle.history_law.proofs.Plain.{BeginsWith, hinted_plain, refusal_plain}
 use Rattle.history_law.proofs.Voicing.{Deal, IsDealOf, IsSo, IsToldIn, SpokeAs, Voice, deal_both, ends_told, every_two, parts_told, so_come, voiced_so, voiced_two}
 
 -- what is known of who has opened something
@@ -189,6 +189,17 @@ quiet_refusal (lines.Withdrawn n) is = absurd is
 quiet_refusal (lines.Cancel n answer) is = absurd is
 quiet_refusal lines.Bye is = absurd is
 
+pub quiet_hinted : (line : Answer) → IsRefusal line → (hint : List ℕ) → IsQuiet (refusal_text line hint)
+quiet_hinted line is [] = quiet_refusal line is
+quiet_hinted (lines.Refused refusal) is (b ∷ hint) = quiet_by 110 (refusal_text (lines.Refused refusal) (b ∷ hint)) (λ e. omega (arith, e)) (λ e. omega (arith, e)) (_, refl) (hinted_plain (lines.Refused refusal) is (b ∷ hint))
+quiet_hinted (lines.Unsubmitted fault) is (b ∷ hint) = quiet_by 110 (refusal_text (lines.Unsubmitted fault) (b ∷ hint)) (λ e. omega (arith, e)) (λ e. omega (arith, e)) (_, refl) (hinted_plain (lines.Unsubmitted fault) is (b ∷ hint))
+quiet_hinted (lines.Unkeyed fault) is (b ∷ hint) = quiet_by 110 (refusal_text (lines.Unkeyed fault) (b ∷ hint)) (λ e. omega (arith, e)) (λ e. omega (arith, e)) (_, refl) (hinted_plain (lines.Unkeyed fault) is (b ∷ hint))
+quiet_hinted (lines.Accepted n) is (b ∷ hint) = absurd is
+quiet_hinted (lines.Kept n state) is (b ∷ hint) = absurd is
+quiet_hinted (lines.Withdrawn n) is (b ∷ hint) = absurd is
+quiet_hinted (lines.Cancel n answer) is (b ∷ hint) = absurd is
+quiet_hinted lines.Bye is (b ∷ hint) = absurd is
+
 ended_begins : (n : ℕ) (reply : Reply) → OpensNothing (ended_text n reply)
 ended_begins n (DoneBy None) = opens_none_by 100 (ended_text n (DoneBy None)) (λ e. omega (arith, e)) (_, refl)
 ended_begins n (DoneBy (Some x)) = opens_none_by 100 (ended_text n (DoneBy (Some x))) (λ e. omega (arith, e)) (_, refl)
@@ -250,7 +261,7 @@ Fact heard c objects account had (Hears line end) = Unit {0}
 Fact heard c objects account had (Between line end text) = Unit {0}
 Fact heard c objects account had (Answers line text) = (number : ℕ) (reply : Reply) → text ≡ repeated_text number reply → IsOfIt heard c objects account had line text
 Fact heard c objects account had (Accepts w) = IsSome had
-Fact heard c objects account had (Ends object w call reply) = (o : Open) × (had ≡ Some o) × IsRunOf objects object w call o
+Fact heard c objects account had (Ends object w call reply) = (o : Open) × (had ≡ Some o) × IsRunOfOpen objects object w call o
 Fact heard c objects account had (Withdraws w) = IsSome had
 Fact heard c objects account had (Quits line) = Unit {0}
 Fact heard c objects account had Leaves = Unit {0}
@@ -333,7 +344,7 @@ it_behind heard c a b added first more went had line text it =
     }
 
 -- an object keeps its name
-run_behind : (a b : List Scene) (added : Texts) (first : Account) → AllWent a added first b → (at : ℕ) (w : Wanted) (call : Called) (o : Open) → IsRunOf b at w call o → IsRunOf a at w call o
+run_behind : (a b : List Scene) (added : Texts) (first : Account) → AllWent a added first b → (at : ℕ) (w : Wanted) (call : Called) (o : Open) → IsRunOfOpen b at w call o → IsRunOfOpen a at w call o
 run_behind a b added first went at w call o r =
     let was = was_at a b added first at r.is.scene went r.is.there in
     let same : was.0.hall.object ≡ r.is.scene.hall.object = sym (all_object was.0 r.is.scene (to at added) was.2.0) in
@@ -487,7 +498,7 @@ module _ (heard : Lines) (c : ℕ) (come : Bool) (objects : List Scene) (account
   left_away Away mid is = absurd is
   left_away (Here None []) mid is = is
   left_away (Here None (l ∷ held)) mid is = absurd is
-  left_away (Here (Some w) held) mid is = absurd is
+  left_away (Here (Some w) held) mid is = is
 
   -- nothing is accepted, and no call ends, of one that does not stay
   void_closed : (names : Names) (had : Option Open) → come ≡ true → (p : Part) → IsClosed come names had p → IsClosed come names None p

@@ -19,7 +19,7 @@ use Rattle.client_core.specs.Gone.Settles.{rests as settled, goes_on as settles_
 use Rattle.client_core.specs.State.{Peer, State, comer, with_object}
 use Rattle.client_core.specs.Turns.EndsHeld.{all, quits, goes_on}
 use Rattle.client_core.specs.Turns.GoesOn.{rests, does as does_more}
-use Rattle.client_core.specs.Turns.{AllLeave, Comes, EndsAsk, EndsHeld, GoesOn, Leaves, LeavesIf, Notes, WithdrawsAt, place_of}
+use Rattle.client_core.specs.Turns.{AllLeave, Comes, EndsAsk, EndsForIf, EndsHeld, GoesOn, Leaves, LeavesIf, Notes, WithdrawsAt, place_of}
 use Rattle.history_law.specs.Awaits.{Awaits, Lines}
 use Rattle.history_law.specs.TurnStands.{StandsIn}
 use Rattle.history_law.specs.Talk.{Talk}
@@ -169,10 +169,15 @@ leave_if_quiet : (place : ℕ) (old new : State) (said added : Texts) → Leaves
 leave_if_quiet place old new said added (inl (who, here, is)) = leaves_quiet place old new said added is
 leave_if_quiet place old new said added (inr (none, is)) = none_quiet said is.told
 
+ends_for_quiet : (place : ℕ) (old new : State) (said added : Texts) → EndsForIf place old said added new → AreQuiet said
+ends_for_quiet place old new said added (inl (who, here, inl (again, is))) = none_quiet said is.0
+ends_for_quiet place old new said added (inl (who, here, inr (other, is))) = leaves_quiet place old new said added is
+ends_for_quiet place old new said added (inr (none, is)) = none_quiet said is.told
+
 all_leave_quiet : (k : ℕ) (old new : State) (said added : Texts) → AllLeave k old said added new → AreQuiet said
 all_leave_quiet zero old new said added is = none_quiet said is.told
 all_leave_quiet (suc k) old new said added is =
-    both_quiet said is.said_first is.said_then is.told (all_leave_quiet k old is.mid is.said_first is.added_first is.one) (leave_if_quiet k is.mid new is.said_then is.added_then is.two)
+    both_quiet said is.said_first is.said_then is.told (all_leave_quiet k old is.mid is.said_first is.added_first is.one) (ends_for_quiet k is.mid new is.said_then is.added_then is.two)
 
 notes_quiet : (note : Note) (old new : State) (said added : Texts) → Notes note old said added new → AreQuiet said
 notes_quiet (notes.Joins who) old new said added is =

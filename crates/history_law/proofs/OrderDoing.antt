@@ -16,7 +16,6 @@ use Rattle.word_core.specs.Events.{Called}
 use Rattle.word_core.specs.Text.{operation_name}
 use Rattle.guest_core.specs.declared.answer.SubmitFault.TheVariants as faults
 use Rattle.session_text.specs.declared.line.ReplyLine.TheVariants as lines
-use Rattle.session_text.specs.declared.line.ReplyLine.{ReplyLine as Answer}
 use Rattle.session_text.specs.Lines.{accepted_text, bye_text, line_text, opened_text, repeated_text}
 use Rattle.live_core.specs.Answers.{asked as asked_call}
 use Rattle.live_core.specs.Lines.{all_lines}
@@ -36,6 +35,7 @@ use Rattle.client_core.specs.Held.{is_some, waits_of}
 use Rattle.history_law.specs.Happens.{with_ran as behind_ran}
 use Rattle.keep_loop.specs.declared.served.LineEnd.{LineEnd}
 use Rattle.client_core.specs.Asked as told
+use Rattle.client_core.specs.Refusals.{IsRefusalText, refusal_text}
 use Rattle.client_core.specs.Asked.{OpensBare, OpensAs, Opens, GetsNumber, Sits, Calls, Submits, RepeatsUnder, AnswersCall, AnswersInside, LeavesObject, NoneLeaves, Goes, Quits, Acts, Heeds, keyed_text}
 use Rattle.client_core.specs.Custody.{not_held_text}
 use Rattle.client_core.specs.Deeds.{Texts, OnlyTold}
@@ -43,7 +43,7 @@ use Rattle.client_core.specs.Gone.{SeatsOne, Frees}
 use Rattle.client_core.specs.ToldInside.{IsWhy, state_by, form_at, object_in}
 use Rattle.client_core.specs.State.{Peer, State, change, changed, counted, nobody, opened_at, opened_in, opening, session_by, told_to, who_at, who_in}
 use Rattle.history_law.proofs.Going.{at_one, both}
-use Rattle.history_law.proofs.Plain.{refusal_plain, opened_plain, waiting_plain, gone_plain, not_held_plain, why_plain, state_plain, who_plain, list_plain}
+use Rattle.history_law.proofs.Plain.{hinted_plain, plain_refusal, refusal_of, refusal_plain, opened_plain, waiting_plain, gone_plain, not_held_plain, why_plain, state_plain, who_plain, list_plain}
 use Rattle.history_law.specs.Said.{Account, AllWent, SaysNoReply}
 use Rattle.history_law.specs.Awaits.{HasOpened, Lines, waits_in, Awaits}
 use Rattle.history_law.proofs.Acting.{HasSat, IsWished, IsWish, did_gets, did_inside, did_opens, did_quits, did_repeats, did_seats_one, did_frees, has_sat, idle_of}
@@ -52,7 +52,7 @@ use Rattle.history_law.proofs.Deeds.{Did, did_only, did_refused, did_two}
 use Rattle.history_law.proofs.Ends.{true_false, with_ran}
 use Rattle.history_law.proofs.Lists.{has_peer}
 use Rattle.history_law.proofs.Making.{HasDone, IsMade, did_cancel, did_submits, has_done}
-use Rattle.history_law.specs.Answered.{IsAnswerTo, IsRefusalText, IsSaidOf}
+use Rattle.history_law.specs.Answered.{IsAnswerTo, IsSaidOf}
 use Rattle.history_law.specs.TurnStands.{Stands, StandsIn}
 use Rattle.history_law.specs.Talk.{Line, Part, Talk, Wanted, IsNoEnd, texts_to}
 use Rattle.history_law.specs.Talk.Part.{Accepts as accepts_part, Answers as answers_part, Quits as quits_part}
@@ -247,9 +247,10 @@ why_none object number text (inr is) = subst SaysNoReply (sym is.text_is) (state
 
 pub inside_voice : (c n place : ℕ) (sight : Sight) (Is : Part → Type 0) (old new : State) (said added : Texts) (t : Talk) (lines : List (List ℕ × LineEnd)) (ok : List ℕ → Type 0) → Lead c n place old Is t lines ok →
     ((text : List ℕ) → SaysNoReply text → ok text) → AnswersInside place sight old said added new → Voice c Is no_ends said (StandsIn c n new) t lines
-inside_voice c n place sight Is old new said added t lines ok lead fits (inr (line, is, only)) =
-    let plain = refusal_plain line is in
-    only_voice c n place (line_text line) Is old new said added t lines ok lead (fits (line_text line) plain) (plain_end (line_text line) plain) only
+inside_voice c n place sight Is old new said added t lines ok lead fits (inr is) =
+    let text = refusal_text is.line is.hint in
+    let plain = hinted_plain is.line is.is is.hint in
+    only_voice c n place text Is old new said added t lines ok lead (fits text plain) (plain_end text plain) is.only
 inside_voice c n place (insides.Why number) Is old new said added t lines ok lead fits (inl (people, now, is)) =
     let plain = why_none is.object number is.text is.is in
     only_voice c n place is.text Is old new said added t lines ok lead (fits is.text plain) (plain_end is.text plain) is.only
@@ -295,14 +296,15 @@ module _ (heard : Lines) where
       ok : ℕ → List ℕ → Type 0
       ok c = IsReply c place old (Is c) asked
 
-      refused : (line : Answer) → told.IsRefusal line → OnlyTold place (line_text line) old said added new → (c n : ℕ) (t : Talk) → IsTurn c n place old asked t →
-          Voice c (Is c) no_ends said (StandsIn c n new) t []
-      refused line bad only c n t turn =
-          only_voice c n place (line_text line) (Is c) old new said added t [] (ok c) (lead_turn c n place old (Is c) asked t turn) (λ here first asks_so. (asked, is_some (opened_at old place), asks_so, inr (line, bad, refl))) (plain_end (line_text line) (refusal_plain line bad)) only
+      refused : told.IsRefused place old said added new → (c n : ℕ) (t : Talk) → IsTurn c n place old asked t → Voice c (Is c) no_ends said (StandsIn c n new) t []
+      refused is c n t turn =
+          let text = refusal_text is.line is.hint in
+          only_voice c n place text (Is c) old new said added t [] (ok c) (lead_turn c n place old (Is c) asked t turn) (λ here first asks_so. (asked, is_some (opened_at old place), asks_so, inr (refusal_of place old new said added is)))
+          (plain_end text (hinted_plain is.line is.is is.hint)) is.only
 
       voice : (client : Option (List ℕ)) → Opens place name client old said added new → (c n : ℕ) (t : Talk) → IsTurn c n place old asked t → Voice c (Is c) no_ends said (StandsIn c n new) t []
-      voice None (inr (line, bad, only)) = refused line bad only
-      voice (Some client) (inr (line, bad, only)) = refused line bad only
+      voice None (inr is) = refused is
+      voice (Some client) (inr is) = refused is
       voice None (inl is) = λ c n t turn.
           let now : OpenObject = record { object = is.at; session = 0; is_named = false; waits = false; calls = 0; told = 0 } in
           voiced_none_more c (Is c) (told_to old.peers place (opened_text name None)) said (StandsIn c n old) (StandsIn c n new) t [] (ap (texts_to c) (sym is.told))
@@ -501,12 +503,14 @@ module _ (heard : Lines) where
       (keyed_end is.keyed is.is_old) is.only
   acted_call place key name arguments past old new said added a w (inr (inr (inl is))) =
       let d = did_refused heard place past old new said added a is in
-      acted_only place (line_text is.0) (Ok (asks.Call key name arguments)) past old new said added d
-      (λ c here first asks_so. (Ok (asks.Call key name arguments), is_some (opened_at old place), asks_so, call_refused heard c old.objects d.account key name arguments (line_text is.0) (is.0, is.1, refl))) (plain_end (line_text is.0) (refusal_plain is.0 is.1)) is.2
+      let text = refusal_text is.line is.hint in
+      acted_only place text (Ok (asks.Call key name arguments)) past old new said added d
+      (λ c here first asks_so. (Ok (asks.Call key name arguments), is_some (opened_at old place), asks_so, call_refused heard c old.objects d.account key name arguments text (refusal_of place old new said added is))) (plain_end text (hinted_plain is.line is.is is.hint)) is.only
   acted_call place key name arguments past old new said added a w (inr (inr (inr (inl is)))) =
       let idle = idle_of heard (opened_at old place) is.opened is.by w.idle in
       let gone = did_gets heard place past old is.opened is.seat is.mid a is.by idle is.gets in
-      let line = is.refused.0 in
+      let why = is.refused in
+      let text = refusal_text why.line why.hint in
       let d = did_refused heard place (past ++ []) is.mid new said added gone.awaits is.refused in
       let who_same : who_at is.mid place ≡ who_at old place = whose old is.mid is.opened is.seat is.gets in
       let asked : Result Ask AllocError = Ok (asks.Call key name arguments) in
@@ -518,10 +522,10 @@ module _ (heard : Lines) where
         ends_where = λ c opened by o j. inl (none_both c gone.account (to_nobody d.account) o j (sym (none_for c d.account o j)));
         voice = λ c n t turn. voiced_from heard false c n old is.mid new said [] gone.account d.account (to_nobody d.account) t [] gone.went
             (voiced_quiet c d.account (Is c) said (StandsIn c n new) t []
-            (only_voice c n place (line_text line) (Is c) is.mid new said added t [] (IsReply c place old (Is c) asked)
+            (only_voice c n place text (Is c) is.mid new said added t [] (IsReply c place old (Is c) asked)
             (lead_on c n place old is.mid (Is c) asked t who_same (stands_gets c n place old is.mid is.opened is.seat is.by idle is.gets) turn)
-            (λ here first asks_so. (asked, is_some (opened_at old place), asks_so, call_refused heard c is.mid.objects d.account key name arguments (line_text line) (line, is.refused.1, refl)))
-            (plain_end (line_text line) (refusal_plain line is.refused.1)) is.refused.2));
+            (λ here first asks_so. (asked, is_some (opened_at old place), asks_so, call_refused heard c is.mid.objects d.account key name arguments text (refusal_of place is.mid new said added why)))
+            (plain_end text (hinted_plain why.line why.is why.hint)) why.only));
       }
     where
       whose : (old mid : State) (opened seat : OpenObject) → GetsNumber place old opened seat mid → who_at mid place ≡ who_at old place
@@ -582,7 +586,7 @@ module _ (heard : Lines) where
   acted_heeds place (Err e) past old new said added a w is =
       let text = line_text (lines.Unsubmitted faults.Memory) in
       acted_only place text (Err e) past old new said added (did_only heard place text (refusal_plain (lines.Unsubmitted faults.Memory) tt) past old new said added a is)
-      (λ c here first asks_so. (Err e, is_some (opened_at old place), asks_so, (lines.Unsubmitted faults.Memory, tt, refl)))
+      (λ c here first asks_so. (Err e, is_some (opened_at old place), asks_so, plain_refusal (lines.Unsubmitted faults.Memory) tt))
       (plain_end text (refusal_plain (lines.Unsubmitted faults.Memory) tt)) is
 
   pub spoke_seats_one : (at session : ℕ) → SpokeBy heard (SeatsOne at session)

@@ -14,7 +14,7 @@ use Rattle.keep_loop.specs.Texts.{to}
 use Rattle.keep_loop.specs.declared.served.LineEnd.{LineEnd}
 use Rattle.client_core.specs.Deeds.{Texts}
 use Rattle.client_core.specs.State.{Peer, one_text, told_to, who_in}
-use Rattle.history_law.specs.Talk.{Talk, Part, Wanted, Course, line_in, lines_of, text_in, texts_of, end_in, ends_of, IsWanted, IsKept, AllKept, ArePicked, put_together, texts_to}
+use Rattle.history_law.specs.Talk.{Talk, Part, Wanted, Course, line_in, lines_of, text_of_part, texts_of, end_in, ends_of, IsWanted, IsKept, AllKept, ArePicked, put_together, texts_to}
 use Rattle.history_law.specs.Talk.Part.{Comes, Hears, Between, Answers, Accepts, Ends, Withdraws, Quits, Leaves}
 
 pub course_both : (xs ys : List Part) (a b c : Talk) → Course xs a b → Course ys b c → Course (xs ++ ys) a c
@@ -27,7 +27,7 @@ lines_both (x ∷ xs) ys = ap (λ (l : List (List ℕ × LineEnd)). line_in x ++
 
 pub texts_both : (xs ys : List Part) → texts_of (xs ++ ys) ≡ texts_of xs ++ texts_of ys
 texts_both [] ys = refl
-texts_both (x ∷ xs) ys = ap (λ (l : List (List ℕ)). text_in x ++ l) (texts_both xs ys) ∙ sym (append_assoc (text_in x) (texts_of xs) (texts_of ys))
+texts_both (x ∷ xs) ys = ap (λ (l : List (List ℕ)). text_of_part x ++ l) (texts_both xs ys) ∙ sym (append_assoc (text_of_part x) (texts_of xs) (texts_of ys))
 
 pub ends_both : (o : ObjectForm) (j : ℕ) (xs ys : List Part) → ends_of o j (xs ++ ys) ≡ ends_of o j xs ++ ends_of o j ys
 ends_both o j [] ys = refl

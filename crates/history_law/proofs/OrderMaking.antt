@@ -12,7 +12,7 @@ use Rattle.word_core.specs.Events.{Called, history_of}
 use Rattle.word_core.specs.Text.{operation_name}
 use Rattle.word_core.specs.Answers.{cancelled_line}
 use Rattle.guest_core.specs.declared.answer.Cancelled.TheVariants as cancels_by
-use Rattle.session_text.specs.Lines.{cancel_name, line_text, withdrawn_text}
+use Rattle.session_text.specs.Lines.{cancel_name, withdrawn_text}
 use Rattle.live_core.specs.declared.call.Ran.{Ran}
 use Rattle.live_core.specs.Answers.{asked}
 use Rattle.live_core.specs.Hall.{Hall}
@@ -23,14 +23,15 @@ use Rattle.client_core.specs.declared.client.OpenObject.{OpenObject}
 use Rattle.history_law.specs.Happens.{with_ran as behind_ran}
 use Rattle.keep_loop.specs.declared.served.LineEnd.{LineEnd}
 use Rattle.client_core.specs.Asked as told
+use Rattle.client_core.specs.Refusals.{refusal_text}
 use Rattle.client_core.specs.Asked.{AllEnd, LetsGo, Submits}
 use Rattle.client_core.specs.Deeds.{Texts, OnlyTold}
 use Rattle.client_core.specs.Gone.{CallsFor}
 use Rattle.client_core.specs.State.{Peer, State, told_to, who_at, with_object}
 use Rattle.history_law.proofs.Going.{at_one}
-use Rattle.history_law.proofs.Plain.{cancelled_plain, refusal_plain}
+use Rattle.history_law.proofs.Plain.{cancelled_plain, hinted_plain, refusal_of}
 use Rattle.history_law.specs.Said.{Account, SaysNoReply}
-use Rattle.history_law.specs.Awaits.{IsIn, Lines, Pool, waits_in, Awaits}
+use Rattle.history_law.specs.Awaits.{IsElementOf, Lines, Pool, waits_in, Awaits}
 use Rattle.history_law.proofs.Deeds.{Did}
 use Rattle.history_law.proofs.Ends.{with_ran}
 use Rattle.history_law.proofs.Lists.{between_in, every_in, left_out, set_at, set_was}
@@ -86,18 +87,18 @@ module _ (objects : List Scene) (at : ℕ) (before after : Scene) (c : Called) (
   pool = with_ran at all (waits_in (slice_set objects at after))
 
   -- a call that ran, or is left, waited, or was made
-  pool_out : (j : ℕ) (d : Called) → pool j d → ((at ≡ j) × ((c ≡ d) ⊎ IsIn d before.hall.waiting)) ⊎ ((at ≢ j) × waits_in objects j d)
+  pool_out : (j : ℕ) (d : Called) → pool j d → ((at ≡ j) × ((c ≡ d) ⊎ IsElementOf d before.hall.waiting)) ⊎ ((at ≢ j) × waits_in objects j d)
   pool_out j d (inl (here, ran)) = inl (sym here, split (facts.ran_out d (inl ran)))
     where
-      split : IsIn d (before.hall.waiting ++ c ∷ []) → (c ≡ d) ⊎ IsIn d before.hall.waiting
-      split is = elim (left_out before.hall.waiting [] c d is) [ inl x ↦ inl x | inr x ↦ inr (subst (λ (l : List Called). IsIn d l) (append-nil before.hall.waiting) x) ]
+      split : IsElementOf d (before.hall.waiting ++ c ∷ []) → (c ≡ d) ⊎ IsElementOf d before.hall.waiting
+      split is = elim (left_out before.hall.waiting [] c d is) [ inl x ↦ inl x | inr x ↦ inr (subst (λ (l : List Called). IsElementOf d l) (append-nil before.hall.waiting) x) ]
   pool_out j d (inr (scene, here, waits)) = by (set_was objects at j after scene before there here)
     where
-      split : IsIn d (before.hall.waiting ++ c ∷ []) → (c ≡ d) ⊎ IsIn d before.hall.waiting
-      split is = elim (left_out before.hall.waiting [] c d is) [ inl x ↦ inl x | inr x ↦ inr (subst (λ (l : List Called). IsIn d l) (append-nil before.hall.waiting) x) ]
+      split : IsElementOf d (before.hall.waiting ++ c ∷ []) → (c ≡ d) ⊎ IsElementOf d before.hall.waiting
+      split is = elim (left_out before.hall.waiting [] c d is) [ inl x ↦ inl x | inr x ↦ inr (subst (λ (l : List Called). IsElementOf d l) (append-nil before.hall.waiting) x) ]
 
-      by : ((at ≡ j) × (scene ≡ after)) ⊎ ((at ≢ j) × (slice_get objects j ≡ Some scene)) → ((at ≡ j) × ((c ≡ d) ⊎ IsIn d before.hall.waiting)) ⊎ ((at ≢ j) × waits_in objects j d)
-      by (inl (same, is)) = inl (same, split (facts.ran_out d (inr (subst (λ (s : Scene). IsIn d s.hall.waiting) is waits))))
+      by : ((at ≡ j) × (scene ≡ after)) ⊎ ((at ≢ j) × (slice_get objects j ≡ Some scene)) → ((at ≡ j) × ((c ≡ d) ⊎ IsElementOf d before.hall.waiting)) ⊎ ((at ≢ j) × waits_in objects j d)
+      by (inl (same, is)) = inl (same, split (facts.ran_out d (inr (subst (λ (s : Scene). IsElementOf d s.hall.waiting) is waits))))
       by (inr (other, was)) = inr (other, (scene, was, waits))
 
   -- who waited waits so
@@ -112,7 +113,7 @@ module _ (objects : List Scene) (at : ℕ) (before after : Scene) (c : Called) (
           | inl new ↦ absurd (
               let was = mine.is_there in
               let scene : was.0 ≡ before = same_Some was.0 before (sym was.1 ∙ ap (slice_get objects) (sym x.0) ∙ there) in
-              every_in (λ (e : Called). e.session ≢ c.session) before.hall.waiting mine.call facts.free (subst (λ (z : Scene). IsIn mine.call z.hall.waiting) scene was.2)
+              every_in (λ (e : Called). e.session ≢ c.session) before.hall.waiting mine.call facts.free (subst (λ (z : Scene). IsElementOf mine.call z.hall.waiting) scene was.2)
               (mine.session_is ∙ sym session ∙ ap (λ (e : Called). e.session) (sym new)))
           | inr was ↦ wants d (before, ap (slice_get objects) (sym x.0) ∙ there, was) session
         ]
@@ -236,8 +237,8 @@ lets_voice heard past c n at session number come account old new said added t a 
     let behind = gone.left in
     let object : is.after.hall.object ≡ is.object.hall.object = ap (λ (h : Hall). h.object) behind.left in
     let hall : is.after.hall.waiting ≡ behind.front ++ behind.behind = ap (λ (h : Hall). h.waiting) behind.left in
-    let fewer : (d : Called) → IsIn d is.after.hall.waiting → IsIn d is.object.hall.waiting = λ d waits. subst (λ (cs : List Called). IsIn d cs) (sym behind.waited)
-    (between_in behind.front behind.behind is.cancels.call d (inr (subst (λ (cs : List Called). IsIn d cs) hall waits))) in
+    let fewer : (d : Called) → IsElementOf d is.after.hall.waiting → IsElementOf d is.object.hall.waiting = λ d waits. subst (λ (cs : List Called). IsElementOf d cs) (sym behind.waited)
+    (between_in behind.front behind.behind is.cancels.call d (inr (subst (λ (cs : List Called). IsElementOf d cs) hall waits))) in
     let stands : Stands c n made_now (waits_in made_now) old.peers t =
     stands_map c n old.objects made_now (waits_in old.objects) (waits_in made_now) old.peers t
     (λ p o w here by waits wants. wants_set old.objects at is.object is.after o w is.there object fewer wants) s in
@@ -270,5 +271,6 @@ cancel_voice heard past c n place number come account old new said added t lines
 cancel_voice heard past c n place number come account old new said added t lines ok a lead fits (inr (inl is)) =
     let text = cancelled_line number (cancel_name is.answer) in
     only_voice c n place text (IsSo heard c come old.objects account) old new said added t lines ok lead (fits text (inl (is.answer, refl))) (plain_end text (cancelled_plain number (cancel_name is.answer))) is.only
-cancel_voice heard past c n place number come account old new said added t lines ok a lead fits (inr (inr (line, is, only))) =
-    only_voice c n place (line_text line) (IsSo heard c come old.objects account) old new said added t lines ok lead (fits (line_text line) (inr (line, is, refl))) (plain_end (line_text line) (refusal_plain line is)) only
+cancel_voice heard past c n place number come account old new said added t lines ok a lead fits (inr (inr is)) =
+    let text = refusal_text is.line is.hint in
+    only_voice c n place text (IsSo heard c come old.objects account) old new said added t lines ok lead (fits text (inr (refusal_of place old new said added is))) (plain_end text (hinted_plain is.line is.is is.hint)) is.only

@@ -36,7 +36,7 @@ use Rattle.history_law.specs.Replied.{AreTold, ends_in}
 use Rattle.history_law.proofs.KeptGoing.{crash_leaves_answered}
 use Rattle.history_law.proofs.TurnLiving.{lives_on}
 use Rattle.history_law.specs.Asker.{AreCut, HasSaid, said_by}
-use Rattle.history_law.specs.Awaits.{AllHeld, AreHeard, Awaits, IsIn, Lines, SaidBy, waits_in}
+use Rattle.history_law.specs.Awaits.{AllHeld, AreHeard, Awaits, IsElementOf, Lines, SaidBy, waits_in}
 use Rattle.history_law.proofs.TurnBeginning.{begins_awaits}
 use Rattle.history_law.proofs.Deeds.{Did, did_nothing, did_two, same_awaits}
 use Rattle.history_law.proofs.Heard.{awaits_lines, cut_last, is_here_at, own_heard, said_more}
@@ -62,7 +62,7 @@ use Rattle.history_law.proofs.AskedTurning.{begins}
 use Rattle.history_law.proofs.OpenBack.{back_nothing, back_same}
 use Rattle.history_law.proofs.OpenParts.{AreNames, AreQuiet, IsSome, busy_in, Fact, IsOfIt, IsQuiet, Knows, Names, OpensOn, Speaks, along_both, along_map, along_told, by_open, keeps_by, quiet_opens, speaks_come, speaks_like, speaks_two, texts_every}
 use Rattle.history_law.proofs.OpenSettling.{SpeaksOn, speaks_both, speaks_notes, speaks_settles}
-use Rattle.history_law.specs.Open.{IsRunOf, Open}
+use Rattle.history_law.specs.Open.{IsRunOfOpen, Open}
 use Rattle.history_law.proofs.OrderStanding.{same_moves, same_set, stands_map, wanted_same}
 use Rattle.history_law.proofs.Voicing.{Deal, IsDealOf, IsSo, IsToldIn, Voice, deal_both, deal_of_both, dealt_both, ends_told, for_both, moves_back, no_deal, no_ends, nobody_deal, parts_told, picked_for, to_nobody, voiced_both, voiced_map, voiced_none, voiced_quiet, voiced_so, voiced_told}
 
@@ -163,15 +163,15 @@ record Turned (heard : Lines) (past : Texts) (old : State) (asked : Asked) (said
   speaks : (c n : ℕ) (t : Talk) → StandsIn c n old t → Speaks heard (joins c asked) c n old new account (ends_told c deal) said t (line_from c asked)
 
 -- a call that is numbered anew waited before
-numbered_back : (n : ℕ) (cs : List Called) (d : Called) → IsIn d (numbered_from n cs) → (c : Called) × IsIn c cs × (d.session ≡ c.session) × (d.operation ≡ c.operation) × (d.arguments ≡ c.arguments)
+numbered_back : (n : ℕ) (cs : List Called) (d : Called) → IsElementOf d (numbered_from n cs) → (c : Called) × IsElementOf c cs × (d.session ≡ c.session) × (d.operation ≡ c.operation) × (d.arguments ≡ c.arguments)
 numbered_back n [] d is = absurd is
 numbered_back n (c ∷ cs) d (inl is) =
     (c, inl refl, ap (λ (x : Called). x.session) (sym is), ap (λ (x : Called). x.operation) (sym is), ap (λ (x : Called). x.arguments) (sym is))
 numbered_back n (c ∷ cs) d (inr is) = let on = numbered_back (n + 1) cs d is in (on.0, inr on.1, on.2, on.3, on.4)
 
-followed_back : (old new : Scene) (past : List _) → IsFollowed old past new → (d : Called) → IsIn d new.hall.waiting →
-    (c : Called) × IsIn c old.hall.waiting × (d.session ≡ c.session) × (d.operation ≡ c.operation) × (d.arguments ≡ c.arguments)
-followed_back old new past is d waits = numbered_back 0 old.hall.waiting d (subst (λ (cs : List Called). IsIn d cs) is.begun.waiting waits)
+followed_back : (old new : Scene) (past : List _) → IsFollowed old past new → (d : Called) → IsElementOf d new.hall.waiting →
+    (c : Called) × IsElementOf c old.hall.waiting × (d.session ≡ c.session) × (d.operation ≡ c.operation) × (d.arguments ≡ c.arguments)
+followed_back old new past is d waits = numbered_back 0 old.hall.waiting d (subst (λ (cs : List Called). IsElementOf d cs) is.begun.waiting waits)
 
 -- where an object begins its next epoch nothing is told
 begins_stands : (c n journal : ℕ) (text : List ℕ) (old new : State) (t : Talk) → BeginsHeld old journal text new → StandsIn c n old t → StandsIn c n new t
@@ -192,7 +192,7 @@ begins_stands c n journal text old new t is s =
 
         by : ((journal ≡ o.object) × (scene ≡ is.begins.after)) ⊎ ((journal ≢ o.object) × (slice_get old.objects o.object ≡ Some scene)) → IsWanted (slice_set old.objects journal is.begins.after) o.object w call
         by (inl (same, now)) =
-            let was = followed_back is.begins.before is.begins.after is.begins.after.past is.begins.begun.followed call (subst (λ (x : Scene). IsIn call x.hall.waiting) now waits) in
+            let was = followed_back is.begins.before is.begins.after is.begins.after.past is.begins.begun.followed call (subst (λ (x : Scene). IsElementOf call x.hall.waiting) now waits) in
             moves o.object w call (wanted_same old.objects o.object w was.0 call was.3 was.4
             (wants was.0 (is.begins.before, ap (slice_get old.objects) (sym same) ∙ is.begins.there, was.1) (sym was.2 ∙ session)))
         by (inr (other, was)) = moves o.object w call (wants call (scene, was, waits) session)
@@ -294,7 +294,7 @@ pub record Meant (past : List Turn) (first : Table) (turns : List Turn) (account
   pub turn : Turn
   pub after : List Turn
   pub cut : turns ≡ before ++ turn ∷ after
-  pub told : IsIn text (texts_to c turn.said)
+  pub told : IsElementOf text (texts_to c turn.said)
   pub sooner : List Account
   pub account : Account
   pub later : List Account
@@ -356,7 +356,7 @@ pub record MeantOpen (past : List Turn) (first : Table) (turns : List Turn) (acc
   pub turn : Turn
   pub after : List Turn
   pub cut : turns ≡ before ++ turn ∷ after
-  pub told : IsIn text (texts_to c turn.said)
+  pub told : IsElementOf text (texts_to c turn.said)
   pub sooner : List Account
   pub account : Account
   pub later : List Account
@@ -371,7 +371,7 @@ OpenFact past first turns accounts c had (Hears line end) = Unit {0}
 OpenFact past first turns accounts c had (Between line end text) = Unit {0}
 OpenFact past first turns accounts c had (Answers line text) = (number : ℕ) (reply : Reply) → text ≡ repeated_text number reply → MeantOpen past first turns accounts c had line text
 OpenFact past first turns accounts c had (Accepts w) = IsSome had
-OpenFact past first turns accounts c had (Ends object w call reply) = (o : Open) × (had ≡ Some o) × IsRunOf first.objects.items object w call o
+OpenFact past first turns accounts c had (Ends object w call reply) = (o : Open) × (had ≡ Some o) × IsRunOfOpen first.objects.items object w call o
 OpenFact past first turns accounts c had (Withdraws w) = IsSome had
 OpenFact past first turns accounts c had (Quits line) = Unit {0}
 OpenFact past first turns accounts c had Leaves = Unit {0}
@@ -402,7 +402,7 @@ open_first past first t turns account accounts c had (Quits line) is told = tt
 open_first past first t turns account accounts c had Leaves is told = tt
 
 -- an object keeps its name
-run_next : (names : Names) (a b : List Scene) → AreNames names a → AreNames names b → WantedMoves b a → (at : ℕ) (w : Wanted) (call : Called) (o : Open) → IsRunOf b at w call o → IsRunOf a at w call o
+run_next : (names : Names) (a b : List Scene) → AreNames names a → AreNames names b → WantedMoves b a → (at : ℕ) (w : Wanted) (call : Called) (o : Open) → IsRunOfOpen b at w call o → IsRunOfOpen a at w call o
 run_next names a b are also moves at w call o r =
     let was = moves at w call r.is in
     record {

@@ -9,7 +9,7 @@ use Rattle.word_core.specs.Text.{operation_name}
 use Rattle.live_core.specs.Scene.{Scene}
 use Rattle.client_core.specs.declared.client.OpenObject.{OpenObject}
 use Rattle.client_core.specs.State.{Peer, change, nobody, who_in}
-use Rattle.history_law.specs.Awaits.{IsIn, Pool, waits_in}
+use Rattle.history_law.specs.Awaits.{IsElementOf, Pool, waits_in}
 use Rattle.history_law.proofs.Lists.{changed_was, change_at, same_or_not, set_at, set_other, set_was}
 use Rattle.history_law.specs.TurnStands.{AreHeld, IsAt, IsWaiting, Stands, Wants}
 use Rattle.history_law.specs.Talk.{Line, Talk, Wanted, IsWanted}
@@ -155,11 +155,11 @@ wanted_same objects at w a b operation arguments is = record {
 
 -- fewer calls wait of one object
 pub wants_set : (objects : List Scene) (at : ℕ) (before after : Scene) (o : OpenObject) (w : Wanted) → slice_get objects at ≡ Some before → after.hall.object ≡ before.hall.object →
-    ((d : Called) → IsIn d after.hall.waiting → IsIn d before.hall.waiting) → Wants objects (waits_in objects) o w →
+    ((d : Called) → IsElementOf d after.hall.waiting → IsElementOf d before.hall.waiting) → Wants objects (waits_in objects) o w →
     Wants (slice_set objects at after) (waits_in (slice_set objects at after)) o w
 wants_set objects at before after o w there object fewer wants call (scene, here, waits) session =
     same_moves objects (slice_set objects at after) (same_set objects at before after there object) o.object w call (wants call (by (set_was objects at o.object after scene before there here)) session)
   where
     by : ((at ≡ o.object) × (scene ≡ after)) ⊎ ((at ≢ o.object) × (slice_get objects o.object ≡ Some scene)) → waits_in objects o.object call
-    by (inl (same, is)) = (before, ap (slice_get objects) (sym same) ∙ there, fewer call (subst (λ (s : Scene). IsIn call s.hall.waiting) is waits))
+    by (inl (same, is)) = (before, ap (slice_get objects) (sym same) ∙ there, fewer call (subst (λ (s : Scene). IsElementOf call s.hall.waiting) is waits))
     by (inr (other, was)) = (scene, was, waits)

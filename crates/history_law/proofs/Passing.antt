@@ -37,7 +37,7 @@ use Rattle.client_core.specs.Gone.Settles.{rests as settled, goes_on as settles_
 use Rattle.client_core.specs.Turns.HearsLine.{does, cancels, sees, puts_off, holds, refuses}
 use Rattle.client_core.specs.Turns.GoesOn.{rests, does as does_more}
 use Rattle.client_core.specs.Turns.EndsHeld.{all, quits, goes_on}
-use Rattle.client_core.specs.Turns.{HearsLine, HearsLast, HearsAt, TakesLine, GoesOn, EndsAsk, EndsHeld, Withdraws, WithdrawsAt, Leaves, LeavesIf, Comes, IfHere, AllLeave, Notes, place_of}
+use Rattle.client_core.specs.Turns.{HearsLine, HearsLast, HearsAt, TakesLine, GoesOn, EndsAsk, EndsHeld, Withdraws, WithdrawsAt, Leaves, LeavesIf, EndsFor, EndsForIf, Comes, IfHere, AllLeave, Notes, place_of}
 use Rattle.client_core.proofs.Moving.{to_more}
 use Rattle.client_core.proofs.Doing.{ends_keeps, all_end_keeps, follows_keeps}
 
@@ -245,7 +245,7 @@ only_told : (place : ℕ) (text : List ℕ) → PassesBy (OnlyTold place text)
 only_told place text old new said added n = still old new added (ap (λ (s : State). s.objects) n.left) (ap (λ (s : State). s.custody) n.left) n.lines
 
 refused : (place : ℕ) → PassesBy (IsRefused place)
-refused place old new said added (line, is, only) = only_told place _ old new said added only
+refused place old new said added is = only_told place _ old new said added is.only
 
 in_turn : (first second : Deed) → PassesBy first → PassesBy second → PassesBy (Then first second)
 in_turn first second one more old new said added is j s here =
@@ -414,9 +414,17 @@ if_here : (who : ℕ) (deed : ℕ → Deed) → ((place : ℕ) → PassesBy (dee
 if_here who deed each old new said added (inl (here, is)) = each (place_of old who) old new said added is
 if_here who deed each old new said added (inr (none, is)) = nothing old new said added is
 
+ends_for : (place : ℕ) → PassesBy (EndsFor place)
+ends_for place old new said added (inl (again, is)) = goes place old new said added is
+ends_for place old new said added (inr (other, is)) = leaves place old new said added is
+
+ends_for_if : (place : ℕ) → PassesBy (EndsForIf place)
+ends_for_if place old new said added (inl (who, here, is)) = ends_for place old new said added is
+ends_for_if place old new said added (inr (none, is)) = nothing old new said added is
+
 all_leave : (n : ℕ) → PassesBy (AllLeave n)
 all_leave zero = nothing
-all_leave (suc n) = in_turn (AllLeave n) (LeavesIf n) (all_leave n) (leaves_if n)
+all_leave (suc n) = in_turn (AllLeave n) (EndsForIf n) (all_leave n) (ends_for_if n)
 
 pub noted : (note : Note) → PassesBy (Notes note)
 noted (notes.Joins who) old new said added is = in_turn (LeavesIf (place_of old who)) (Comes who) (leaves_if (place_of old who)) (comes who) old new said added is

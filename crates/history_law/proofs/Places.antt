@@ -14,7 +14,7 @@ use Rattle.client_core.specs.declared.client.OpenObject.{OpenObject}
 use Rattle.client_core.specs.Asks.{Asks}
 use Rattle.client_core.specs.Deeds.{Texts}
 use Rattle.client_core.specs.State.{Peer, change, opened_in}
-use Rattle.history_law.specs.Awaits.{IsIn, Lines, HasOpened, HasAsked, Pool, waits_in, IsOpenedBy, IsAwaited, IsSeated, AllSeated, AreAlone, AllHeld, Awaits}
+use Rattle.history_law.specs.Awaits.{IsElementOf, Lines, HasOpened, HasAsked, Pool, waits_in, IsOpenedBy, IsAwaited, IsSeated, AllSeated, AreAlone, AllHeld, Awaits}
 use Rattle.history_law.proofs.Lists.{in_front, same_or_not, set_at, set_other, set_was, changed_was, has_peer}
 
 -- a call is the same, by another number
@@ -157,7 +157,7 @@ held_set objects at before after there all is j object here = by (set_was object
 
 -- one object goes on
 pub stay_set : (objects : List Scene) (at : ℕ) (before after : Scene) (pool : Pool) → slice_get objects at ≡ Some before → after.hall.object ≡ before.hall.object →
-    ((c : Called) → IsIn c before.hall.waiting → (d : Called) × pool at d × IsSameCall before after c d) →
+    ((c : Called) → IsElementOf c before.hall.waiting → (d : Called) × pool at d × IsSameCall before after c d) →
     ((j : ℕ) (c : Called) → at ≢ j → waits_in objects j c → pool j c) → AllStay objects (slice_set objects at after) (waits_in objects) pool
 stay_set objects at before after pool there object calls others j scene here = by (same_or_not at j)
   where
@@ -170,7 +170,7 @@ stay_set objects at before after pool there object calls others j scene here = b
           object = object ∙ ap (λ (s : Scene). s.hall.object) (sym is);
           calls = λ c (now, now_there, waits).
               let now_is : now ≡ before = same_Some now before (sym now_there ∙ ap (slice_get objects) (sym same) ∙ there) in
-              let d = calls c (subst (λ (s : Scene). IsIn c s.hall.waiting) now_is waits) in
+              let d = calls c (subst (λ (s : Scene). IsElementOf c s.hall.waiting) now_is waits) in
               (d.0, subst (λ n. pool n d.0) same d.1, subst (λ (s : Scene). IsSameCall s after c d.0) (sym is) d.2);
         }
     by (inr other) = record {
@@ -184,5 +184,5 @@ stay_set objects at before after pool there object calls others j scene here = b
 pub waits_others : (objects : List Scene) (at : ℕ) (after : Scene) (j : ℕ) (c : Called) → at ≢ j → waits_in objects j c → waits_in (slice_set objects at after) j c
 waits_others objects at after j c other (object, there, waits) = (object, set_other objects at j after other ∙ there, waits)
 
-pub waits_here : (objects : List Scene) (at : ℕ) (before after : Scene) (c : Called) → slice_get objects at ≡ Some before → IsIn c after.hall.waiting → waits_in (slice_set objects at after) at c
+pub waits_here : (objects : List Scene) (at : ℕ) (before after : Scene) (c : Called) → slice_get objects at ≡ Some before → IsElementOf c after.hall.waiting → waits_in (slice_set objects at after) at c
 waits_here objects at before after c there waits = (after, set_at objects at after before there, waits)

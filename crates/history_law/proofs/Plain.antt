@@ -13,9 +13,13 @@ use Rattle.word_core.specs.Answers.{kept_line, cancelled_line, finished_line}
 use Rattle.session_text.specs.Lines.{accepted_text, bye_text, ended_text, line_text, opened_text, withdrawn_text}
 use Rattle.session_text.specs.declared.line.ReplyLine.{ReplyLine}
 use Rattle.session_text.specs.declared.line.ReplyLine.TheVariants as lines
-use Rattle.client_core.specs.Asked.{IsRefusal}
+use Rattle.client_core.specs.Asked.{IsRefused}
+use Rattle.client_core.specs.Deeds.{Texts}
+use Rattle.client_core.specs.Refusals.{IsHint, IsRefusal, IsRefusalText, MayHint, refusal_text}
+use Rattle.client_core.specs.Refusals.IsHint.{none as no_hint, objects as of_objects, operations as of_operations, declared as of_declared}
+use Rattle.client_core.specs.State.{State}
 use Rattle.decl_core.specs.HoldForm.{HoldForm}
-use Rattle.guest_core.specs.Held.{HeldCall}
+use Rattle.client_core.specs.HeldRows.{HeldRow}
 use Rattle.client_core.specs.Custody.{not_held_text}
 use Rattle.client_core.specs.ToldInside.{who_held_text}
 use Rattle.history_law.specs.Said.{SaysNoReply}
@@ -120,6 +124,31 @@ refusal_plain (lines.Withdrawn n) is = absurd is
 refusal_plain (lines.Cancel n answer) is = absurd is
 refusal_plain lines.Bye is = absurd is
 
+-- with a text for people behind its word, or none
+pub hinted_plain : (line : ReplyLine) → IsRefusal line → (hint : List ℕ) → SaysNoReply (refusal_text line hint)
+hinted_plain line is [] = refusal_plain line is
+hinted_plain (lines.Refused refusal) is (b ∷ hint) = says_none 110 (refusal_text (lines.Refused refusal) (b ∷ hint)) of_n (_, refl)
+hinted_plain (lines.Unsubmitted fault) is (b ∷ hint) = says_none 110 (refusal_text (lines.Unsubmitted fault) (b ∷ hint)) of_n (_, refl)
+hinted_plain (lines.Unkeyed fault) is (b ∷ hint) = says_none 110 (refusal_text (lines.Unkeyed fault) (b ∷ hint)) of_n (_, refl)
+hinted_plain (lines.Accepted n) is (b ∷ hint) = absurd is
+hinted_plain (lines.Kept n state) is (b ∷ hint) = absurd is
+hinted_plain (lines.Withdrawn n) is (b ∷ hint) = absurd is
+hinted_plain (lines.Cancel n answer) is (b ∷ hint) = absurd is
+hinted_plain lines.Bye is (b ∷ hint) = absurd is
+
+-- behind which word a text may stand
+pub may_hint : (s : State) (place : ℕ) (line : ReplyLine) (hint : List ℕ) → IsHint s place line hint → MayHint line hint
+may_hint s place line hint (no_hint is) = inl is
+may_hint s place line hint (of_objects is names) = inr (inl is)
+may_hint s place line hint (of_operations is object opened names) = inr (inr (inl is))
+may_hint s place line hint (of_declared is object opened at operation there told) = inr (inr (inr is))
+
+pub refusal_of : (place : ℕ) (old new : State) (said added : Texts) → (r : IsRefused place old said added new) → IsRefusalText (refusal_text r.line r.hint)
+refusal_of place old new said added r = (r.line, r.is, (r.hint, may_hint old place r.line r.hint r.hinted, refl))
+
+pub plain_refusal : (line : ReplyLine) → IsRefusal line → IsRefusalText (line_text line)
+plain_refusal line is = (line, is, ([], inl refl, refl))
+
 pub not_held_plain : SaysNoReply not_held_text
 not_held_plain = says_none 110 not_held_text of_n (_, refl)
 
@@ -151,7 +180,7 @@ why_plain o n whys = says_none 119 (why_text o n whys []) of_w (_, refl)
 pub state_plain : (n : ℕ) (state : CallStatus) → SaysNoReply (state_line n state)
 state_plain n state = says_none 119 (state_line n state) of_w (_, refl)
 
-pub who_plain : (o : ObjectForm) (holds : List HoldForm) (seats : List Sitting) (calls : List Waits) (held : List HeldCall) → SaysNoReply (who_held_text o holds seats calls held)
+pub who_plain : (o : ObjectForm) (holds : List HoldForm) (seats : List Sitting) (calls : List Waits) (held : List HeldRow) → SaysNoReply (who_held_text o holds seats calls held)
 who_plain o holds seats calls held = says_none 119 (who_held_text o holds seats calls held) of_w (_, refl)
 
 pub list_plain : (names : List (List ℕ)) (opened : Option ObjectForm) → SaysNoReply (list_text names opened)

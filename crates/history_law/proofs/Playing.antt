@@ -9,7 +9,8 @@ use Rattle.live_core.specs.declared.front.CarriedCall.{CarriedCall}
 use Rattle.live_core.specs.Front.{Opening}
 use Rattle.live_core.specs.Text.{front_text}
 use Rattle.decl_core.specs.HoldForm.{RulesForm}
-use Rattle.guest_core.specs.Held.{AreHeld}
+use Rattle.guest_core.specs.declared.hold_ends.HoldEnds.TheVariants.{ByDone}
+use Rattle.guest_core.specs.Held.{AreHeldBy}
 use Rattle.front_read.specs.HeldLines.{held_text}
 use Rattle.recover_core.specs.HeldPlay.{HaveNumbers, told_ends}
 use Rattle.history_law.proofs.Holding.{written_has_held}
@@ -109,13 +110,13 @@ ends_same f s (cancelled c ∷ steps) is small = ends_same f s steps is small
 ends_same f s (named session client ∷ steps) is small = ends_same f s steps is small
 
 pub played_is_held : PlayedIsHeld
-played_is_held o h f bytes found r holds old new past s b numbered are p =
+played_is_held ends o h f bytes found r holds old new past s b numbered are p =
     let e = begun_by f in
     let lines : p.lines ≡ b.lines = lines_once_open p.lines b.lines p.rest b.rest p.each b.each p.open_end b.open_end (sym p.cut ∙ b.cut) in
     let told : Tell o e nothing_heard b.lines p.heard = subst (λ l. Tell o e nothing_heard l p.heard) lines p.told in
     let steps : p.heard.steps ≡ b.steps = cut_same o e b.lines b.played.kept p.heard b.steps told b.played.cut b.played.told in
-    let ends : told_ends f.base f.carried p.heard.steps ≡ ends_of s b.steps = ends_same f s p.heard.steps numbered p.small ∙ ap (ends_of s) steps in
-    subst (λ (l : List Happened). AreHeld holds (l ++ past) new) ends (p.held past are)
+    let told_so : told_ends f.base f.carried p.heard.steps ≡ ends_of s b.steps = ends_same f s p.heard.steps numbered p.small ∙ ap (ends_of s) steps in
+    subst (λ (l : List Happened). AreHeldBy ends holds (l ++ past) new) told_so (p.held past are)
 
 -- the calls that a front carries are told by the numbers that they had
 carried_told : (s : Scene) (n : ℕ) (waiting : List Called) → map (λ (c : CarriedCall). c.told) (carried_from s n waiting) ≡ map (λ (c : Called). told_of s c.number) waiting
@@ -155,7 +156,7 @@ next_leaves_held before after last j o rules past text found since gives runs no
           (written_has_held o rules.holds f h.custody.held (text ++ found) (added_by j since) found within.0 rows each adds within.1
           (ap (λ (x : List ℕ). x ++ found) lines ∙ append_assoc (front_text o f) (held_text o rules.holds h.custody.held) found)).0;
       played = λ house bytes r new b p.
-          played_is_held o house f bytes found r rules.holds h.custody.held new past now b
+          played_is_held ByDone o house f bytes found r rules.holds h.custody.held new past now b
           (record { carried = by.followed.carried ∙ sym (carried_told was 0 was.hall.waiting); base = by.followed.base }) h.are p;
     }
 
@@ -178,5 +179,5 @@ start_leaves_held t last j o rules past s events found since there served idle n
           (written_has_held o rules.holds f h.custody.held ((front_text o f ++ held_text o rules.holds h.custody.held) ++ found) (added_by j since) found within.0 rows each adds within.1
           (append_assoc (front_text o f) (held_text o rules.holds h.custody.held) found)).0;
       played = λ house bytes r new b p.
-          played_is_held o house f bytes found r rules.holds h.custody.held new past s b (record { carried = carried; base = refl }) h.are p;
+          played_is_held ByDone o house f bytes found r rules.holds h.custody.held new past s b (record { carried = carried; base = refl }) h.are p;
     }

@@ -22,8 +22,8 @@ use Rattle.history_law.proofs.KeptGoing.{crash_leaves_answered}
 use Rattle.history_law.proofs.TurnLiving.{lives_on}
 use Rattle.history_law.proofs.TurnReplying.{stands_in}
 use Rattle.history_law.specs.Answers.{AllAlong, IsTold}
-use Rattle.history_law.specs.Asker.{AreAskedFrom, AreCut, CrashLeavesAsked, CrashLeavesAskedFrom, HasSaid, IsAnswered, RepliesAreAsked, WaitsAreAsked, said_by}
-use Rattle.history_law.specs.Awaits.{AllHeld, AreHeard, Awaits, IsIn, Lines, SaidBy}
+use Rattle.history_law.specs.Asker.{AreAskedFrom, AreCut, CrashLeavesAsked, CrashLeavesAskedFrom, HasSaid, IsAnsweredBetween, RepliesAreAsked, WaitsAreAsked, said_by}
+use Rattle.history_law.specs.Awaits.{AllHeld, AreHeard, Awaits, IsElementOf, Lines, SaidBy}
 use Rattle.history_law.specs.Awaits.AreHeard.{none}
 use Rattle.history_law.proofs.TurnBeginning.{begins_awaits}
 use Rattle.history_law.proofs.Deeds.{Did, same_awaits}
@@ -195,14 +195,14 @@ replies_are_asked first last turns runs cut held quiet = record {
     }
 
     at_turn : (before after : List Turn) (t : Turn) (who : ℕ) (text : List ℕ) (front behind : Texts) → turns ≡ before ++ t ∷ after → t.said ≡ front ++ (who, text) ∷ behind →
-        IsAnswered first last turns before t h who text front ⊎ (IsRepeated first last turns before h text ⊎ SaysNoReply text)
+        IsAnsweredBetween first last turns before t h who text front ⊎ (IsRepeated first last turns before h text ⊎ SaysNoReply text)
     at_turn before after t who text front behind is said =
         let at = turn_at [] first last before after t all.0 (subst (λ (ts : List Turn). AreAsked [] first ts all.0 last) is all.1) in
         by at (along_at (λ (p : Texts) (w : ℕ) (x : List ℕ). IsTold (HasSaid (before ++ t ∷ [])) p at.mid.objects.items at.account w x) (said_by before) front behind who text
         (subst (λ (s : Texts). ToldAlong (HasSaid (before ++ t ∷ [])) at.mid.objects.items at.account (said_by before) s) said at.along))
       where
         by : (at : At [] first before t all.0) → IsTold (HasSaid (before ++ t ∷ [])) (said_by before ++ front) at.mid.objects.items at.account who text →
-            IsAnswered first last turns before t h who text front ⊎ (IsRepeated first last turns before h text ⊎ SaysNoReply text)
+            IsAnsweredBetween first last turns before t h who text front ⊎ (IsRepeated first last turns before h text ⊎ SaysNoReply text)
         by at (inr (inr plain)) = inr (inr plain)
         by at (inr (inl (n, reply, text_is, kept))) = inr (inl (record {
           earlier = at.sooner;
@@ -232,7 +232,7 @@ replies_are_asked first last turns runs cut held quiet = record {
                 stands = λ o begun earlier l. stands_in first last turns h run.object at.sooner at.account at.later at.cut run.later run.before run.call reply run.ran_so o begun earlier l;
               };
               asked = a.asked;
-              accepted = subst (λ m. IsIn (who, accepted_text m) (said_by before ++ front)) run.told_is a.accepted;
+              accepted = subst (λ m. IsElementOf (who, accepted_text m) (said_by before ++ front)) run.told_is a.accepted;
             })
 
 -- who waits behind turns

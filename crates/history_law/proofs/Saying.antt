@@ -122,9 +122,9 @@ name_written o session name names few is = written_so (name_words session name) 
 
 -- ends
 
-end_by : (n : List ℕ) (more : List Word) (number : ℕ) (ending : Ending) (reply : Reply) → integer_of n ≡ Some number → ending_of more ≡ Some ending → audit.reply_by ending ≡ Some reply
+end_of_asker : (n : List ℕ) (more : List Word) (number : ℕ) (ending : Ending) (reply : Reply) → integer_of n ≡ Some number → ending_of more ≡ Some ending → audit.reply_by ending ≡ Some reply
     → audit.end_said (bare n ∷ more) ≡ Some (audit.an_end number reply)
-end_by n more number ending reply one two three =
+end_of_asker n more number ending reply one two three =
     ap (λ x. x >>= λ number. (ending_of more >>= audit.reply_by) >>= λ reply. Some (audit.an_end number reply)) one
     ∙ ap (λ x. (x >>= audit.reply_by) >>= λ reply. Some (audit.an_end number reply)) two
     ∙ ap (λ x. x >>= λ reply. Some (audit.an_end number reply)) three
@@ -164,4 +164,4 @@ end_written o number reply names few is =
     let safe = end_safe o number reply names few is in
     let ends : ending_of (reply_words reply) ≡ Some (reply_ending reply) = (written_ending (reply_ending reply) (is_ending reply is safe.1.1)).1 in
     written_so (end_words number reply) (an_end number reply) safe
-    (ap (λ x. x >>= end_in) (end_by (decimal number) (reply_words reply) number (reply_ending reply) reply (written_integer number few).1 ends (reply_read reply is)))
+    (ap (λ x. x >>= end_in) (end_of_asker (decimal number) (reply_words reply) number (reply_ending reply) reply (written_integer number few).1 ends (reply_read reply is)))

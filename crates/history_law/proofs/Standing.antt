@@ -15,7 +15,7 @@ use Rattle.live_core.specs.Calls.{AreRemembered, seat_of}
 use Rattle.live_core.specs.Scene.{Scene, told_of}
 use Rattle.live_core.specs.HostedSteps as hosted
 use Rattle.history_law.specs.Happens.{with_ran as all_ran, happens, all_happen}
-use Rattle.history_law.specs.Keys.{KeyEvent, KeyedCall, epoch_began, name_came, call_ended, client_of, IsRemembered, IsKeptLine}
+use Rattle.history_law.specs.Keys.{KeyEvent, KeyedCall, epoch_began, name_came, call_ended, client_of, IsRememberedUnder, IsKeptLine}
 use Rattle.history_law.specs.Keyed.{ended_as, ended_by, with_ran, with_came, with_step, with_steps}
 use Rattle.keep_loop.specs.Texts.{to}
 use Rattle.keep_loop.specs.Turns.{Asked, Turn}
@@ -184,7 +184,7 @@ repeats_stand first last turns before h text r f told k = by k.the_call.remember
         stood before r.earlier r.account r.later r.mid r.remembered.scene r.led r.cut r.remembered.there (r.remembered.later ++ later) c reply earlier
         (r.remembered.moment ∙ ap (λ (l : List Step). r.remembered.later ++ l) is ∙ sym (append_assoc r.remembered.later later (ran c reply ∷ earlier)))) before_it
 
-    by : IsRemembered (with_steps r.remembered.since k.at.events) f k.the_call.guest.name r.remembered.key k.the_call.call →
+    by : IsRememberedUnder (with_steps r.remembered.since k.at.events) f k.the_call.guest.name r.remembered.key k.the_call.call →
         HasStood first last turns h r.remembered.object r.number r.reply ⊎ (IsEndIn told r.number r.reply ⊎ IsKeptLine f.clients f.kept k.the_call.guest.name r.remembered.key k.the_call.call)
     by (inl is) =
         let call = k.the_call.call in

@@ -22,7 +22,7 @@ use Rattle.recover_core.specs.Carried.{told_by}
 use Rattle.recover_core.specs.Clients.{Remembers, HasNext, Recalls, Opens, OpenAll, Makes, MakeAll, reply_in}
 use Rattle.recover_core.specs.Chain.{IsSameCall, IsKnown, AreKnown}
 use Rattle.recover_core.specs.Recovered.{nobody}
-use Rattle.history_law.specs.Keys.{KeyedCall, KeyEvent, epoch_began, name_came, call_ended, client_at, client_of, under_key, told_by_step, told_by_steps, IsAmong, StaysKnown, IsNext, IsKeptLine, IsRemembered}
+use Rattle.history_law.specs.Keys.{KeyedCall, KeyEvent, epoch_began, name_came, call_ended, client_at, client_of, under_key, told_by_step, told_by_steps, IsAmong, StaysKnown, IsNext, IsKeptLine, IsRememberedUnder}
 use Rattle.history_law.proofs.Counted.{Events, CallsAreNext, IsCounted, calls_on, next_own, next_other, next_came, next_apart, next_began}
 
 -- a list in which one item is set
@@ -43,7 +43,7 @@ set_last (z ∷ xs) x y = ap (λ l. z ∷ l) (set_last xs x y)
 
 -- what is kept of the calls of a client
 abbrev pub Keeps : Opening → Events → List ℕ → Keys → Type 0
-Keeps f told name w = (key k : ℕ) (c : RememberedCall) → HasKey w key k c → IsRemembered told f name key c
+Keeps f told name w = (key k : ℕ) (c : RememberedCall) → HasKey w key k c → IsRememberedUnder told f name key c
 
 -- Behind a front: what was told so far, and the clients now: each call had the next key of its name, and so has the next
 -- call of each; and what is kept was told.

@@ -9,12 +9,12 @@ use Rattle.live_core.specs.HostedSteps.{IsFollowed}
 use Rattle.client_core.specs.Deeds.{Texts}
 use Rattle.client_core.specs.Moves.{BeginsHeld}
 use Rattle.client_core.specs.State.{Peer, State}
-use Rattle.history_law.specs.Awaits.{IsIn, Lines, Awaits, waits_in}
+use Rattle.history_law.specs.Awaits.{IsElementOf, Lines, Awaits, waits_in}
 use Rattle.history_law.proofs.Lists.{in_at}
 use Rattle.history_law.proofs.Places.{AllStay, IsSameCall, all_stay, held_set, stay_set, waits_here, waits_others}
 
 -- what is in a list stands at a place of it
-in_place : (cs : List Called) (c : Called) → IsIn c cs → (k : ℕ) × (slice_get cs k ≡ Some c)
+in_place : (cs : List Called) (c : Called) → IsElementOf c cs → (k : ℕ) × (slice_get cs k ≡ Some c)
 in_place [] c is = absurd is
 in_place (d ∷ cs) c (inl is) = (0, ap Some is)
 in_place (d ∷ cs) c (inr is) = let on = in_place cs c is in (suc on.0, on.1)
@@ -33,7 +33,7 @@ told_at f (d ∷ cs) zero c other is = ap f (same_Some d c is)
 told_at f (d ∷ cs) (suc k) c other is = told_at f cs k c other is
 
 -- each waits by the number that was told of it
-followed_call : (old new : Scene) (past : List _) → IsFollowed old past new → (c : Called) → IsIn c old.hall.waiting → (d : Called) × IsIn d new.hall.waiting × IsSameCall old new c d
+followed_call : (old new : Scene) (past : List _) → IsFollowed old past new → (c : Called) → IsElementOf c old.hall.waiting → (d : Called) × IsElementOf d new.hall.waiting × IsSameCall old new c d
 followed_call old new past is c waits =
     let place = in_place old.hall.waiting c waits in
     let n = numbered_at 0 old.hall.waiting place.0 c place.1 in
@@ -41,7 +41,7 @@ followed_call old new past is c waits =
     let other : ℕ = min (new.base + n.0) (2 ^ 64 - 1) in
     let at : n.0 - 1 ≡ place.0 = (let was = n.1 in omega (arith, was)) in (
       d,
-      subst (λ (cs : List Called). IsIn d cs) (sym is.begun.waiting) (in_at (numbered_from 0 old.hall.waiting) place.0 d n.2),
+      subst (λ (cs : List Called). IsElementOf d cs) (sym is.begun.waiting) (in_at (numbered_from 0 old.hall.waiting) place.0 d n.2),
       record {
         session = refl;
         operation = refl;

@@ -12,7 +12,7 @@ use Rattle.guest_core.specs.declared.seats.SeatHolder.{SeatHolder}
 use Rattle.guest_core.specs.declared.seats.SeatHolder.TheVariants.{Void, Free, Nameless, Named, Retired}
 use Rattle.decl_core.specs.HoldForm.{HoldForm, RulesForm}
 use Rattle.guest_core.specs.Held.{HeldCall, AreHeld}
-use Rattle.guest_core.specs.Held.AreHeld.{at_end}
+use Rattle.guest_core.specs.Held.AreHeldBy.{at_end}
 use Rattle.audit_core.specs.Steps.{Step, ran, cancelled, named, happened_of}
 use Rattle.live_core.specs.Scene.{Scene}
 use Rattle.live_core.specs.HostedSteps as hosted

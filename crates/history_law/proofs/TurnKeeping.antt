@@ -12,7 +12,9 @@ use Rattle.live_core.specs.declared.call.Ran.{Ran}
 use Rattle.live_core.specs.Hall.{Every, EachPair, Told}
 use Rattle.live_core.specs.Settles.{Settles, rests, runs}
 use Rattle.decl_core.specs.HoldForm.{HoldForm}
-use Rattle.guest_core.specs.Held.{HeldCall, Fits, NoneOwn, NoneFits, IsEnded, GivesOne, GivesBy, Gives, hold_ended, hold_of_op, begun_by, begun, is_loose, AreHeld, at_first, at_begin, at_end, HoldsOwn, MayUndoBy, MayUndo}
+use Rattle.guest_core.specs.declared.hold_ends.HoldEnds.TheVariants.{ByDone}
+use Rattle.guest_core.proofs.Given.{may_so}
+use Rattle.guest_core.specs.Held.{HeldCall, Fits, NoneOwn, NoneFits, IsEnded, GivesOne, GivesBy, Gives, ended_so, hold_ended, hold_of_op, begun_by, begun, is_loose, AreHeld, at_first, at_begin, at_end, HoldsOwn, MayUndoBy, MayUndo}
 use Rattle.live_core.specs.Scene.{Scene, told_of}
 use Rattle.client_core.specs.Custody.{HeldBehindAll, as_told}
 use Rattle.history_law.specs.Keeps.{Keeps}
@@ -144,7 +146,7 @@ abbrev HeldBy : List HoldForm → List Happened → List HeldCall → Type 0
 HeldBy holds [] held = held ≡ []
 HeldBy holds (began c ∷ past) held = AreHeld holds past held
 HeldBy holds (ended c reply ∷ past) held =
-    (was : List HeldCall) × (left : List HeldCall) × AreHeld holds past was × Gives holds c was left × (held ≡ left ++ begun holds c reply)
+    (was : List HeldCall) × (left : List HeldCall) × AreHeld holds past was × Gives ByDone holds c reply was left × (held ≡ left ++ begun holds c reply)
 
 inverted : (holds : List HoldForm) (past : List Happened) (held : List HeldCall) → AreHeld holds past held → HeldBy holds past held
 inverted holds past held at_first = refl
@@ -159,7 +161,7 @@ held_once holds (ended c reply ∷ past) a b one two =
     let x = inverted holds (ended c reply ∷ past) a one in
     let y = inverted holds (ended c reply ∷ past) b two in
     let same : x.0 ≡ y.0 = held_once holds past x.0 y.0 x.2 y.2 in
-    let left : x.1 ≡ y.1 = given_by (hold_ended holds c.operation) c y.0 x.1 y.1 (subst (λ (l : List HeldCall). Gives holds c l x.1) same x.3) y.3 in
+    let left : x.1 ≡ y.1 = given_by (ended_so ByDone reply (hold_ended holds c.operation)) c y.0 x.1 y.1 (subst (λ (l : List HeldCall). Gives ByDone holds c reply l x.1) same x.3) y.3 in
     x.4 ∙ ap (λ (l : List HeldCall). l ++ begun holds c reply) left ∙ sym y.4
 
 -- what others hold that not everybody may give back stays
@@ -199,11 +201,11 @@ own_stays holds None c held left may same r session arguments strict other own =
 own_stays holds (Some q) c held left may gives r session arguments strict other own = own_by holds q c held left may gives r session arguments strict other own
 
 -- and behind what a call holds from its end on
-may_stay : (holds : List HoldForm) (c : Called) (held left more : List HeldCall) → MayUndo holds c.session c.operation c.arguments held → Gives holds c held left →
+may_stay : (holds : List HoldForm) (c : Called) (reply : Reply) (held left more : List HeldCall) → MayUndo holds c.session c.operation c.arguments held → Gives ByDone holds c reply held left →
     (e : Option ℕ) (session : ℕ) (arguments : List Datum) → session ≢ c.session → MayUndoBy holds e session arguments held → MayUndoBy holds e session arguments (left ++ more)
-may_stay holds c held left more may gives None session arguments other has = tt
-may_stay holds c held left more may gives (Some r) session arguments other has = λ strict.
-    let own = own_stays holds (hold_ended holds c.operation) c held left may gives r session arguments strict other (has strict) in
+may_stay holds c reply held left more may gives None session arguments other has = tt
+may_stay holds c reply held left more may gives (Some r) session arguments other has = λ strict.
+    let own = own_stays holds (ended_so ByDone reply (hold_ended holds c.operation)) c held left (may_so ByDone holds reply (hold_ended holds c.operation) c.session c.arguments held may) gives r session arguments strict other (has strict) in
     record { place = own.place; hold = own.hold; there = get_front left more own.place own.hold own.there; fit = own.fit; own = own.own }
 
 -- no session of what is held has the number 0
@@ -223,7 +225,7 @@ begun_seated (Some r) c (Failed failure) is = tt
 
 -- one call ended, with this number that was told of it
 one_keeps : (holds : List HoldForm) (front behind : List Called) (c : Called) (told : ℕ) (reply : Reply) (past : List Happened) (held new left : List HeldCall) →
-    AreOfOwn (front ++ c ∷ behind) → Keeps holds (front ++ c ∷ behind) past held → Gives holds (record c { number = told }) held left → new ≡ left ++ begun holds (record c { number = told }) reply →
+    AreOfOwn (front ++ c ∷ behind) → Keeps holds (front ++ c ∷ behind) past held → Gives ByDone holds (record c { number = told }) reply held left → new ≡ left ++ begun holds (record c { number = told }) reply →
     Keeps holds (front ++ behind) (ended (record c { number = told }) reply ∷ past) new
 one_keeps holds front behind c told reply past held new left each k gives is =
     let t : Called = record c { number = told } in
@@ -235,11 +237,11 @@ one_keeps holds front behind c told reply past held new left each k gives is =
       may = subst (λ (l : List HeldCall). Every (λ (d : Called). MayUndo holds d.session d.operation d.arguments l) (front ++ behind)) (sym is)
           (every_two (λ (d : Called). MayUndo holds d.session d.operation d.arguments held) (λ (d : Called). d.session ≢ c.session)
           (λ (d : Called). MayUndo holds d.session d.operation d.arguments (left ++ more))
-          (λ d has other. may_stay holds t held left more may gives (hold_ended holds d.operation) d.session d.arguments other has) (front ++ behind)
+          (λ d has other. may_stay holds t reply held left more may gives (hold_ended holds d.operation) d.session d.arguments other has) (front ++ behind)
           (every_without (λ (d : Called). MayUndo holds d.session d.operation d.arguments held) front behind c k.may) (others_of front behind c each));
       waits = every_without (λ (d : Called). d.session ≢ 0) front behind c k.waits;
       seated = subst (Every (λ (h : HeldCall). h.session ≢ 0)) (sym is)
-          (every_both (λ (h : HeldCall). h.session ≢ 0) left more (left_seated (hold_ended holds c.operation) t held left gives k.seated)
+          (every_both (λ (h : HeldCall). h.session ≢ 0) left more (left_seated (ended_so ByDone reply (hold_ended holds c.operation)) t held left gives k.seated)
           (begun_seated (hold_of_op holds c.operation) t reply (every_here (λ (d : Called). d.session ≢ 0) front behind c k.waits)));
     }
 

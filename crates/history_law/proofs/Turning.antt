@@ -19,7 +19,7 @@ use Rattle.client_core.specs.Asked.{Goes}
 use Rattle.client_core.specs.Turns.HearsLine.{does, cancels, sees, puts_off, holds, refuses}
 use Rattle.client_core.specs.Turns.GoesOn.{rests, does as does_more}
 use Rattle.client_core.specs.Turns.EndsHeld.{all, quits, goes_on}
-use Rattle.client_core.specs.Turns.{HearsLine, HearsLast, HearsAt, TakesLine, GoesOn, EndsAsk, EndsHeld, Withdraws, WithdrawsAt, Leaves, LeavesIf, Comes, IfHere, AllLeave, Notes, place_of}
+use Rattle.client_core.specs.Turns.{HearsLine, HearsLast, HearsAt, TakesLine, GoesOn, EndsAsk, EndsHeld, Withdraws, WithdrawsAt, Leaves, LeavesIf, EndsFor, EndsForIf, Comes, IfHere, AllLeave, Notes, place_of}
 use Rattle.client_core.specs.Gone.{Settles}
 use Rattle.client_core.specs.Gone.Settles.{rests as settled, goes_on as settles_on, calls as calls_one, seats as seats_two, frees as frees_one}
 use Rattle.history_law.specs.Said.{TurnsSay}
@@ -114,9 +114,17 @@ if_here : (who : ℕ) (deed : ℕ → Deed) → ((place : ℕ) → TellsBy (deed
 if_here who deed each old new said added (inl (here, is)) = each (place_of old who) old new said added is
 if_here who deed each old new said added (inr (none, is)) = tells_nothing old new said added is
 
+ends_for : (place : ℕ) → TellsBy (EndsFor place)
+ends_for place old new said added (inl (again, is)) = goes place old new said added is
+ends_for place old new said added (inr (other, is)) = leaves place old new said added is
+
+ends_for_if : (place : ℕ) → TellsBy (EndsForIf place)
+ends_for_if place old new said added (inl (who, here, is)) = ends_for place old new said added is
+ends_for_if place old new said added (inr (none, is)) = tells_nothing old new said added is
+
 all_leave : (n : ℕ) → TellsBy (AllLeave n)
 all_leave zero = tells_nothing
-all_leave (suc n) = tells_then (AllLeave n) (LeavesIf n) (all_leave n) (leaves_if n)
+all_leave (suc n) = tells_then (AllLeave n) (EndsForIf n) (all_leave n) (ends_for_if n)
 
 noted : (note : Note) → TellsBy (Notes note)
 noted (notes.Joins who) old new said added is =

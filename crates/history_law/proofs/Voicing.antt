@@ -24,10 +24,10 @@ use Rattle.history_law.specs.Said.{Account, AllWent}
 use Rattle.history_law.specs.Dealt.{Dealt, dealt_ends, ends_for, is_for}
 use Rattle.history_law.specs.Answered.{IsAnswer, IsAnswerTo}
 use Rattle.history_law.proofs.Going.{all_more, both, every_both, every_map}
-use Rattle.history_law.specs.Awaits.{IsIn, Lines, Awaits}
+use Rattle.history_law.specs.Awaits.{IsElementOf, Lines, Awaits}
 use Rattle.history_law.proofs.Deeds.{Did, all_object, was_at, did_nothing, did_two}
 use Rattle.history_law.specs.TurnStands.{StandsIn, Voiced, ends_by}
-use Rattle.history_law.specs.Talk.{Line, Talk, Part, Wanted, Course, lines_of, text_in, texts_of, ends_of, AllKept, ArePicked, IsAtOnce, IsIdle, IsKept, IsNoEnd, IsWanted, texts_to}
+use Rattle.history_law.specs.Talk.{Line, Talk, Part, Wanted, Course, lines_of, text_of_part, texts_of, ends_of, AllKept, ArePicked, IsAtOnce, IsIdle, IsKept, IsNoEnd, IsWanted, texts_to}
 use Rattle.history_law.specs.Talk.Part.{Comes, Hears, Between, Answers, Accepts, Ends, Withdraws, Quits, Leaves}
 use Rattle.history_law.specs.Talk.Talk.{Here}
 use Rattle.history_law.proofs.OrderLists.{WantedMoves, course_both, ends_both, history_both, lines_both, picked_behind, texts_both, to_both}
@@ -143,22 +143,22 @@ voiced_so c Is So ends said stands_so t lines f v = record {
 
 -- each text of a part is one of these
 abbrev pub IsToldIn : List (List ℕ) → Part → Type 0
-IsToldIn texts p = Every (λ (x : List ℕ). IsIn x texts) (text_in p)
+IsToldIn texts p = Every (λ (x : List ℕ). IsElementOf x texts) (text_of_part p)
 
-in_behind : (x : List ℕ) (xs ys : List (List ℕ)) → IsIn x ys → IsIn x (xs ++ ys)
+in_behind : (x : List ℕ) (xs ys : List (List ℕ)) → IsElementOf x ys → IsElementOf x (xs ++ ys)
 in_behind x [] ys is = is
 in_behind x (a ∷ xs) ys is = inr (in_behind x xs ys is)
 
-each_in : (xs ys : List (List ℕ)) → Every (λ (x : List ℕ). IsIn x (xs ++ ys)) xs
+each_in : (xs ys : List (List ℕ)) → Every (λ (x : List ℕ). IsElementOf x (xs ++ ys)) xs
 each_in [] ys = tt
-each_in (x ∷ xs) ys = (inl refl, every_map (λ (z : List ℕ). IsIn z (xs ++ ys)) (λ (z : List ℕ). IsIn z (x ∷ (xs ++ ys))) xs (λ z is. inr is) (each_in xs ys))
+each_in (x ∷ xs) ys = (inl refl, every_map (λ (z : List ℕ). IsElementOf z (xs ++ ys)) (λ (z : List ℕ). IsElementOf z (x ∷ (xs ++ ys))) xs (λ z is. inr is) (each_in xs ys))
 
 pub parts_told : (parts : List Part) → Every (IsToldIn (texts_of parts)) parts
 parts_told [] = tt
 parts_told (p ∷ parts) = (
-  each_in (text_in p) (texts_of parts),
-  every_map (IsToldIn (texts_of parts)) (IsToldIn (text_in p ++ texts_of parts)) parts
-      (λ q is. every_map (λ (x : List ℕ). IsIn x (texts_of parts)) (λ (x : List ℕ). IsIn x (text_in p ++ texts_of parts)) (text_in q) (λ x there. in_behind x (text_in p) (texts_of parts) there) is) (parts_told parts),
+  each_in (text_of_part p) (texts_of parts),
+  every_map (IsToldIn (texts_of parts)) (IsToldIn (text_of_part p ++ texts_of parts)) parts
+      (λ q is. every_map (λ (x : List ℕ). IsElementOf x (texts_of parts)) (λ (x : List ℕ). IsElementOf x (text_of_part p ++ texts_of parts)) (text_of_part q) (λ x there. in_behind x (text_of_part p) (texts_of parts) there) is) (parts_told parts),
 )
 
 pub every_two : {X : Type 0} (P Q : X → Type 0) (xs : List X) → Every P xs → Every Q xs → Every (λ (x : X). P x × Q x) xs

@@ -5,7 +5,6 @@ use Rattle.value_core.specs.declared.datum.Datum.{Datum}
 use Rattle.decl_core.specs.ObjectMap.{object_of}
 use Rattle.word_core.specs.Text.{operation_name}
 use Rattle.session_text.specs.declared.line.ReplyLine.TheVariants as lines
-use Rattle.session_text.specs.declared.line.ReplyLine.{ReplyLine as Answer}
 use Rattle.session_text.specs.Lines.{bye_text, line_text, opened_text}
 use Rattle.audit_core.specs.Steps.{Step}
 use Rattle.live_core.specs.declared.hosted.KeyState.{KeyState}
@@ -17,15 +16,12 @@ use Rattle.history_law.specs.Happens.{all_happen}
 use Rattle.client_core.specs.declared.ask.Ask.{Ask}
 use Rattle.client_core.specs.declared.ask.Ask.TheVariants as asks
 use Rattle.client_core.specs.Asks.{Asks}
-use Rattle.client_core.specs.Asked.{IsRefusal, keyed_text}
+use Rattle.client_core.specs.Asked.{keyed_text}
+use Rattle.client_core.specs.Refusals.{IsRefusalText}
 use Rattle.client_core.specs.Custody.{not_held_text}
 use Rattle.history_law.specs.Said.{Account, SaysNoReply}
 use Rattle.history_law.specs.Awaits.{HasOpened, Lines}
 use Rattle.history_law.specs.Talk.{AnswersCancel, Line}
-
--- it is refused
-abbrev pub IsRefusalText : List ℕ → Type 0
-IsRefusalText text = (line : Answer) × IsRefusal line × (text ≡ line_text line)
 
 -- At one of the moments of what happened an object, which a line of this connection had asked to open, said this of a key: of
 -- a call of the operation of this name with these arguments, that was made before.

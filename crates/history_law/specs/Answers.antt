@@ -5,14 +5,14 @@ use Rattle.session_text.specs.Lines.{accepted_text, ended_text, repeated_text}
 use Rattle.live_core.specs.Scene.{Scene}
 use Rattle.client_core.specs.Deeds.{Texts}
 use Rattle.history_law.specs.Said.{Account, HasRun, HasRemembered, SaysNoReply}
-use Rattle.history_law.specs.Awaits.{IsIn, Lines, HasAsked}
+use Rattle.history_law.specs.Awaits.{IsElementOf, Lines, HasAsked}
 
 -- A call ran, of which this number was told, and it replied this; a line of this connection asked for it, and the number was
 -- told to it before.
 pub record IsAnswer (heard : Lines) (past : Texts) (objects : List Scene) (account : Account) (who n : ℕ) (reply : Reply) : Type 0 where
   pub run : HasRun objects account n reply
   pub asked : HasAsked heard who run.scene.hall.object run.call
-  pub accepted : IsIn (who, accepted_text n) past
+  pub accepted : IsElementOf (who, accepted_text n) past
 
 -- a text tells a connection that a call ended that it asked for, and its reply; or what is remembered of a call under a key;
 -- or no reply

@@ -63,8 +63,8 @@ pub record WasOwed (o : ObjectForm) (rules : Option RulesForm) (call : Asked) : 
   pub owed : IsOwed o custody session call.operation call.arguments
 
 -- what an object says of clients that are gone and of time
-abbrev pub rules_in : Option Custody → Option RulesForm
-rules_in custody = option_map (λ (c : Custody). c.rules) custody
+abbrev pub rules_in_custody : Option Custody → Option RulesForm
+rules_in_custody custody = option_map (λ (c : Custody). c.rules) custody
 
 -- In these turns a line of a connection asked to open the object at a place, as it stood in a table, by this name.
 pub record IsNamedBy (first : Table) (turns : List Turn) (here : Option ℕ) (at : ℕ) (name : List ℕ) : Type 0 where
@@ -78,7 +78,7 @@ pub record IsNamedBy (first : Table) (turns : List Turn) (here : Option ℕ) (at
 pub record IsCalledBy (first : Table) (turns : List Turn) (at : ℕ) (call : Asked) (name : List ℕ) (key : ℕ) : Type 0 where
   pub scene : Scene
   pub there : slice_get first.objects.items at ≡ Some scene
-  pub by : HasAskedUnder (HasSaid turns) scene.hall.object call name key ⊎ WasOwed (object_of scene.hall.object) (rules_in (slice_get (seen first).custody at)) call
+  pub by : HasAskedUnder (HasSaid turns) scene.hall.object call name key ⊎ WasOwed (object_of scene.hall.object) (rules_in_custody (slice_get (seen first).custody at)) call
 
 -- both is known
 abbrev pub by_lines : Table → List Turn → Claims

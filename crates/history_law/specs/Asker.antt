@@ -18,17 +18,17 @@ use Rattle.table_core.specs.Seen.{IsQuiet, seen}
 use Rattle.table_core.specs.declared.table.Table.{Table}
 use Rattle.history_law.specs.Kept.{LeavesAnswered}
 use Rattle.history_law.specs.Replied.{HaveOneHistory, IsReplied, IsRepeated}
-use Rattle.history_law.specs.Awaits.{IsIn, HasAsked, AllHeld, Awaits}
+use Rattle.history_law.specs.Awaits.{IsElementOf, HasAsked, AllHeld, Awaits}
 
 -- how a line ended behind which an LF stood, or not
-abbrev pub end_by : Bool → LineEnd
-end_by true = ends.Feed
-end_by false = ends.Input
+abbrev pub end_of_asker : Bool → LineEnd
+end_of_asker true = ends.Feed
+end_of_asker false = ends.Input
 
 -- In these turns a connection said this line: as it is done, without a CR at its end.
 pub record HasSaid (turns : List Turn) (who : ℕ) (line : List ℕ) (is_whole : Bool) : Type 0 where
   pub heard : List ℕ
-  pub is_heard : IsIn (heard, end_by is_whole) (heard_of who turns)
+  pub is_heard : IsElementOf (heard, end_of_asker is_whole) (heard_of who turns)
   pub line_is : line ≡ strip_carriage_return heard
 
 -- what each connection says is cut into the lines that are heard: none has an LF in it, and one without an LF is the last
@@ -43,17 +43,17 @@ said_by (t ∷ turns) = t.said ++ said_by turns
 -- A text tells a connection in a turn how a call ended that ran in it, and which stands in the history of all epochs of its
 -- object; lines that this connection had said by then asked to open this object, and for this call; and its number was told to
 -- this connection before.
-pub record IsAnswered (first last : Table) (turns before : List Turn) (t : Turn) (h : HaveOneHistory first last turns) (who : ℕ) (text : List ℕ) (front : Texts) : Type 0 where
+pub record IsAnsweredBetween (first last : Table) (turns before : List Turn) (t : Turn) (h : HaveOneHistory first last turns) (who : ℕ) (text : List ℕ) (front : Texts) : Type 0 where
   pub replied : IsReplied first last turns before h text
   pub asked : HasAsked (HasSaid (before ++ t ∷ [])) who replied.scene.hall.object replied.call
-  pub accepted : IsIn (who, accepted_text (told_of replied.scene replied.call.number)) (said_by before ++ front)
+  pub accepted : IsElementOf (who, accepted_text (told_of replied.scene replied.call.number)) (said_by before ++ front)
 
 -- Turns have one history, and what any connection is told in one of them with a reply is such a text; or it tells what the
 -- object remembers of a call that was made before under a key.
 pub record HaveAskers (first last : Table) (turns : List Turn) : Type 0 where
   pub history : HaveOneHistory first last turns
   pub each : (before after : List Turn) (t : Turn) (who : ℕ) (text : List ℕ) (front behind : Texts) → turns ≡ before ++ t ∷ after → t.said ≡ front ++ (who, text) ∷ behind →
-      IsAnswered first last turns before t history who text front ⊎ (IsRepeated first last turns before history text ⊎ SaysNoReply text)
+      IsAnsweredBetween first last turns before t history who text front ⊎ (IsRepeated first last turns before history text ⊎ SaysNoReply text)
 
 -- So it is of any turns, from a table on of which nobody has opened an object.
 abbrev pub RepliesAreAsked : Type 0

@@ -18,9 +18,9 @@ use Rattle.client_core.specs.Deeds.{Texts}
 use Rattle.client_core.specs.State.{Peer, opened_in}
 
 -- it is one of these
-abbrev pub IsIn : {X : Type 0} → X → List X → Type 0
-IsIn x [] = ⊥
-IsIn x (y ∷ ys) = (y ≡ x) ⊎ IsIn x ys
+abbrev pub IsElementOf : {X : Type 0} → X → List X → Type 0
+IsElementOf x [] = ⊥
+IsElementOf x (y ∷ ys) = (y ≡ x) ⊎ IsElementOf x ys
 
 -- lines that were heard: of which connection, without a CR, and whether an LF stood behind
 abbrev pub Lines : Type 1
@@ -62,7 +62,7 @@ Pool = ℕ → Called → Type 0
 
 -- those that wait
 abbrev pub waits_in : List Scene → Pool
-waits_in objects at call = (object : Scene) × (slice_get objects at ≡ Some object) × IsIn call object.hall.waiting
+waits_in objects at call = (object : Scene) × (slice_get objects at ≡ Some object) × IsElementOf call object.hall.waiting
 
 -- the one that is there asked for what it has opened
 pub record IsOpenedBy (heard : Lines) (objects : List Scene) (who : Option ℕ) (opened : OpenObject) : Type 0 where
@@ -84,7 +84,7 @@ pub record IsAwaited (heard : Lines) (past : Texts) (objects : List Scene) (pool
   pub session_is : call.session ≡ opened.session
   pub told_is : told_of object call.number ≡ opened.told
   pub asked : HasAsked heard here object.hall.object call
-  pub accepted : IsIn (here, accepted_text opened.told) past
+  pub accepted : IsElementOf (here, accepted_text opened.told) past
 
 -- of one place of connections: what is held are lines that it said; a line asked for what it has opened; and it waits so
 pub record IsSeated (heard : Lines) (past : Texts) (objects : List Scene) (pool : Pool) (p : Peer) : Type 0 where

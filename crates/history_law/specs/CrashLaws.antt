@@ -1,7 +1,8 @@
 -- Laws of traces that were cut short.
 use Rattle.std.specs.Prelude.{ℕ, ◌≤◌, List, [], ◌∷◌, take, drop}
 use Rattle.std.specs.Str.Lines.{lines}
-use Rattle.keep_loop.specs.Journal.{recovered, IsSolid, AreLines, Begins, IsBetween}
+use Rattle.keep_loop.specs.Journal.{IsSolid, AreLines, Begins, IsBetween}
+use Rattle.keep_loop.specs.Taken.{IsTaken, taken}
 use Rattle.value_core.specs.Plain.{IsText}
 use Rattle.word_core.specs.Words.{Word, bare, quoted, line_of}
 use Rattle.decl_core.specs.ObjectForm.{ObjectForm}
@@ -38,12 +39,17 @@ pub record IsLeft (o : ObjectForm) (stored text : List ℕ) (ends : ℕ) (found 
   pub was_legal : IsLegalTrace o stored kept
   pub least : kept ≤ left
 
+-- a crash leaves a file that is taken, and the lines that it tells are such a trace
+pub record FileIsLeft (o : ObjectForm) (stored text : List ℕ) (ends : ℕ) (file : List ℕ) : Type 0 where
+  pub is_taken : IsTaken file
+  pub left : IsLeft o stored text ends (taken file)
+
 -- The text of a journal is a legal trace with so many ends, and all lines of its parts are stored: then what a crash
--- leaves of its file is a legal trace, with at most as many ends, and at least as many as what is stored.
+-- leaves of its lines is a legal trace, with at most as many ends, and at least as many as what is stored.
 abbrev pub CrashLeavesLegal : Type 0
-CrashLeavesLegal = (o : ObjectForm) (front stored text file : List ℕ) (ends : ℕ) → TellsParts o front →
-    AreLines front → Begins front stored → AreLines stored → IsLegalTrace o text ends →
-    IsBetween stored text (recovered file) → IsLeft o stored text ends (recovered file)
+CrashLeavesLegal = (o : ObjectForm) (front stored text found : List ℕ) (ends : ℕ) → TellsParts o front →
+    AreLines front → Begins front stored → AreLines stored → IsLegalTrace o text ends → AreLines found →
+    IsBetween stored text found → IsLeft o stored text ends found
 
 -- no bare word has a byte 0 in it
 abbrev pub EachSolid : List Word → Type 0

@@ -52,7 +52,7 @@ pub record IsHeldAhead (first last : Table) (j : ℕ) (o : ObjectForm) (rules : 
   pub nothing : found ≡ []
 
 -- An object of which no call waits stands behind the front that a start has written for it, with these events of its past.
-pub record HasStarted (first : Table) (j : ℕ) (o : ObjectForm) (events : List PastRun) : Type 0 where
+pub record HasStartedAnew (first : Table) (j : ℕ) (o : ObjectForm) (events : List PastRun) : Type 0 where
   pub scene : Scene
   pub there : slice_get first.objects.items j ≡ Some scene
   pub names : IsNamed o
@@ -61,7 +61,7 @@ pub record HasStarted (first : Table) (j : ℕ) (o : ObjectForm) (events : List 
   pub carried : scene.carried ≡ []
 
 -- that front, and the lines of what was held at the start
-abbrev pub start_text : {first : Table} {j : ℕ} {o : ObjectForm} {events : List PastRun} → (rules : RulesForm) → HasStarted first j o events → Custody → List ℕ
+abbrev pub start_text : {first : Table} {j : ℕ} {o : ObjectForm} {events : List PastRun} → (rules : RulesForm) → HasStartedAnew first j o events → Custody → List ℕ
 start_text {o = o} {events = events} rules s c =
     front_text o (front_of s.scene s.scene.epoch events s.scene.base) ++ held_text o rules.holds c.held
 
@@ -73,7 +73,7 @@ pub record LeavesAllHeld (first : Table) (limits : LoopLimits) (seen : List Happ
   pub held : (j : ℕ) (o : ObjectForm) (rules : RulesForm) (past : List Ended) (text : List ℕ) → j < limits.journals → front_in j seen ≡ Some text → Stood first j o → HoldsBy first j rules past →
       IsHeldBehind first answered.left.survives.last j o rules past (answered.left.survives.answered ++ answered.left.survives.later) text (found j)
       ⊎ IsHeldAhead first answered.left.survives.last j o rules past (answered.left.survives.answered ++ answered.left.survives.later) text (found j)
-  pub at_first : (j : ℕ) (o : ObjectForm) (rules : RulesForm) (past : List Ended) (events : List PastRun) → j < limits.journals → front_in j seen ≡ None → (s : HasStarted first j o events) →
+  pub at_first : (j : ℕ) (o : ObjectForm) (rules : RulesForm) (past : List Ended) (events : List PastRun) → j < limits.journals → front_in j seen ≡ None → (s : HasStartedAnew first j o events) →
       (h : HoldsBy first j rules past) → LeavesHeld first j o rules past (start_text rules s h.custody) (found j)
 
 abbrev pub CrashLeavesHeld : Type 0

@@ -29,7 +29,7 @@ use Rattle.history_law.specs.Replied.{AreTold, HaveOneHistory, IsRepeated}
 use Rattle.history_law.specs.TurnKeys.{IsOfItsKey}
 use Rattle.history_law.specs.Repeat.{HasStood, IsEndIn}
 use Rattle.history_law.specs.Asker.{AreCut, HasSaid}
-use Rattle.history_law.specs.Awaits.{AllHeld, HasOpened, IsIn}
+use Rattle.history_law.specs.Awaits.{AllHeld, HasOpened, IsElementOf}
 use Rattle.history_law.specs.Talk.{Line, Part, texts_to}
 use Rattle.history_law.specs.Talk.Part.{Comes, Hears, Between, Answers, Accepts, Ends, Withdraws, Quits, Leaves}
 use Rattle.history_law.specs.Order.{IsEmpty}
@@ -43,7 +43,7 @@ pub record IsDone (first : Table) (turns : List Turn) (accounts : List Account) 
   pub turn : Turn
   pub after : List Turn
   pub cut : turns ≡ before ++ turn ∷ after
-  pub told : IsIn text (texts_to c turn.said)
+  pub told : IsElementOf text (texts_to c turn.said)
   pub sooner : List Account
   pub account : Account
   pub later : List Account
@@ -73,7 +73,7 @@ pub record IsRepeatOf (first last : Table) (turns : List Turn) (h : HaveOneHisto
   pub turn : Turn
   pub after : List Turn
   pub cut : turns ≡ before ++ turn ∷ after
-  pub told : IsIn text (texts_to c turn.said)
+  pub told : IsElementOf text (texts_to c turn.said)
   pub repeated : IsRepeated first last turns before h text
   pub object : HasOpened (HasSaid (before ++ turn ∷ [])) c repeated.remembered.now.hall.object
   pub opened : Bool
@@ -92,7 +92,7 @@ pub record IsRepeatOf (first last : Table) (turns : List Turn) (h : HaveOneHisto
 pub record AreAnswered (first last : Table) (turns : List Turn) : Type 0 where
   pub written : AreWritten first last turns
   pub each : (c : ℕ) → Every (IsDoneIn first turns written.told.order.history.accounts c) (written.told.order.each c).parts
-  pub repeats : (c : ℕ) (line : Line) (text : List ℕ) (number : ℕ) (reply : Reply) → IsIn (Answers line text) (written.told.order.each c).parts → text ≡ repeated_text number reply →
+  pub repeats : (c : ℕ) (line : Line) (text : List ℕ) (number : ℕ) (reply : Reply) → IsElementOf (Answers line text) (written.told.order.each c).parts → text ≡ repeated_text number reply →
       IsRepeatOf first last turns written.told.order.history c line text
 
 -- So it is of any turns, from a table on at which nobody is.

@@ -6,6 +6,7 @@ use Rattle.decl_core.specs.ObjectForm.{OperationForm}
 use Rattle.word_core.specs.Events.{Called, Happened}
 use Rattle.live_core.specs.Hall.{Every}
 use Rattle.decl_core.specs.HoldForm.{HoldForm, EveryForm, RulesForm}
+use Rattle.guest_core.specs.declared.hold_ends.HoldEnds.TheVariants.{ByDone}
 use Rattle.guest_core.specs.Held.{HeldCall, AreHeld, MayUndo, KeepsHolds, hold_ended, is_loose}
 use Rattle.guest_core.specs.Laws.{given, taken, held_by}
 use Rattle.decl_read.specs.Holds.{IsRules}
@@ -31,7 +32,7 @@ ReadAreApart = (operations : List OperationForm) (ws : List Lexeme) (rules : Rul
 -- session has the number 0.
 pub record Keeps (holds : List HoldForm) (waiting : List Called) (past : List Happened) (held : List HeldCall) : Type 0 where
   pub are : AreHeld holds past held
-  pub kept : KeepsHolds holds past
+  pub kept : KeepsHolds ByDone holds past
   pub may : Every (λ (c : Called). MayUndo holds c.session c.operation c.arguments held) waiting
   pub waits : Every (λ (c : Called). c.session ≢ 0) waiting
   pub seated : Every (λ (h : HeldCall). h.session ≢ 0) held
@@ -51,12 +52,12 @@ TurnsKeepHolds =
     (first last : Table) (turns : List Turn) (accounts : List Account) (j : ℕ) (o : ObjectForm) (rules : RulesForm) (past ends : List Happened) →
     AreApart rules → Stood first j o → KeepsAt first j rules past → EndsOver j first turns accounts last past ends → KeepsAt last j rules ends
 
--- What was taken is given back or held: of a hold that not everybody may end never more calls have ended that end it, however
--- they ended, than calls were done that are held by it.
+-- What was taken is given back or held: of a hold that not everybody may end never more calls were done that end it than
+-- calls were done that are held by it.
 pub record GivenOnce (t : Table) (j : ℕ) (rules : RulesForm) (ends : List Happened) (r : ℕ) : Type 0 where
   pub holds : HoldsBy t j rules ends
-  pub once : given rules.holds r ends + held_by r holds.custody.held ≡ taken rules.holds r ends
-  pub never_more : given rules.holds r ends ≤ taken rules.holds r ends
+  pub once : given ByDone rules.holds r ends + held_by r holds.custody.held ≡ taken rules.holds r ends
+  pub never_more : given ByDone rules.holds r ends ≤ taken rules.holds r ends
 
 abbrev pub TurnsGiveOnce : Type 0
 TurnsGiveOnce =

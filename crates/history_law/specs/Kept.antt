@@ -57,22 +57,22 @@ pub record IsServed (first : Table) (j : ℕ) (o : ObjectForm) (f : Opening) (tu
 
 -- What happened to an object in some turns, and in those behind them; and these steps are all of the former, and the first
 -- of the latter.
-pub record IsRecovered (o : ObjectForm) (f : Opening) (j : ℕ) (ts us : List Turn) (steps : List Step) : Type 0 where
+pub record IsRecoveredFrom (o : ObjectForm) (f : Opening) (j : ℕ) (ts us : List Turn) (steps : List Step) : Type 0 where
   pub adds : AddsTwice o f (added_by j ts) (added_by j us)
   pub read : IsReadOf adds steps
 
 -- What is recovered of lines that have those of some turns, and of those of the turns behind them the first bytes, is that;
 -- and no line with a fault is found.
-pub record AreRead (first : Table) (j : ℕ) (ts us : List Turn) (found : List ℕ) : Type 0 where
+pub record AreReadBetween (first : Table) (j : ℕ) (ts us : List Turn) (found : List ℕ) : Type 0 where
   pub recovered : (o : ObjectForm) (h : House) (f : Opening) (bytes : ℕ) (r : Recovered) → IsServed first j o f (ts ++ us) →
-      (b : IsBehind o h f bytes found r) → IsRecovered o f j ts us b.steps
+      (b : IsBehind o h f bytes found r) → IsRecoveredFrom o f j ts us b.steps
   pub readable : (o : ObjectForm) (h : House) (f : Opening) (before line : ℕ) (fault : AuditFault) → IsServed first j o f (ts ++ us) →
       RefusesBehind o h f before found (faults.Line line fault) → ⊥
 
 abbrev pub LinesAreRead : Type 0
 LinesAreRead =
     (first last : Table) (j : ℕ) (ts us : List Turn) (found : List ℕ) → Runs Gives first (ts ++ us) last →
-    Begins (added_by j ts) found → Begins found (added_by j (ts ++ us)) → AreRead first j ts us found
+    Begins (added_by j ts) found → Begins found (added_by j (ts ++ us)) → AreReadBetween first j ts us found
 
 -- An object has begun its next epoch by this text: a front, which tells it as it then was, and behind that the lines of what
 -- is held of it. It stands behind it; and turns go on from there.
@@ -102,11 +102,11 @@ pub record AreReadBehind (j : ℕ) (o : ObjectForm) (front : List ℕ) (answered
   pub cut : answered ++ later ≡ earlier ++ change_to j front ∷ (ts ++ us)
   pub all : (answered ≡ earlier ++ change_to j front ∷ ts) ⊎ ((rest : List Turn) × (earlier ≡ answered ++ rest) × (ts ≡ []))
   pub goes : GoesOnBehind j o front (ts ++ us) last
-  pub read : AreRead goes.mid j ts us found
+  pub read : AreReadBetween goes.mid j ts us found
 
-abbrev pub ReadsIn : Table → ℕ → ObjectForm → Option (List ℕ) → List Turn → List Turn → Table → List ℕ → Type 0
-ReadsIn first j o None answered later last found = AreRead first j answered later found
-ReadsIn first j o (Some front) answered later last found = AreReadBehind j o front answered later last found
+abbrev pub ReadsInText : Table → ℕ → ObjectForm → Option (List ℕ) → List Turn → List Turn → Table → List ℕ → Type 0
+ReadsInText first j o None answered later last found = AreReadBetween first j answered later found
+ReadsInText first j o (Some front) answered later last found = AreReadBehind j o front answered later last found
 
 -- What is found of an object whose journal has just begun anew, which it was not told: the text has a front that tells the
 -- object as all turns leave it, and behind that the lines of what is held of it, and nothing stands behind that.
@@ -122,7 +122,7 @@ pub record IsReadAhead (j : ℕ) (o : ObjectForm) (text : List ℕ) (last : Tabl
 -- one or the other
 abbrev pub IsFoundOf : Table → ℕ → ObjectForm → List Happened → List Turn → List Turn → Table → List ℕ → Type 0
 IsFoundOf first j o seen answered later last found =
-    ReadsIn first j o (front_in j seen) answered later last found
+    ReadsInText first j o (front_in j seen) answered later last found
     ⊎ ((front : List ℕ) × (front_in j seen ≡ Some front) × IsReadAhead j o front last found)
 
 -- What is found behind a crash is of one history, in which each turn does what its line asks for. Each connection was

@@ -16,7 +16,7 @@ use Rattle.live_core.specs.Fronts.{client_of as client_from}
 use Rattle.live_core.specs.Keys.{Repeats}
 use Rattle.live_core.specs.Scene.{Scene, told_of}
 use Rattle.live_core.specs.HostedSteps as hosted
-use Rattle.history_law.specs.Keys.{KeyEvent, epoch_began, name_came, call_ended, client_of, IsRemembered, AreKeyed, ReadEpoch, AreKnownOn, all_told, oldest}
+use Rattle.history_law.specs.Keys.{KeyEvent, epoch_began, name_came, call_ended, client_of, IsRememberedUnder, AreKeyed, ReadEpoch, AreKnownOn, all_told, oldest}
 
 -- the call that a client has asked, where one is, has its next key, and has ended so
 abbrev pub ended_as : Guest → Option Asked → ℕ → Option Reply → List KeyEvent
@@ -62,7 +62,7 @@ pub record HaveKeys (f : Opening) (told : List KeyEvent) (v : Guests) : Type 0 w
   pub sound : IsSound v
   pub keyed : AreKeyed told v
   pub kept : (place : ℕ) (g : Guest) (key k : ℕ) (c : RememberedCall) → slice_get v.guests place ≡ Some g → HasKey g.keys key k c →
-      IsRemembered told f g.name key c
+      IsRememberedUnder told f g.name key c
 
 -- So it is at each moment of what happens to an object with its clients.
 abbrev pub StepsKeepKeys : Type 0
@@ -89,7 +89,7 @@ pub record IsTheCall (f : Opening) (told : List KeyEvent) (s : Scene) (session k
   pub guest : Guest
   pub by : IsNamed s.guests session place guest
   pub call : RememberedCall
-  pub remembered : IsRemembered told f guest.name key call
+  pub remembered : IsRememberedUnder told f guest.name key call
   pub asked : call.asked ≡ a
   pub told_is : call.told ≡ number
   pub reply_is : call.reply ≡ reply

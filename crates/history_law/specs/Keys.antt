@@ -185,8 +185,8 @@ pub record IsKeptLine (clients : List NamedClient) (kept : List KeptCall) (name 
 
 -- what a client is told of a call that it repeats: the call of the history that has its key; or, where that ended
 -- before, what this front has of it
-abbrev pub IsRemembered : List KeyEvent → Opening → List ℕ → ℕ → RememberedCall → Type 0
-IsRemembered told f name key call = IsTold told name key call ⊎ IsKeptLine f.clients f.kept name key call
+abbrev pub IsRememberedUnder : List KeyEvent → Opening → List ℕ → ℕ → RememberedCall → Type 0
+IsRememberedUnder told f name key call = IsTold told name key call ⊎ IsKeptLine f.clients f.kept name key call
 
 -- Of each key that a client of now repeats so it is, by the front of the newest epoch.
 abbrev pub RepeatsAreTold : Type 0
@@ -194,7 +194,7 @@ RepeatsAreTold =
     (o : ObjectForm) (e : ReadEpoch o) (earlier : List (ReadEpoch o)) → AreKnownOn o e earlier →
     (place : ℕ) (g : Guest) (key k : ℕ) (a : Asked) → slice_get e.came.guests.guests place ≡ Some g →
     Judges g.keys key a (Repeat k) → (call : RememberedCall) × (slice_get g.keys.kept k ≡ Some call) × (call.asked ≡ a)
-    × IsRemembered (all_told o e earlier) e.is.front g.name key call
+    × IsRememberedUnder (all_told o e earlier) e.is.front g.name key call
 
 -- the first of these epochs, which have the newest first
 abbrev pub oldest : (o : ObjectForm) → ReadEpoch o → List (ReadEpoch o) → ReadEpoch o
@@ -207,7 +207,7 @@ RepeatsStand =
     (o : ObjectForm) (e : ReadEpoch o) (earlier : List (ReadEpoch o)) → AreKnownOn o e earlier →
     (place : ℕ) (g : Guest) (key k : ℕ) (a : Asked) → slice_get e.came.guests.guests place ≡ Some g →
     Judges g.keys key a (Repeat k) → (call : RememberedCall) × (slice_get g.keys.kept k ≡ Some call) × (call.asked ≡ a)
-    × IsRemembered (all_told o e earlier) (oldest o e earlier).is.front g.name key call
+    × IsRememberedUnder (all_told o e earlier) (oldest o e earlier).is.front g.name key call
 
 -- the end of a call under a key, where it was not cancelled
 abbrev pub end_told : ObjectForm → Asked → Option Reply → List End

@@ -5,6 +5,7 @@ use Rattle.word_core.specs.Events.{Happened}
 use Rattle.live_core.specs.Front.{Opening}
 use Rattle.live_core.specs.Hall.{Every}
 use Rattle.decl_core.specs.HoldForm.{RulesForm}
+use Rattle.guest_core.specs.declared.hold_ends.HoldEnds.TheVariants.{ByDone}
 use Rattle.guest_core.specs.Held.{HeldCall, KeepsHolds}
 use Rattle.recover_core.specs.declared.recover.House.{House}
 use Rattle.recover_core.specs.declared.recover.Recovered.{Recovered}
@@ -29,5 +30,5 @@ RecoveredIsOlder =
 -- is kept what was kept of that.
 abbrev pub LifeKeepsHolds : Type 0
 LifeKeepsHolds =
-    (t : Table) (j : ℕ) (rules : RulesForm) (later past : List Happened) (s : Scene) → KeepsHolds rules.holds (later ++ past) →
+    (t : Table) (j : ℕ) (rules : RulesForm) (later past : List Happened) (s : Scene) → KeepsHolds ByDone rules.holds (later ++ past) →
     slice_get t.objects.items j ≡ Some s → s.hall.waiting ≡ [] → (h : HoldsBy t j rules past) → Every (λ (c : HeldCall). c.session ≢ 0) h.custody.held → KeepsAt t j rules past

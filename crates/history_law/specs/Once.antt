@@ -14,14 +14,14 @@ use Rattle.history_law.specs.Replied.{ends_in}
 use Rattle.history_law.specs.Asker.{AreCut}
 use Rattle.history_law.specs.Awaits.{AllHeld}
 use Rattle.history_law.specs.Talk.{ends_of}
-use Rattle.history_law.specs.Order.{AreInOrder, IsEmpty}
+use Rattle.history_law.specs.Order.{AreInTheirOrder, IsEmpty}
 use Rattle.history_law.specs.Dealt.{Dealt, dealt_ends, ends_for}
 
 -- Each connection is told its talk in the one history. Of each object there is a list of its calls, each with the connection
 -- that was told of it, if one was: their ends are those of the one history, each once, in their order; and the ends that a
 -- connection is told in its talk are just those that are its own there.
 pub record AreToldOnce (first last : Table) (turns : List Turn) : Type 0 where
-  pub order : AreInOrder first last turns
+  pub order : AreInTheirOrder first last turns
   pub dealt : ℕ → List Dealt
   pub all : (o : ObjectForm) (j : ℕ) → dealt_ends o (dealt j) ≡ ends_in o j order.history.accounts
   pub each : (o : ObjectForm) (j c : ℕ) → ends_of o j (order.each c).parts ≡ ends_for c o (dealt j)

@@ -66,7 +66,7 @@ pub record IsOfOpen (first last : Table) (turns : List Turn) (h : HaveOneHistory
 
 -- A call that ended at the object at a place is the one that was wanted there (`IsWanted`); and this object has the name of the one
 -- that is open.
-pub record IsRunOf (objects : List Scene) (at : ℕ) (w : Wanted) (call : Called) (o : Open) : Type 0 where
+pub record IsRunOfOpen (objects : List Scene) (at : ℕ) (w : Wanted) (call : Called) (o : Open) : Type 0 where
   pub is : IsWanted objects at w call
   pub named : is.scene.hall.object.name ≡ o.name
 
@@ -81,7 +81,7 @@ pub record AreOfOpen (first last : Table) (turns : List Turn) : Type 0 where
       (o : Open) × IsOpen None before (Some o) × IsOfOpen first last turns answered.written.told.order.history c line text o
   pub ends : (c : ℕ) (before after : List Part) (object : ℕ) (w : Wanted) (call : Called) (reply : Reply) →
       (answered.written.told.order.each c).parts ≡ before ++ Ends object w call reply ∷ after →
-      (o : Open) × IsOpen None before (Some o) × IsRunOf first.objects.items object w call o
+      (o : Open) × IsOpen None before (Some o) × IsRunOfOpen first.objects.items object w call o
   pub accepts : (c : ℕ) (before after : List Part) (w : Wanted) → (answered.written.told.order.each c).parts ≡ before ++ Accepts w ∷ after →
       (o : Open) × IsOpen None before (Some o)
   pub withdraws : (c : ℕ) (before after : List Part) (w : Wanted) → (answered.written.told.order.each c).parts ≡ before ++ Withdraws w ∷ after →

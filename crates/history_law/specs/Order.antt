@@ -34,7 +34,7 @@ pub record IsInOrder (first last : Table) (turns : List Turn) (h : HaveOneHistor
   pub picked : (o : ObjectForm) (j : ℕ) → ArePicked (ends_of o j parts) (ends_in o j h.accounts)
 
 -- Turns have one history, and each connection is told so in it.
-pub record AreInOrder (first last : Table) (turns : List Turn) : Type 0 where
+pub record AreInTheirOrder (first last : Table) (turns : List Turn) : Type 0 where
   pub history : HaveOneHistory first last turns
   pub each : (c : ℕ) → IsInOrder first last turns history c
 
@@ -42,12 +42,12 @@ pub record AreInOrder (first last : Table) (turns : List Turn) : Type 0 where
 abbrev pub AnswersAreInOrder : Type 0
 AnswersAreInOrder =
     (first last : Table) (turns : List Turn) → Runs Gives first turns last → AreCut turns → AllHeld first.objects.items → IsEmpty (seen first) →
-    AreInOrder first last turns
+    AreInTheirOrder first last turns
 
 -- A crash leaves one history of turns, as before, and what is told in them is so.
 pub record LeavesInOrder (first : Table) (limits : LoopLimits) (seen_so : List Happened) (found : ℕ → List ℕ) : Type 0 where
   pub answered : LeavesAnswered first limits seen_so found
-  pub order : AreInOrder first answered.left.survives.last (answered.left.survives.answered ++ answered.left.survives.later)
+  pub order : AreInTheirOrder first answered.left.survives.last (answered.left.survives.answered ++ answered.left.survives.later)
 
 -- So it does at each moment of a loop that is honest, where answers wait for the disk.
 abbrev pub CrashLeavesInOrder : Type 0

@@ -7,10 +7,12 @@ use Rattle.live_core.specs.declared.past.PastRun.{PastRun}
 use Rattle.live_core.specs.Front.{Opening, HasRows, Every}
 use Rattle.live_core.specs.Text.{front_text}
 use Rattle.decl_core.specs.HoldForm.{HoldForm, RulesForm}
-use Rattle.guest_core.specs.Held.{HeldCall, AreHeld}
+use Rattle.guest_core.specs.declared.hold_ends.HoldEnds.{HoldEnds}
+use Rattle.guest_core.specs.declared.hold_ends.HoldEnds.TheVariants.{ByDone}
+use Rattle.guest_core.specs.Held.{HeldCall, AreHeld, AreHeldBy}
 use Rattle.front_read.specs.HeldLines.{held_text, IsHeldLine}
 use Rattle.recover_core.specs.HeldText.{HasHeld}
-use Rattle.recover_core.specs.HeldPlay.{PlaysLines}
+use Rattle.recover_core.specs.HeldPlay.{PlaysLines, rules_by}
 use Rattle.recover_core.specs.declared.recover.House.{House}
 use Rattle.recover_core.specs.declared.recover.Recovered.{Recovered}
 use Rattle.recover_core.specs.Playing.{begun_by}
@@ -35,9 +37,9 @@ pub record IsNumbered (f : Opening) (s : Scene) : Type 0 where
 -- them holds what the calls of just these steps have left.
 abbrev pub PlayedIsHeld : Type 0
 PlayedIsHeld =
-    (o : ObjectForm) (h : House) (f : Opening) (bytes : ℕ) (found : List ℕ) (r : Recovered) (holds : List HoldForm) (old new : List HeldCall) (past : List Happened) (s : Scene)
-    (b : IsBehind o h f bytes found r) → IsNumbered f s → AreHeld holds past old → PlaysLines o holds (begun_by f) f.base f.carried found old new →
-    AreHeld holds (ends_of s b.steps ++ past) new
+    (ends : HoldEnds) (o : ObjectForm) (h : House) (f : Opening) (bytes : ℕ) (found : List ℕ) (r : Recovered) (holds : List HoldForm) (old new : List HeldCall) (past : List Happened) (s : Scene)
+    (b : IsBehind o h f bytes found r) → IsNumbered f s → AreHeldBy ends holds past old → PlaysLines (rules_by ends holds) o (begun_by f) f.base f.carried found old new →
+    AreHeldBy ends holds (ends_of s b.steps ++ past) new
 
 -- An object has begun its next epoch by a text, and in turns since lines were added of which a crash has left the first
 -- bytes. The text is a front, and the lines of what was held then, by what had happened; it says that this was held, where
@@ -51,7 +53,7 @@ pub record LeavesHeld (after : Table) (j : ℕ) (o : ObjectForm) (rules : RulesF
   pub text_is : text ≡ front_text o front ++ held_text o rules.holds holds.custody.held
   pub says : HasRows o front → Every (IsHeldLine o rules.holds) holds.custody.held → HasHeld o rules.holds (text ++ found) front holds.custody.held found
   pub played : (h : House) (bytes : ℕ) (r : Recovered) (new : List HeldCall) (b : IsBehind o h front bytes found r) →
-      PlaysLines o rules.holds (begun_by front) front.base front.carried found holds.custody.held new → AreHeld rules.holds (ends_of scene b.steps ++ past) new
+      PlaysLines (rules_by ByDone rules.holds) o (begun_by front) front.base front.carried found holds.custody.held new → AreHeld rules.holds (ends_of scene b.steps ++ past) new
 
 abbrev pub NextLeavesHeld : Type 0
 NextLeavesHeld =

@@ -14,7 +14,6 @@ use Rattle.word_core.specs.Answers.{cancelled_line}
 use Rattle.guest_core.specs.declared.answer.Cancelled.{Cancelled}
 use Rattle.guest_core.specs.declared.answer.SubmitFault.TheVariants as faults
 use Rattle.session_text.specs.declared.line.ReplyLine.TheVariants as lines
-use Rattle.session_text.specs.declared.line.ReplyLine.{ReplyLine as Answer}
 use Rattle.session_text.specs.declared.line.LineRefusal.TheVariants as refusals
 use Rattle.session_text.specs.Lines.{accepted_text, bye_text, cancel_name, ended_text, line_text, withdrawn_text}
 use Rattle.live_core.specs.Scene.{Scene}
@@ -25,7 +24,7 @@ use Rattle.client_core.specs.declared.ask.Sight.{Sight}
 use Rattle.client_core.specs.Asks.{Asks}
 use Rattle.client_core.specs.Inside.{inside_in}
 use Rattle.client_core.specs.Numbers.{cancel_in}
-use Rattle.client_core.specs.Asked.{IsRefusal}
+use Rattle.client_core.specs.Refusals.{IsRefusalText}
 use Rattle.client_core.specs.Deeds.{Texts}
 
 -- a line as it is done, without a CR at its end, and whether an LF stood behind it
@@ -79,7 +78,7 @@ IsNoEnd text = (number : ℕ) (reply : Reply) → text ≡ ended_text number rep
 -- a text answers a `cancel` of this number
 abbrev pub AnswersCancel : ℕ → List ℕ → Type 0
 AnswersCancel told text =
-    ((answer : Cancelled) × (text ≡ cancelled_line told (cancel_name answer))) ⊎ ((line : Answer) × IsRefusal line × (text ≡ line_text line))
+    ((answer : Cancelled) × (text ≡ cancelled_line told (cancel_name answer))) ⊎ IsRefusalText text
 
 -- a text tells that memory was refused
 abbrev pub no_memory : List ℕ
@@ -101,7 +100,7 @@ IsIdle ends.Input waits held = (waits ≡ None) × (held ≡ [])
 IsIdle ends.TooLong waits held = ⊥
 
 -- One thing after the other: lines are done in the order in which they came, each once; the call of one has ended before the next
--- one is done; and only what is answered at once comes before that.
+-- one is done; and only what is answered at once comes before that. Where one leaves whose call waits, it is told nothing more.
 abbrev pub Follows : Part → Talk → Talk → Type 0
 Follows Comes Away new = new ≡ Here None []
 Follows (Hears line end) Away new = new ≡ Away
@@ -114,6 +113,7 @@ Follows (Ends object w call reply) (Here (Some waits) held) new = (waits ≡ w) 
 Follows (Withdraws w) (Here (Some waits) held) new = (waits ≡ w) × (new ≡ Here None held)
 Follows (Quits line) (Here None (first ∷ held)) new = (first ≡ line) × ((opened : Bool) × Asks opened line.is_whole line.text asks.Quit) × (new ≡ Away)
 Follows Leaves (Here None []) new = new ≡ Away
+Follows Leaves (Here (Some waits) held) new = new ≡ Away
 Follows part old new = ⊥
 
 -- these parts, one after the other, lead from old to new
@@ -138,20 +138,20 @@ lines_of [] = []
 lines_of (p ∷ parts) = line_in p ++ lines_of parts
 
 -- the texts that were told in them
-abbrev pub text_in : Part → List (List ℕ)
-text_in Comes = []
-text_in (Hears line end) = []
-text_in (Between line end text) = text ∷ []
-text_in (Answers line text) = text ∷ []
-text_in (Accepts w) = accepted_text w.number ∷ []
-text_in (Ends object w call reply) = ended_text w.number reply ∷ []
-text_in (Withdraws w) = withdrawn_text w.number ∷ []
-text_in (Quits line) = bye_text ∷ []
-text_in Leaves = []
+abbrev pub text_of_part : Part → List (List ℕ)
+text_of_part Comes = []
+text_of_part (Hears line end) = []
+text_of_part (Between line end text) = text ∷ []
+text_of_part (Answers line text) = text ∷ []
+text_of_part (Accepts w) = accepted_text w.number ∷ []
+text_of_part (Ends object w call reply) = ended_text w.number reply ∷ []
+text_of_part (Withdraws w) = withdrawn_text w.number ∷ []
+text_of_part (Quits line) = bye_text ∷ []
+text_of_part Leaves = []
 
 abbrev pub texts_of : List Part → List (List ℕ)
 texts_of [] = []
-texts_of (p ∷ parts) = text_in p ++ texts_of parts
+texts_of (p ∷ parts) = text_of_part p ++ texts_of parts
 
 -- texts, one behind the other
 abbrev pub put_together : List (List ℕ) → List ℕ

@@ -21,7 +21,7 @@ use Rattle.table_core.specs.Moves.{Gives}
 use Rattle.table_core.specs.Seen.{IsQuiet, seen}
 use Rattle.table_core.specs.declared.table.Table.{Table}
 use Rattle.history_law.specs.Replied.{HaveOneHistory}
-use Rattle.history_law.specs.Awaits.{IsIn, AllHeld}
+use Rattle.history_law.specs.Awaits.{IsElementOf, AllHeld}
 use Rattle.history_law.specs.Asked.{Claim, Claims, no_claims, AreAsked, ClientHas, IsAskedOf, IsHere}
 
 -- a connection has opened an object by a name, and this is known of it
@@ -36,7 +36,7 @@ pub record AllAsked (claims : Claims) (objects : List Scene) (peers : List Peer)
       ClientHas (IsHere (OpenedAs claims (who_in (slice_get peers place)) o)) s.guests o.session
   pub alone : (place other : ℕ) (o u : OpenObject) → opened_in (slice_get peers place) ≡ Some o → opened_in (slice_get peers other) ≡ Some u → o.session ≢ 0 → o.object ≡ u.object → o.session ≡ u.session →
       place ≡ other
-  pub waits : (place : ℕ) (o : OpenObject) (s : Scene) (c : Called) → opened_in (slice_get peers place) ≡ Some o → slice_get objects o.object ≡ Some s → IsIn c s.hall.waiting → c.session ≡ o.session →
+  pub waits : (place : ℕ) (o : OpenObject) (s : Scene) (c : Called) → opened_in (slice_get peers place) ≡ Some o → slice_get objects o.object ≡ Some s → IsElementOf c s.hall.waiting → c.session ≡ o.session →
       slice_get s.guests.seats o.session ≡ Some Nameless → o.waits ≡ true
 
 -- an object went by steps with these lines, this is what happened, and each call that ran in them is its client's own

@@ -4,13 +4,15 @@ ghost use Rattle.std.specs.Prelude.{◌≡◌, ◌⊎◌, ◌+◌, ◌<◌, ◌^
 ghost use Rattle.decl_core.specs.ObjectForm.{ObjectForm};
 ghost use Rattle.audit_core.specs.Verdicts.{IsLegalTrace};
 ghost use Rattle.keep_loop.specs.Device.{LeavesOnly};
-ghost use Rattle.keep_loop.specs.Journal.{recovered, AreLines, Begins};
+ghost use Rattle.keep_loop.specs.Journal.{AreLines, Begins};
 ghost use Rattle.keep_loop.specs.Order.{IsInOrder, Holds};
-ghost use Rattle.history_law.specs.CrashLaws.{TellsParts, IsLeft};
+ghost use Rattle.keep_loop.specs.Taken.{IsFront, Tells};
+ghost use Rattle.history_law.specs.CrashLaws.{TellsParts, FileIsLeft};
 
 use crate::crash_laws::crash_leaves_legal;
 use keep_loop::device::{Device, DeviceError};
 use keep_loop::journal::Journal;
+use keep_loop::taken::taken_are_lines;
 use std::alloc::Global;
 
 /// Begins the journal of an object anew with this front, and room for so many bytes behind it, as [`Journal::change`] does.
@@ -24,7 +26,7 @@ pub fn begin_anew<D: Device>(
     room: usize,
 ) -> Result<bool, DeviceError>
     requires in_order { IsInOrder D.seen D.may_leave journal.old }
-    requires lines { AreLines front.now }
+    requires lines { IsFront front.now }
     requires small { length front.now + room < 2 ^ 62 }
 
     ensures in_order { OnOk result (IsInOrder D.seen D.may_leave journal.new) }
@@ -37,16 +39,17 @@ pub fn begin_anew<D: Device>(
         → TellsParts o opening → AreLines opening → Begins opening stored → AreLines stored
         → Holds D.seen journal.old stored text → IsLegalTrace o text ends
         → LeavesOnly D.moment D.left_since journal.old.device journal.new.device
-        (λ c. IsLeft o stored text ends (recovered c) ⊎ (recovered c ≡ front.now)) }
+        (λ c. FileIsLeft o stored text ends c ⊎ Tells front.now c) }
 
     ensures any_moment_kept { IfOk result (λ went. went ≡ false → ((o : ObjectForm) (opening stored text : List ℕ) (ends : ℕ)
         → TellsParts o opening → AreLines opening → Begins opening stored → AreLines stored
         → Holds D.seen journal.old stored text → IsLegalTrace o text ends
         → LeavesOnly D.moment D.left_since journal.old.device journal.new.device
-        (λ c. IsLeft o stored text ends (recovered c)))) }
+        (λ c. FileIsLeft o stored text ends c))) }
 {
-    // Called for its contract alone.
+    // Called for their contracts alone.
     crash_leaves_legal();
+    taken_are_lines();
     let went = journal.change(alloc, front, room)?;
     Ok(went)
 }

@@ -2,7 +2,6 @@
 
 ghost use Rattle.history_law.specs.CrashLaws.{FrontIsSound, CompletedIsSound, CrashLeavesLegal, WordsAreLines};
 
-use keep_loop::journal::recovered_are_lines;
 use path_tree::laws::finish_keeps_satisfaction;
 
 /// Of a sound trace the first lines behind its parts are a sound trace, however many.
@@ -22,10 +21,7 @@ pub fn completed_is_sound()
 /// stored and at most as many as were made.
 pub fn crash_leaves_legal()
     ensures { CrashLeavesLegal }
-{
-    // Called for its contract alone.
-    recovered_are_lines();
-}
+{}
 
 /// A line of words, none of which has a byte 0 in it, may be added to a journal.
 pub fn words_are_lines()

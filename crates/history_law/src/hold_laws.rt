@@ -68,7 +68,7 @@ pub fn due_stays()
     ensures { DueStays }
 {}
 
-/// When it ends it has given back that hold, and no other.
+/// When it was done it has given back that hold, and no other; where it was refused or failed it has given back nothing.
 pub fn due_gives_newest()
     ensures { DueGivesNewest }
 {}

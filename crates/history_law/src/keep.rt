@@ -4,14 +4,15 @@ ghost use Rattle.std.specs.Prelude.{◌≡◌, ◌++◌, ◌≤◌, List, ℕ};
 ghost use Rattle.decl_core.specs.ObjectForm.{ObjectForm};
 ghost use Rattle.audit_core.specs.Verdicts.{IsLegalTrace};
 ghost use Rattle.keep_loop.specs.Device.{LeavesOnly};
-ghost use Rattle.keep_loop.specs.Journal.{recovered, AreLines, Begins};
+ghost use Rattle.keep_loop.specs.Journal.{AreLines, Begins};
 ghost use Rattle.keep_loop.specs.Order.{IsInOrder, Holds};
 ghost use Rattle.keep_loop.specs.Run.{AreSteps, added};
-ghost use Rattle.history_law.specs.CrashLaws.{TellsParts, IsLeft};
+ghost use Rattle.history_law.specs.CrashLaws.{TellsParts, FileIsLeft};
 
 use crate::crash_laws::crash_leaves_legal;
 use keep_loop::device::{Device, DeviceError};
 use keep_loop::journal::Journal;
+use keep_loop::taken::taken_are_lines;
 use keep_loop::uncalled::JournalStep;
 
 /// Adds lines of a trace and stores them, in these steps, up to the first that fails; `Err` is that of the step. Where
@@ -25,9 +26,10 @@ pub fn keep<D: Device>(journal: &mut Journal<D>, steps: &[JournalStep]) -> Resul
         → TellsParts o front → AreLines front → Begins front stored → AreLines stored → Holds D.seen journal.old stored text
         → IsLegalTrace o (text ++ added steps.now) ends
         → LeavesOnly D.moment D.left_since journal.old.device journal.new.device
-        (λ c. IsLeft o stored (text ++ added steps.now) ends (recovered c)) }
+        (λ c. FileIsLeft o stored (text ++ added steps.now) ends c) }
 {
-    // Called for its contract alone.
+    // Called for their contracts alone.
     crash_leaves_legal();
+    taken_are_lines();
     journal.run(steps)
 }

@@ -7,12 +7,11 @@ use Rattle.decl_core.specs.ObjectMap.{object_of}
 use Rattle.word_core.specs.Events.{Called}
 use Rattle.live_core.specs.Scene.{Scene}
 use Rattle.client_core.specs.declared.client.OpenObject.{OpenObject}
-use Rattle.decl_core.specs.HoldForm.{HoldForm}
-use Rattle.guest_core.specs.Held.{HeldCall}
-use Rattle.check_core.specs.HeldTold.{holds_line}
+use Rattle.client_core.specs.Holding.{Holding}
+use Rattle.client_core.specs.HeldRows.{held_line, rules_by}
 use Rattle.stuck_core.specs.Who.{Sitting, Refused, seat_line, waits_line, who_line}
-use Rattle.client_core.specs.ToldInside.{Crowd, IsSeatOf, AreSeats, IsWaitOf, AreWaits, AreSitting, last_told, is_between, waiting_in, held_in, IsWho}
-use Rattle.inside_core.specs.Adds.{AddsSeats, AddsWaits, AddsHeld}
+use Rattle.client_core.specs.ToldInside.{Crowd, IsSeatOf, AreSeats, IsWaitOf, AreWaits, AreSitting, last_told, is_between, waiting_in, IsWho}
+use Rattle.inside_core.specs.Adds.{AddsSeats, AddsWaits, AddsHeldBy}
 
 flat_map-append : {X Y : Type 0} (f : X → List Y) (xs ys : List X) → flat_map f (xs ++ ys) ≡ flat_map f xs ++ flat_map f ys
 flat_map-append f [] ys = refl
@@ -141,27 +140,26 @@ waits_more crowd seats object from last calls k n m d c before mid after inside 
     (waits_then crowd seats object (waiting_in from last (take k calls)) (waiting_in from last (c ∷ [])) n m before mid after one two)
 
 -- the whole answer
-pub who_is : (crowd : Crowd) (object : Scene) (holds : List HoldForm) (held : List HeldCall) (from : ℕ) (all : List (ℕ × OpenObject)) (n m count : ℕ) (seats waits lines head text : List ℕ) →
+pub who_is : (crowd : Crowd) (object : Scene) (holding : Option Holding) (from : ℕ) (all : List (ℕ × OpenObject)) (n m count : ℕ) (seats waits lines head text : List ℕ) →
     AreSitting crowd.at from crowd.peers all → AddsSeats crowd (take 256 all) [] seats →
     AddsWaits crowd (take 256 all) object (waiting_in from (last_told all) object.hall.waiting) n seats waits →
-    AddsHeld (object_of object.hall.object) holds (take 256 (held_in from (last_told all) held)) m waits lines →
-    count ≡ length (take 256 all) + n + m → head ≡ who_line count → text ≡ head ++ lines → IsWho crowd object holds held from text
-who_is crowd object holds held from all n m count seats waits lines head text are one two three total first whole = record {
+    AddsHeldBy crowd.now object from (last_told all) holding m waits lines →
+    count ≡ length (take 256 all) + n + m → head ≡ who_line count → text ≡ head ++ lines → IsWho crowd object holding from text
+who_is crowd object holding from all n m count seats waits lines head text are one two three total first whole = record {
   all = all;
   are_all = are;
   seats = one.rows;
   are_seats = one.are;
   calls = two.rows;
   are_calls = two.are;
-  text_is = whole ∙ ap (λ l. l ++ lines) (first ∙ ap who_line so) ∙ ap (λ l. who_line many ++ l) (three.added ∙ ap (λ l. l ++ holding) (two.added ∙ ap (λ l. l ++ waiting) one.added))
-      ∙ sym (append_assoc (who_line many) (sitting ++ waiting) holding) ∙ ap (λ l. l ++ holding) (sym (append_assoc (who_line many) sitting waiting));
+  held = three.rows;
+  are_held = three.are;
+  text_is = whole ∙ ap (λ l. l ++ lines) (first ∙ ap who_line so) ∙ ap (λ l. who_line many ++ l) (three.added ∙ ap (λ l. l ++ holds) (two.added ∙ ap (λ l. l ++ waiting) one.added))
+      ∙ sym (append_assoc (who_line many) (sitting ++ waiting) holds) ∙ ap (λ l. l ++ holds) (sym (append_assoc (who_line many) sitting waiting));
 }
   where
-    told : List HeldCall
-    told = take 256 (held_in from (last_told all) held)
-
     many : ℕ
-    many = length one.rows + sum (map (λ c. length c.whys) two.rows) + length told
+    many = length one.rows + sum (map (λ c. length c.whys) two.rows) + length three.rows
 
     sitting : List ℕ
     sitting = flat_map (λ s. seat_line s.seat s.name) one.rows
@@ -169,8 +167,8 @@ who_is crowd object holds held from all n m count seats waits lines head text ar
     waiting : List ℕ
     waiting = flat_map (λ c. flat_map (waits_line (object_of object.hall.object) c.call) c.whys) two.rows
 
-    holding : List ℕ
-    holding = flat_map (holds_line (object_of object.hall.object) holds) told
+    holds : List ℕ
+    holds = flat_map (held_line (object_of object.hall.object) (rules_by holding)) three.rows
 
     so : count ≡ many
     so = let a = seats_count crowd (take 256 all) one.rows one.are in let b = two.count in let d = three.count in omega (arith, total, a, b, d)

@@ -7,3 +7,4 @@ pub mod Whys
 mod Looking
 mod Counting
 mod StatusAdding
+mod Awaiting

@@ -1,6 +1,5 @@
 -- Lines that are added to an answer to `who`.
-use Rattle.std.specs.Prelude.{◌≡◌, ℕ, List, ◌++◌, map, flat_map, length, sum}
-use Rattle.decl_core.specs.ObjectForm.{ObjectForm}
+use Rattle.std.specs.Prelude.{◌≡◌, ℕ, List, ◌++◌, Option, map, flat_map, length, sum}
 use Rattle.decl_core.specs.ObjectMap.{object_of}
 use Rattle.word_core.specs.Events.{Called}
 use Rattle.live_core.specs.Hall.{Every}
@@ -8,13 +7,12 @@ use Rattle.live_core.specs.Scene.{Scene}
 use Rattle.client_core.specs.declared.client.OpenObject.{OpenObject}
 use Rattle.client_core.specs.declared.clients.ClientPlaces.{ClientPlaces}
 use Rattle.client_core.specs.People.{people_of}
-use Rattle.decl_core.specs.HoldForm.{HoldForm}
-use Rattle.guest_core.specs.Held.{HeldCall}
-use Rattle.check_core.specs.HeldTold.{holds_line}
+use Rattle.client_core.specs.Holding.{Holding}
+use Rattle.client_core.specs.HeldRows.{AreHeldRows, HeldRow, Timed, held_line, rules_by}
 use Rattle.stuck_core.specs.Who.{Sitting, Refused, seat_line, waits_line}
 use Rattle.client_core.specs.State.{peers_of}
 use Rattle.stuck_core.specs.ReasonViews.{whys_of}
-use Rattle.client_core.specs.ToldInside.{Crowd, AreSeats, AreWaits, AreWhys}
+use Rattle.client_core.specs.ToldInside.{Crowd, AreHeldBy, AreSeats, AreWaits, AreWhys}
 use Rattle.inside_core.specs.declared.who.Refusing.{Refusing}
 use Rattle.inside_core.specs.declared.who.Whom.{Whom}
 
@@ -36,9 +34,18 @@ pub record AddsWaits (crowd : Crowd) (seats : List (ℕ × OpenObject)) (object 
   pub added : after ≡ before ++ flat_map (λ r. flat_map (waits_line (object_of object.hall.object) r.call) r.whys) rows
 
 -- the lines of these calls that are held are added, so many
-pub record AddsHeld (o : ObjectForm) (holds : List HoldForm) (held : List HeldCall) (n : ℕ) (before after : List ℕ) : Type 0 where
-  pub count : n ≡ length held
-  pub added : after ≡ before ++ flat_map (holds_line o holds) held
+pub record AddsHeld (now : ℕ) (object : Scene) (h : Holding) (held : List Timed) (n : ℕ) (before after : List ℕ) : Type 0 where
+  pub rows : List HeldRow
+  pub are : AreHeldRows now object h held rows
+  pub count : n ≡ length rows
+  pub added : after ≡ before ++ flat_map (held_line (object_of object.hall.object) h.rules.holds) rows
+
+-- those of the first 256 of what these sessions hold, where this is known of what is held of the object
+pub record AddsHeldBy (now : ℕ) (object : Scene) (from : ℕ) (last : Option ℕ) (holding : Option Holding) (n : ℕ) (before after : List ℕ) : Type 0 where
+  pub rows : List HeldRow
+  pub are : AreHeldBy now object from last holding rows
+  pub count : n ≡ length rows
+  pub added : after ≡ before ++ flat_map (held_line (object_of object.hall.object) (rules_by holding)) rows
 
 -- what is known of operations are the nodes that refuse a start of them now
 abbrev pub AreKnown : Scene → List Refusing → Type 0

@@ -3,5 +3,8 @@ pub mod Looks
 pub mod Tallies
 pub mod Laws
 pub mod Metrics
+pub mod Labels
+pub mod Durations
+pub mod Counted
 pub mod Server
 pub mod Objects

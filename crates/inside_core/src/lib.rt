@@ -11,13 +11,19 @@
 //!
 //! A status is a text in the format of Prometheus. `server::push_server` writes what is outside of a server's objects:
 //! its time, its connections, its journals; `objects::push_objects` what its objects know: their calls, by how they
-//! ended, and who waits; `look::write_look` makes both of what stands between two turns. Of each metric comes what it
-//! is about, its kind, and then its samples; `specs/Looks.antt` says what stands in it. No argument and no reply of a
-//! call is in it: a status may be shown to more people than the values.
+//! ended, and who waits; `look::write_look` makes that of what stands between two turns, and `longest` says how long calls
+//! wait, `counted` what the nodes of paths have counted. Of each metric comes what it is about, its kind, and then its samples, which get the label of their server
+//! (`labels`), `durations` is a histogram of how long things took; `specs/Looks.antt` says what stands in it. No argument and no reply of a call is in it: a status may be
+//! shown to more people than the values.
 #![tactic(auto)]
 
+mod counted;
+mod durations;
+mod held;
+pub mod labels;
 pub mod laws;
 pub mod list;
+mod longest;
 pub mod look;
 mod metric;
 pub mod numbers;

@@ -1,21 +1,24 @@
 //! What the objects of a table know, between two turns.
 
 ghost use Rattle.std.specs.Prelude.{◌≡◌, ◌<◌, ◌≤◌, ◌⊎◌, ◌==◌, if◌then◌else◌, length, ◌-◌, IfOk, OnOk, slice_get};
-ghost use Rattle.client_core.specs.People.{people_of, called_in};
 ghost use Rattle.decl_core.specs.ObjectMap.{object_of};
 ghost use Rattle.word_core.specs.Text.{operation_name};
 ghost use Rattle.inside_core.specs.Laws.{sum_of};
 ghost use Rattle.inside_core.specs.Tallies.{ends_of, taken_of};
 ghost use Rattle.client_core.specs.Views.{custodies_of};
 ghost use Rattle.client_core.specs.Custody.{held_by};
-ghost use Rattle.client_core.specs.ToldInside.{Crowd, sits_in, sitting_from};
+ghost use Rattle.client_core.specs.ToldInside.{sits_in, sitting_from};
 ghost use Rattle.client_core.specs.State.{opened_in, peers_of};
-ghost use Rattle.inside_core.specs.Looks.{waiting_of, told_ends, left_of, wait_in, wait_at, crowd_at, IsLongest, IsTally, AreTallies, Shows};
+ghost use Rattle.inside_core.specs.Adds.{crowd_of};
+ghost use Rattle.inside_core.specs.Looks.{waiting_of, told_ends, left_of, crowd_at, IsTally, AreTallies, Shows};
 ghost use Rattle.inside_core.specs.Looks.{ShowsAt, ShowsAll, IsStatus};
 
+use crate::counted::push_nodes;
+use crate::longest::longest_wait;
 use crate::numbers::{EndCounts, OperationTally, SeenObject};
 use crate::objects::push_objects;
 use crate::tallies::{CallEnds, Tallies};
+use crate::who::Whom;
 use client_core::all::AllHeld;
 use client_core::client::OpenObject;
 use client_core::clients::ClientPlaces;
@@ -94,66 +97,6 @@ fn sessions_of(clients: &ClientPlaces, at: usize) -> usize
     sessions
 }
 
-// The second in which the last call of the one at a place was taken.
-fn called_at(clients: &ClientPlaces, place: usize) -> u64
-    ensures { result ≡ called_in (slice_get (people_of clients.now) place) }
-{
-    clients.called(place)
-}
-
-// For how many seconds one waits for a call of the object at a place, of which the last call was taken then.
-fn wait_of(opened: Option<OpenObject>, at: usize, second: u64, called: u64) -> u64
-    ensures { result ≡ wait_in at opened (second - called) }
-{
-    match opened {
-        None => 0,
-        Some(opened) => {
-            if opened.object != at {
-                return 0;
-            }
-            if !opened.waits {
-                return 0;
-            }
-            second.saturating_sub(called)
-        }
-    }
-}
-
-// For how many seconds the one at a place waits for a call of the object at another.
-fn waits_at(clients: &ClientPlaces, place: usize, at: usize, second: u64) -> u64
-    ensures { result ≡ wait_at (crowd_at clients.now at second) place }
-{
-    wait_of(
-        opened_at(clients, place),
-        at,
-        second,
-        called_at(clients, place),
-    )
-}
-
-// The greater one of two numbers.
-fn greater(one: u64, other: u64) -> u64
-    ensures one { one ≤ result }
-    ensures other { other ≤ result }
-    ensures which { (result ≡ one) ⊎ (result ≡ other) }
-{
-    if one < other {
-        return other;
-    }
-    one
-}
-
-// For how many seconds the one waits that waits longest for a call of the object at a place.
-fn longest_wait(clients: &ClientPlaces, at: usize, second: u64) -> u64
-    ensures { IsLongest (crowd_at clients.now at second) result }
-{
-    let mut longest: u64 = 0;
-    for place in 0..count(clients) {
-        longest = greater(longest, waits_at(clients, place, at, second));
-    }
-    longest
-}
-
 // The name of the operation at a place; no bytes where there is none.
 fn bytes_of(object: &Object, operation: usize) -> &[u8]
     ensures { result.now ≡ operation_name (object_of object.now) operation }
@@ -193,32 +136,45 @@ fn ends_at(ends: &[CallEnds], operation: usize) -> EndCounts
 // What is told of the operation at a place.
 fn tally_of(
     alloc: Global,
-    live: &Live,
+    clients: &ClientPlaces,
+    object: &Hosted,
     ends: &[CallEnds],
+    whom: Whom,
     operation: usize,
 ) -> Result<OperationTally, AllocError>
-    ensures { IfOk result (λ tally. IsTally live.now ends.now operation tally) }
+    ensures { IfOk result (λ tally. IsTally (crowd_of clients.now whom) object.now ends.now operation tally) }
 {
+    let live = object.live();
     Ok(OperationTally {
         name: name_of(alloc, live.object(), operation)?,
         ends: ends_at(ends, operation),
         running: 0,
         waiting: waiting_of(live.waiting(), operation),
+        waited: longest_wait(clients, object, whom, operation),
     })
+}
+
+// How many operations an object has.
+fn operations_of(live: &Live) -> usize
+    ensures { result ≡ length live.now.object.operations.items }
+{
+    live.object().operations.len()
 }
 
 // What is told of all operations of an object.
 fn tallies_of(
     alloc: Global,
-    live: &Live,
+    clients: &ClientPlaces,
+    object: &Hosted,
     ends: &[CallEnds],
+    whom: Whom,
 ) -> Result<Vec<OperationTally>, AllocError>
-    ensures all { IfOk result (λ tallies. AreTallies live.now ends.now 0 tallies.items) }
-    ensures count { IfOk result (λ tallies. length tallies.items ≡ length live.now.object.operations.items) }
+    ensures all { IfOk result (λ tallies. AreTallies (crowd_of clients.now whom) object.now ends.now 0 tallies.items) }
+    ensures count { IfOk result (λ tallies. length tallies.items ≡ length object.now.hall.object.operations.items) }
 {
     let mut tallies = Vec::new(alloc);
-    for place in 0..live.object().operations.len() {
-        tallies.push(tally_of(alloc, live, ends, place)?)?;
+    for place in 0..operations_of(object.live()) {
+        tallies.push(tally_of(alloc, clients, object, ends, whom, place)?)?;
     }
     Ok(tallies)
 }
@@ -261,30 +217,29 @@ fn held_at(custody: &AllHeld, at: usize) -> u64
     held.len() as u64
 }
 
-// What is told of an object, where so many have opened it by a session, for so long one waits, and so many calls are held.
+// What is told of an object, where these are there, so many have opened it by a session, and so many calls are held.
 fn seen_of(
     alloc: Global,
+    clients: &ClientPlaces,
     object: &Hosted,
     tallies: &Tallies,
-    at: usize,
+    whom: Whom,
     sessions: usize,
-    waited: u64,
     held: u64,
 ) -> Result<SeenObject, AllocError>
-    ensures { IfOk result (λ seen. Shows object.now (slice_get tallies.now.objects.items at) sessions waited held
+    ensures { IfOk result (λ seen. Shows (crowd_of clients.now whom) object.now (slice_get tallies.now.objects.items whom.at) sessions held
         seen) }
 {
     let live = object.live();
-    let ends = tallies.ends(at);
+    let ends = tallies.ends(whom.at);
     Ok(SeenObject {
         name: object.name().as_bytes().to_vec(alloc)?,
         sessions: sessions as u64,
         given: given_of(live),
         limit: u64::from(MOST_CALLS),
-        cancelled: cancelled_of(tallies.taken(at), ends, live.waiting().len()),
-        waited,
+        cancelled: cancelled_of(tallies.taken(whom.at), ends, live.waiting().len()),
         held,
-        operations: tallies_of(alloc, live, ends)?,
+        operations: tallies_of(alloc, clients, object, ends, whom)?,
     })
 }
 
@@ -303,9 +258,13 @@ fn seen_at(
         seen) }
 {
     let sessions = sessions_of(clients, at);
-    let waited = longest_wait(clients, at, second);
     let held = held_at(custody, at);
-    let seen = seen_of(alloc, &objects[at], tallies, at, sessions, waited, held)?;
+    let whom = Whom {
+        at,
+        from: 0,
+        second,
+    };
+    let seen = seen_of(alloc, clients, &objects[at], tallies, whom, sessions, held)?;
     Ok(seen)
 }
 
@@ -331,7 +290,7 @@ fn seen_in(
 }
 
 /// Puts a status in place of what is in `out`: the text of what is told of all objects, of their connections, of the counts
-/// of their calls and of what is held, in this second. The error is that memory was refused.
+/// of their calls, of what is held, and of what their paths have counted, in this second. The error is that memory was refused.
 pub fn write_look(
     alloc: Global,
     objects: &[Hosted],
@@ -346,5 +305,5 @@ pub fn write_look(
     let seen = seen_in(alloc, objects, tallies, clients, custody, second)?;
     out.clear();
     push_objects(out, &seen)?;
-    Ok(())
+    push_nodes(out, objects)
 }

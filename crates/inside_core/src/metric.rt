@@ -1,7 +1,7 @@
 //! Metrics in the text format of Prometheus.
 
 ghost use Rattle.std.specs.Prelude.{◌≡◌, ◌++◌, OnOk};
-ghost use Rattle.inside_core.specs.Metrics.{head, label_text, sample_text, one_text, object_line};
+ghost use Rattle.inside_core.specs.Metrics.{head, kind_text, label_text, sample_text, server_labels, one_text, object_line, journal_line};
 
 use std::alloc::AllocError;
 use value_core::reply::push_count;
@@ -13,6 +13,19 @@ pub enum MetricKind {
     Counter,
     /// It goes up and down.
     Gauge,
+    /// How many of some numbers are at most as great as each of some bounds, and their sum.
+    Histogram,
+}
+
+// Adds a kind, and the end of the line.
+fn push_kind(out: &mut Vec<u8>, kind: MetricKind) -> Result<(), AllocError>
+    ensures { OnOk result (out.new.items ≡ out.old.items ++ kind_text kind) }
+{
+    match kind {
+        MetricKind::Counter => out.extend_from_slice(b" counter\n"),
+        MetricKind::Gauge => out.extend_from_slice(b" gauge\n"),
+        MetricKind::Histogram => out.extend_from_slice(b" histogram\n"),
+    }
 }
 
 // Adds what a metric is about, and its kind.
@@ -30,10 +43,7 @@ pub(crate) fn push_head(
     out.extend_from_slice(about)?;
     out.extend_from_slice(b"\n# TYPE ")?;
     out.extend_from_slice(name)?;
-    match kind {
-        MetricKind::Counter => out.extend_from_slice(b" counter\n"),
-        MetricKind::Gauge => out.extend_from_slice(b" gauge\n"),
-    }
+    push_kind(out, kind)
 }
 
 // Adds a label, behind what stands before it.
@@ -53,19 +63,46 @@ pub(crate) fn push_sample(out: &mut Vec<u8>, before: &[u8], number: u64) -> Resu
     push_count(out, before, number)
 }
 
-// Adds a metric that has one number.
+// Adds the label of a server, behind which others may come.
+pub(crate) fn push_server(out: &mut Vec<u8>, label: &[u8]) -> Result<(), AllocError>
+    ensures { OnOk result (out.new.items ≡ out.old.items ++ server_labels label.now) }
+{
+    out.push(b'{')?;
+    out.extend_from_slice(label)?;
+    Ok(())
+}
+
+// Adds a metric that has one number, with the label of the server.
 pub(crate) fn push_one(
     out: &mut Vec<u8>,
+    label: &[u8],
     name: &[u8],
     kind: MetricKind,
     about: &[u8],
     number: u64,
 ) -> Result<(), AllocError>
-    ensures { OnOk result (out.new.items ≡ out.old.items ++ one_text name.now kind about.now number) }
+    ensures { OnOk result (out.new.items ≡ out.old.items ++ one_text label.now name.now kind about.now number) }
 {
     push_head(out, name, kind, about)?;
     out.extend_from_slice(name)?;
-    push_sample(out, b" ", number)
+    push_server(out, label)?;
+    push_sample(out, b"} ", number)
+}
+
+// Adds the sample of the journal of an object, with the label of the server.
+pub(crate) fn push_of_journal(
+    out: &mut Vec<u8>,
+    label: &[u8],
+    name: &[u8],
+    object: &[u8],
+    number: u64,
+) -> Result<(), AllocError>
+    ensures { OnOk result (out.new.items ≡ out.old.items ++ journal_line label.now name.now object.now number) }
+{
+    out.extend_from_slice(name)?;
+    push_server(out, label)?;
+    push_label(out, b",object=\"", object)?;
+    push_sample(out, b"} ", number)
 }
 
 // Adds the sample of an object.

@@ -27,6 +27,27 @@ pub struct Stored {
     /// How often it was stored since the start, and when for the last time: 0 where it was not.
     pub syncs: u64,
     pub synced: u64,
+    /// How often no epoch could begin since the start.
+    pub failed: u64,
+}
+
+/// How many things took at most so long.
+#[derive(Drop)]
+pub struct Bucket {
+    /// So long, in seconds, as it is told, and in nanoseconds.
+    pub seconds: Vec<u8>,
+    pub nanos: u64,
+    pub count: u64,
+}
+
+/// How long things took.
+#[derive(Drop)]
+pub struct Durations {
+    /// The bounds, each of which is above the one before.
+    pub buckets: Vec<Bucket>,
+    /// How many they were, and how many nanoseconds they took in all.
+    pub count: u64,
+    pub nanos: u64,
 }
 
 /// How many calls of an operation ended since the start, by how.
@@ -37,13 +58,15 @@ pub struct EndCounts {
     pub failed: u64,
 }
 
-/// An operation: its name, which is an identifier, how its calls ended, and how many run and wait now.
+/// An operation: its name, which is an identifier, how its calls ended, how many run and wait now, and for how many seconds
+/// the call waits that waits longest; 0 where none waits.
 #[derive(Drop)]
 pub struct OperationTally {
     pub name: Vec<u8>,
     pub ends: EndCounts,
     pub running: u64,
     pub waiting: u64,
+    pub waited: u64,
 }
 
 /// An object: its name, which is an identifier, its numbers, and its operations.
@@ -57,8 +80,6 @@ pub struct SeenObject {
     pub limit: u64,
     /// How many calls were cancelled since the start.
     pub cancelled: u64,
-    /// How long the call that waits longest has been seen to wait, in seconds; 0 where none waits.
-    pub waited: u64,
     /// How many calls are held now, of sessions that are there and of those that are gone.
     pub held: u64,
     pub operations: Vec<OperationTally>,

@@ -16,15 +16,15 @@ enum OfObject {
     Given,
     Limit,
     Cancelled,
-    Waited,
     Held,
 }
 
-// How many calls of each operation there are now.
+// How many calls of each operation there are now, and for how long one waits.
 #[derive(Clone, Copy)]
 enum Current {
     Running,
     Waiting,
+    Waited,
 }
 
 fn name_of_metric(of: OfObject) -> &'static [u8]
@@ -35,7 +35,6 @@ fn name_of_metric(of: OfObject) -> &'static [u8]
         OfObject::Given => b"pathserve_numbers",
         OfObject::Limit => b"pathserve_numbers_limit",
         OfObject::Cancelled => b"pathserve_cancelled_total",
-        OfObject::Waited => b"pathserve_wait_seconds",
         OfObject::Held => b"pathserve_holds",
     }
 }
@@ -48,7 +47,6 @@ fn about_metric(of: OfObject) -> &'static [u8]
         OfObject::Given => b"Numbers of calls that are taken of this epoch.",
         OfObject::Limit => b"Numbers of calls of an epoch, at most.",
         OfObject::Cancelled => b"Calls that were cancelled since the start.",
-        OfObject::Waited => b"How long the call that waits longest was seen to wait.",
         OfObject::Held => b"Calls that are held now.",
     }
 }
@@ -61,7 +59,6 @@ fn kind_of_metric(of: OfObject) -> MetricKind
         OfObject::Given => MetricKind::Gauge,
         OfObject::Limit => MetricKind::Gauge,
         OfObject::Cancelled => MetricKind::Counter,
-        OfObject::Waited => MetricKind::Gauge,
         OfObject::Held => MetricKind::Gauge,
     }
 }
@@ -74,7 +71,6 @@ fn number_in(of: OfObject, seen: &SeenObject) -> u64
         OfObject::Given => seen.given,
         OfObject::Limit => seen.limit,
         OfObject::Cancelled => seen.cancelled,
-        OfObject::Waited => seen.waited,
         OfObject::Held => seen.held,
     }
 }
@@ -120,7 +116,6 @@ fn push_numbers(out: &mut Vec<u8>, objects: &[SeenObject]) -> Result<(), AllocEr
     push_metric(out, OfObject::Given, objects)?;
     push_metric(out, OfObject::Limit, objects)?;
     push_metric(out, OfObject::Cancelled, objects)?;
-    push_metric(out, OfObject::Waited, objects)?;
     push_metric(out, OfObject::Held, objects)
 }
 
@@ -204,6 +199,7 @@ fn name_of_now(current: Current) -> &'static [u8]
     match current {
         Current::Running => b"pathserve_running",
         Current::Waiting => b"pathserve_waiting",
+        Current::Waited => b"pathserve_wait_seconds",
     }
 }
 
@@ -213,19 +209,22 @@ fn about_of_now(current: Current) -> &'static [u8]
     match current {
         Current::Running => b"Calls that run now.",
         Current::Waiting => b"Calls that wait now.",
+        Current::Waited => b"For how long the call waits that waits longest.",
     }
 }
 
+// So many calls there are, or so many seconds one waits.
 fn number_of_now(current: Current, tally: &OperationTally) -> u64
     ensures { result ≡ number_now current tally.now }
 {
     match current {
         Current::Running => tally.running,
         Current::Waiting => tally.waiting,
+        Current::Waited => tally.waited,
     }
 }
 
-// Adds how many calls of an operation there are now.
+// Adds the number of an operation.
 fn push_now(
     out: &mut Vec<u8>,
     current: Current,
@@ -239,7 +238,7 @@ fn push_now(
     push_sample(out, b"} ", number_of_now(current, tally))
 }
 
-// Adds how many calls of these operations there are now.
+// Adds the numbers of these operations.
 fn push_all_now(
     out: &mut Vec<u8>,
     current: Current,
@@ -254,7 +253,7 @@ fn push_all_now(
     Ok(())
 }
 
-// Adds how many calls of these objects there are now.
+// Adds the numbers of the operations of these objects.
 fn push_now_of(
     out: &mut Vec<u8>,
     current: Current,
@@ -271,7 +270,7 @@ fn push_now_of(
     }
 }
 
-// Adds the metric of calls that there are now.
+// Adds a metric that has a number for each operation.
 fn push_current(
     out: &mut Vec<u8>,
     current: Current,
@@ -296,5 +295,6 @@ pub fn push_objects(out: &mut Vec<u8>, objects: &[SeenObject]) -> Result<(), All
     push_numbers(out, objects)?;
     push_calls(out, objects)?;
     push_current(out, Current::Running, objects)?;
-    push_current(out, Current::Waiting, objects)
+    push_current(out, Current::Waiting, objects)?;
+    push_current(out, Current::Waited, objects)
 }

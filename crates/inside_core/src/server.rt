@@ -1,10 +1,11 @@
 //! What is outside of a server's objects.
 
 ghost use Rattle.std.specs.Prelude.{◌≡◌, ◌++◌, flat_map, OnOk};
-ghost use Rattle.inside_core.specs.Server.{about_of, journal_line, journal_text, journals_text, kind_of, name_of, number_of, server_text, outside_text};
+ghost use Rattle.inside_core.specs.Server.{about_of, journal_number, journal_text, journals_text, kind_of, name_of, number_of, server_text, syncs_text, outside_text};
 
-use crate::metric::{MetricKind, push_head, push_of_object, push_one};
-use crate::numbers::{Server, Stored};
+use crate::durations::push_durations;
+use crate::metric::{MetricKind, push_head, push_of_journal, push_one};
+use crate::numbers::{Durations, Server, Stored};
 use std::alloc::AllocError;
 
 // A number of each journal.
@@ -14,6 +15,7 @@ enum OfServer {
     Bytes,
     Syncs,
     Synced,
+    Failed,
 }
 
 fn name_of_metric(of: OfServer) -> &'static [u8]
@@ -24,6 +26,7 @@ fn name_of_metric(of: OfServer) -> &'static [u8]
         OfServer::Bytes => b"pathserve_journal_bytes",
         OfServer::Syncs => b"pathserve_syncs_total",
         OfServer::Synced => b"pathserve_sync_seconds",
+        OfServer::Failed => b"pathserve_epochs_failed_total",
     }
 }
 
@@ -35,6 +38,7 @@ fn about_metric(of: OfServer) -> &'static [u8]
         OfServer::Bytes => b"Bytes of lines in the journal.",
         OfServer::Syncs => b"How often the journal was stored since the start.",
         OfServer::Synced => b"Unix time when it was last stored.",
+        OfServer::Failed => b"How often no epoch could begin since the start.",
     }
 }
 
@@ -46,6 +50,7 @@ fn kind_of_metric(of: OfServer) -> MetricKind
         OfServer::Bytes => MetricKind::Gauge,
         OfServer::Syncs => MetricKind::Counter,
         OfServer::Synced => MetricKind::Gauge,
+        OfServer::Failed => MetricKind::Counter,
     }
 }
 
@@ -57,15 +62,17 @@ fn number_in(of: OfServer, stored: &Stored) -> u64
         OfServer::Bytes => stored.bytes,
         OfServer::Syncs => stored.syncs,
         OfServer::Synced => stored.synced,
+        OfServer::Failed => stored.failed,
     }
 }
 
 // Adds the numbers of the server.
-fn push_numbers(out: &mut Vec<u8>, server: Server) -> Result<(), AllocError>
-    ensures { OnOk result (out.new.items ≡ out.old.items ++ server_text server) }
+fn push_numbers(out: &mut Vec<u8>, label: &[u8], server: Server) -> Result<(), AllocError>
+    ensures { OnOk result (out.new.items ≡ out.old.items ++ server_text label.now server) }
 {
     push_one(
         out,
+        label,
         b"pathserve_status_seconds",
         MetricKind::Gauge,
         b"Unix time of this text.",
@@ -73,6 +80,7 @@ fn push_numbers(out: &mut Vec<u8>, server: Server) -> Result<(), AllocError>
     )?;
     push_one(
         out,
+        label,
         b"pathserve_start_seconds",
         MetricKind::Gauge,
         b"Unix time of the start.",
@@ -80,6 +88,7 @@ fn push_numbers(out: &mut Vec<u8>, server: Server) -> Result<(), AllocError>
     )?;
     push_one(
         out,
+        label,
         b"pathserve_every_seconds",
         MetricKind::Gauge,
         b"So often this text is written.",
@@ -87,6 +96,7 @@ fn push_numbers(out: &mut Vec<u8>, server: Server) -> Result<(), AllocError>
     )?;
     push_one(
         out,
+        label,
         b"pathserve_connections",
         MetricKind::Gauge,
         b"Connections now.",
@@ -94,6 +104,7 @@ fn push_numbers(out: &mut Vec<u8>, server: Server) -> Result<(), AllocError>
     )?;
     push_one(
         out,
+        label,
         b"pathserve_connections_total",
         MetricKind::Counter,
         b"Connections since the start.",
@@ -101,6 +112,7 @@ fn push_numbers(out: &mut Vec<u8>, server: Server) -> Result<(), AllocError>
     )?;
     push_one(
         out,
+        label,
         b"pathserve_connections_limit",
         MetricKind::Gauge,
         b"Connections at once, at most.",
@@ -108,7 +120,8 @@ fn push_numbers(out: &mut Vec<u8>, server: Server) -> Result<(), AllocError>
     )?;
     push_one(
         out,
-        b"process_resident_memory_bytes",
+        label,
+        b"pathserve_memory_bytes",
         MetricKind::Gauge,
         b"Memory of the server.",
         server.memory,
@@ -116,28 +129,49 @@ fn push_numbers(out: &mut Vec<u8>, server: Server) -> Result<(), AllocError>
 }
 
 // Adds the sample of a journal.
-fn push_journal(out: &mut Vec<u8>, of: OfServer, stored: &Stored) -> Result<(), AllocError>
-    ensures { OnOk result (out.new.items ≡ out.old.items ++ journal_line of stored.now) }
+fn push_journal(
+    out: &mut Vec<u8>,
+    label: &[u8],
+    of: OfServer,
+    stored: &Stored,
+) -> Result<(), AllocError>
+    ensures { OnOk result (out.new.items ≡ out.old.items ++ journal_number label.now of stored.now) }
 {
-    push_of_object(out, name_of_metric(of), &stored.name, number_in(of, stored))
+    push_of_journal(
+        out,
+        label,
+        name_of_metric(of),
+        &stored.name,
+        number_in(of, stored),
+    )
 }
 
 // Adds the samples of these journals.
-fn push_journals(out: &mut Vec<u8>, of: OfServer, journals: &[Stored]) -> Result<(), AllocError>
-    ensures { OnOk result (out.new.items ≡ out.old.items ++ flat_map (journal_line of) journals.now) }
+fn push_journals(
+    out: &mut Vec<u8>,
+    label: &[u8],
+    of: OfServer,
+    journals: &[Stored],
+) -> Result<(), AllocError>
+    ensures { OnOk result (out.new.items ≡ out.old.items ++ flat_map (journal_number label.now of) journals.now) }
 {
     match journals {
         [] => Ok(()),
         [first, more @ ..] => {
-            push_journal(out, of, first)?;
-            push_journals(out, of, more)
+            push_journal(out, label, of, first)?;
+            push_journals(out, label, of, more)
         }
     }
 }
 
 // Adds a metric that has a number for each journal.
-fn push_metric(out: &mut Vec<u8>, of: OfServer, journals: &[Stored]) -> Result<(), AllocError>
-    ensures { OnOk result (out.new.items ≡ out.old.items ++ journal_text of journals.now) }
+fn push_metric(
+    out: &mut Vec<u8>,
+    label: &[u8],
+    of: OfServer,
+    journals: &[Stored],
+) -> Result<(), AllocError>
+    ensures { OnOk result (out.new.items ≡ out.old.items ++ journal_text label.now of journals.now) }
 {
     push_head(
         out,
@@ -145,24 +179,45 @@ fn push_metric(out: &mut Vec<u8>, of: OfServer, journals: &[Stored]) -> Result<(
         kind_of_metric(of),
         about_metric(of),
     )?;
-    push_journals(out, of, journals)
+    push_journals(out, label, of, journals)
 }
 
 // Adds the numbers of the journals.
-fn push_all(out: &mut Vec<u8>, journals: &[Stored]) -> Result<(), AllocError>
-    ensures { OnOk result (out.new.items ≡ out.old.items ++ journals_text journals.now) }
+fn push_all(out: &mut Vec<u8>, label: &[u8], journals: &[Stored]) -> Result<(), AllocError>
+    ensures { OnOk result (out.new.items ≡ out.old.items ++ journals_text label.now journals.now) }
 {
-    push_metric(out, OfServer::Epoch, journals)?;
-    push_metric(out, OfServer::Bytes, journals)?;
-    push_metric(out, OfServer::Syncs, journals)?;
-    push_metric(out, OfServer::Synced, journals)
+    push_metric(out, label, OfServer::Epoch, journals)?;
+    push_metric(out, label, OfServer::Bytes, journals)?;
+    push_metric(out, label, OfServer::Syncs, journals)?;
+    push_metric(out, label, OfServer::Synced, journals)?;
+    push_metric(out, label, OfServer::Failed, journals)
 }
 
-/// Adds the numbers of a server, and of the journals of its objects. The error is that memory was refused; how much then
-/// stands in `out` is not said.
-pub fn push_server(out: &mut Vec<u8>, server: Server, journals: &[Stored]) -> Result<(), AllocError>
-    ensures { OnOk result (out.new.items ≡ out.old.items ++ outside_text server journals.now) }
+// Adds how long it took to store what was handed to the journals.
+fn push_syncs(out: &mut Vec<u8>, label: &[u8], syncs: &Durations) -> Result<(), AllocError>
+    ensures { OnOk result (out.new.items ≡ out.old.items ++ syncs_text label.now syncs.now) }
 {
-    push_numbers(out, server)?;
-    push_all(out, journals)
+    push_durations(
+        out,
+        label,
+        b"pathserve_sync_duration_seconds",
+        b"How long it took to store a journal.",
+        syncs,
+    )
+}
+
+/// Adds the numbers of a server, and of the journals of its objects, and how long it took to store these, with a label of
+/// it, as `labels::server_label` makes it. The error is that memory was refused; how much then stands in `out` is not said.
+pub fn push_server(
+    out: &mut Vec<u8>,
+    label: &[u8],
+    server: Server,
+    journals: &[Stored],
+    syncs: &Durations,
+) -> Result<(), AllocError>
+    ensures { OnOk result (out.new.items ≡ out.old.items ++ outside_text label.now server journals.now syncs.now) }
+{
+    push_numbers(out, label, server)?;
+    push_all(out, label, journals)?;
+    push_syncs(out, label, syncs)
 }

@@ -8,20 +8,18 @@ ghost use Rattle.client_core.specs.People.{people_of, name_in, since_in, called_
 ghost use Rattle.live_core.specs.Hall.{Every};
 ghost use Rattle.client_core.specs.State.{peers_of, opened_in};
 ghost use Rattle.client_core.specs.ToldInside.{is_asked, sits_in, sitting_from, AreSitting, seat_name, last_told, is_between, waiting_in};
-ghost use Rattle.client_core.specs.ToldInside.{is_caller, calls_at, AreWhys, WaitsFor, held_in, IsWho};
+ghost use Rattle.client_core.specs.ToldInside.{is_caller, calls_at, AreWhys, WaitsFor, IsWho};
 ghost use Rattle.decl_core.specs.ObjectMap.{object_of};
 ghost use Rattle.live_core.specs.Scene.{Scene, told_of};
 ghost use Rattle.stuck_core.specs.ReasonViews.{whys_of};
 ghost use Rattle.stuck_core.specs.Who.{waits_line};
-ghost use Rattle.decl_core.specs.HoldMap.{holds_of};
-ghost use Rattle.inside_core.specs.Adds.{crowd_of, AddsSeats, AddsWaits, AddsHeld, AreKnown};
+ghost use Rattle.inside_core.specs.Adds.{crowd_of, AddsSeats, AddsWaits, AreKnown};
 
+use crate::held::push_held_by;
 use crate::why::reasons_of;
-use check_core::held::push_held_call;
 use client_core::client::OpenObject;
 use client_core::clients::ClientPlaces;
-use decl_core::hold::Hold;
-use guest_core::held::HeldCall;
+use client_core::holding::Holding;
 use live_core::call::LiveCall;
 use live_core::hosted::Hosted;
 use path_tree::name::Name;
@@ -32,9 +30,6 @@ use stuck_core::who::{SessionRow, WaitingRow, push_seat, push_waits, push_who};
 
 // At most so many sessions are told.
 const MOST_TOLD: usize = 256;
-
-// At most so many of the calls that are held are told.
-const MOST_HELD: usize = 256;
 
 // The lines of a session and of its call that waits have some so many bytes.
 const USUAL_LINES: usize = 96;
@@ -79,7 +74,7 @@ fn opened_at(clients: &ClientPlaces, place: usize) -> Option<OpenObject>
 }
 
 // How many places there are.
-fn count(clients: &ClientPlaces) -> usize
+pub(crate) fn count(clients: &ClientPlaces) -> usize
     ensures { result ≡ length (peers_of clients.now) }
 {
     clients.count()
@@ -100,7 +95,7 @@ fn since_at(clients: &ClientPlaces, place: usize) -> u64
 }
 
 // That in which its last call was taken.
-fn called_at(clients: &ClientPlaces, place: usize) -> u64
+pub(crate) fn called_at(clients: &ClientPlaces, place: usize) -> u64
     ensures { result ≡ called_in (slice_get (people_of clients.now) place) }
 {
     clients.called(place)
@@ -255,7 +250,13 @@ fn is_caller(opened: OpenObject, at: usize, session: u32, told: u64) -> bool
 }
 
 // Whether the one at a place does.
-fn calls_at(clients: &ClientPlaces, whom: Whom, place: usize, session: u32, told: u64) -> bool
+pub(crate) fn calls_at(
+    clients: &ClientPlaces,
+    whom: Whom,
+    place: usize,
+    session: u32,
+    told: u64,
+) -> bool
     ensures { result ≡ calls_at (crowd_of clients.now whom) session told place }
 {
     match opened_at(clients, place) {
@@ -431,7 +432,7 @@ fn push_call(
 }
 
 // Whether a session is one of those that are told.
-fn is_between(session: u32, from: u64, last: Option<u16>) -> bool
+pub(crate) fn is_between(session: u32, from: u64, last: Option<u16>) -> bool
     ensures { result ≡ is_between from last session }
 {
     if u64::from(session) < from {
@@ -502,7 +503,7 @@ fn push_calls(
 }
 
 // A sum, which memory would not hold the lines of where it is too great.
-fn sum_of(lines: usize, more: usize) -> Result<usize, AllocError>
+pub(crate) fn sum_of(lines: usize, more: usize) -> Result<usize, AllocError>
     ensures { IfOk result (λ n. n ≡ lines + more) }
 {
     match lines.checked_add(more) {
@@ -511,75 +512,16 @@ fn sum_of(lines: usize, more: usize) -> Result<usize, AllocError>
     }
 }
 
-// Adds the line of a call that is held.
-#[tactic(auto, using(crate::proofs::Holding::held_one))]
-fn push_row(
-    out: &mut Vec<u8>,
-    object: &Hosted,
-    holds: &[Hold],
-    held: &HeldCall,
-) -> Result<(), AllocError>
-    ensures { OnOk result (AddsHeld (object_of object.now.hall.object) (holds_of holds.now) (held.now ∷ []) 1 out.old.items
-        out.new.items) }
-{
-    push_held_call(out, object.live().object(), holds, held)?;
-    Ok(())
-}
-
-// Adds the line of a call that is held, where its session is told. It answers how many.
-#[tactic(auto, using(crate::proofs::Holding::held_left_out, crate::proofs::Holding::held_told))]
-fn push_held_if(
-    out: &mut Vec<u8>,
-    object: &Hosted,
-    holds: &[Hold],
-    whom: Whom,
-    last: Option<u16>,
-    held: &HeldCall,
-) -> Result<usize, AllocError>
-    ensures { IfOk result (λ n. AddsHeld (object_of object.now.hall.object) (holds_of holds.now)
-        (held_in whom.from last (held.now ∷ [])) n out.old.items out.new.items) }
-{
-    if !is_between(held.session(), whom.from, last) {
-        return Ok(0);
-    }
-    push_row(out, object, holds, held)?;
-    Ok(1)
-}
-
-// Adds the lines of the first 256 that are held by sessions that are told. It answers how many.
-fn push_held(
-    out: &mut Vec<u8>,
-    object: &Hosted,
-    holds: &[Hold],
-    whom: Whom,
-    last: Option<u16>,
-    held: &[HeldCall],
-) -> Result<usize, AllocError>
-    ensures { IfOk result (λ n. AddsHeld (object_of object.now.hall.object) (holds_of holds.now)
-        (take 256 (held_in whom.from last held.now)) n out.old.items out.new.items) }
-{
-    let mut lines: usize = 0;
-    for place in 0..held.len() {
-        if lines >= MOST_HELD {
-            return Ok(lines);
-        }
-        let more = push_held_if(out, object, holds, whom, last, &held[place])?;
-        lines = sum_of(lines, more)?;
-    }
-    Ok(lines)
-}
-
 /// Who is there, the first 256 of those who are asked for by their numbers, what waits of these, and the first 256 of what
-/// is held by them or by who is gone, where the object has these holds, and this is held of it, the oldest first.
+/// is held by them or by who is gone, the oldest first. `None`: nothing can be held of the object.
 pub fn who_of(
     alloc: Global,
     clients: &ClientPlaces,
     object: &Hosted,
     whom: Whom,
-    holds: &[Hold],
-    held: &[HeldCall],
+    holding: Option<&Holding>,
 ) -> Result<Vec<u8>, AllocError>
-    ensures { IfOk result (λ text. IsWho (crowd_of clients.now whom) object.now (holds_of holds.now) held.now whom.from
+    ensures { IfOk result (λ text. IsWho (crowd_of clients.now whom) object.now (option_map (λ h. h.now) holding.entry) whom.from
         text.items) }
 {
     let all = seated(alloc, clients, whom)?;
@@ -588,7 +530,7 @@ pub fn who_of(
     push_seats(&mut lines, clients, whom, seats)?;
     let last = last_told(&all);
     let calls = push_calls(alloc, &mut lines, clients, object, whom, seats, last)?;
-    let kept = push_held(&mut lines, object, holds, whom, last, held)?;
+    let kept = push_held_by(&mut lines, object, holding, whom, last)?;
     let rows = sum_of(seats.len(), calls)?;
     let count = sum_of(rows, kept)?;
     let mut out = Vec::with_capacity(alloc, lines.len().saturating_add(USUAL_LINES))?;

@@ -1,6 +1,8 @@
 -- The lines of events.
 use Rattle.std.specs.Prelude.{ℕ, List, [], ◌∷◌, ◌++◌, codes}
 use Rattle.jiff_core.specs.declared.civil.datetime.DateTime.{DateTime}
+use Rattle.cause_core.specs.Causes.{cause_words}
+use Rattle.cause_core.specs.declared.cause.Cause.{Cause}
 use Rattle.keep_log.specs.declared.event.LetGo.{LetGo}
 use Rattle.keep_log.specs.declared.event.LetGo.TheVariants.{Broke, Unwritten, Over}
 use Rattle.keep_log.specs.declared.event.Work.{Work}
@@ -25,8 +27,16 @@ abbrev pub changes : LineForm → DateTime → List ℕ → ℕ → List ℕ
 changes form moment object bytes = line form moment Info (codes "epoch")
     (word (codes "object") object ∷ number (codes "bytes") bytes ∷ [])
 
-abbrev pub keeps : LineForm → DateTime → List ℕ → List ℕ
-keeps form moment object = line form moment Warn (codes "no-epoch") (word (codes "object") object ∷ [])
+-- why something failed
+abbrev pub cause_field : Cause → Field
+cause_field cause = word (codes "cause") (cause_words cause)
+
+-- that, and the end of the line
+abbrev pub because : LineForm → Cause → List ℕ
+because form cause = fields_text form (cause_field cause ∷ []) ++ line_end form
+
+abbrev pub keeps : LineForm → DateTime → List ℕ → Cause → List ℕ
+keeps form moment object cause = line form moment Warn (codes "no-epoch") (word (codes "object") object ∷ cause_field cause ∷ [])
 
 abbrev pub why_word : LetGo → List ℕ
 why_word Broke = codes "broke"
@@ -38,20 +48,23 @@ work_word Write = codes "write"
 work_word Sync = codes "sync"
 work_word Change = codes "change"
 
--- what failed, and the end of the line
-abbrev pub works : LineForm → Work → List ℕ
-works form work = fields_text form (word (codes "work") (work_word work) ∷ []) ++ line_end form
+-- what failed, and why, and the end of the line
+abbrev pub works : LineForm → Work → Cause → List ℕ
+works form work cause = fields_text form (word (codes "work") (work_word work) ∷ cause_field cause ∷ []) ++ line_end form
 
 abbrev pub lets_go : LineForm → DateTime → ℕ → LetGo → List ℕ
 lets_go form moment connection why = line form moment Info (codes "let-go")
     (number (codes "connection") connection ∷ word (codes "why") (why_word why) ∷ [])
 
-abbrev pub fails : LineForm → DateTime → List ℕ → Work → List ℕ
-fails form moment object work = line form moment Error (codes "journal-failed")
-    (word (codes "object") object ∷ word (codes "work") (work_word work) ∷ [])
+abbrev pub fails : LineForm → DateTime → List ℕ → Work → Cause → List ℕ
+fails form moment object work cause = line form moment Error (codes "journal-failed")
+    (word (codes "object") object ∷ word (codes "work") (work_word work) ∷ cause_field cause ∷ [])
 
-abbrev pub lacks : LineForm → DateTime → List ℕ → List ℕ
-lacks form moment path = line form moment Warn (codes "no-status") (word (codes "path") path ∷ [])
+abbrev pub lacks : LineForm → DateTime → List ℕ → Cause → List ℕ
+lacks form moment path cause = line form moment Warn (codes "no-status") (word (codes "path") path ∷ cause_field cause ∷ [])
+
+abbrev pub notes : LineForm → DateTime → List ℕ → List ℕ
+notes form moment said = line form moment Warn (codes "notice") (word (codes "said") said ∷ [])
 
 abbrev pub ends : LineForm → DateTime → ℕ → ℕ → List ℕ
 ends form moment status seconds = line form moment Info (codes "end")

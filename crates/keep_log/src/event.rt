@@ -1,9 +1,10 @@
 //! The lines of events.
 
 ghost use Rattle.std.specs.Prelude.{◌≡◌, ◌++◌, OnOk};
-ghost use Rattle.keep_log.specs.Events.{begins, carries_on, changes, ends, fails, keeps, lacks, lets_go, starts, why_word, work_word, works};
+ghost use Rattle.keep_log.specs.Events.{begins, because, carries_on, changes, ends, fails, keeps, lacks, lets_go, notes, starts, why_word, work_word, works};
 
 use crate::line::{Level, LineForm, push_count, push_end, push_head, push_word};
+use cause_core::cause::{Cause, cause_words};
 use jiff_core::civil::DateTime;
 use std::alloc::AllocError;
 
@@ -95,18 +96,28 @@ pub fn push_epoch(
     push_end(out, form)
 }
 
-/// No new epoch could be written; the old one goes on.
+// Adds why something failed, and the end.
+fn push_cause_end(out: &mut Vec<u8>, form: LineForm, cause: Cause) -> Result<(), AllocError>
+    ensures { OnOk result (out.new.items ≡ out.old.items ++ because form cause) }
+{
+    push_word(out, form, b"cause", cause_words(cause))?;
+    push_end(out, form)
+}
+
+/// No new epoch could be written, for this cause; the old one goes on.
 pub fn push_no_epoch(
     out: &mut Vec<u8>,
     form: LineForm,
     moment: DateTime,
     object: &[u8],
+    cause: Cause,
 ) -> Result<(), AllocError>
-    ensures { OnOk result (out.new.items ≡ out.old.items ++ keeps form moment object.now) }
+    ensures { OnOk result (out.new.items ≡ out.old.items ++ keeps form moment object.now cause) }
 {
     push_head(out, form, moment, Level::Warn, b"no-epoch")?;
     push_word(out, form, b"object", object)?;
-    push_end(out, form)
+    push_cause_end(out, form, cause)?;
+    Ok(())
 }
 
 fn why_text(why: LetGo) -> &'static [u8]
@@ -145,41 +156,58 @@ pub fn push_let_go(
     push_end(out, form)
 }
 
-// Adds what failed, and the end.
-fn push_work(out: &mut Vec<u8>, form: LineForm, work: Work) -> Result<(), AllocError>
-    ensures { OnOk result (out.new.items ≡ out.old.items ++ works form work) }
+// Adds what failed, and why, and the end.
+fn push_work(out: &mut Vec<u8>, form: LineForm, work: Work, cause: Cause) -> Result<(), AllocError>
+    ensures { OnOk result (out.new.items ≡ out.old.items ++ works form work cause) }
 {
     push_word(out, form, b"work", work_text(work))?;
-    push_end(out, form)
+    push_cause_end(out, form, cause)
 }
 
-/// The journal of an object failed, and the server ends.
+/// The journal of an object failed, for this cause, and the server ends.
 pub fn push_failed(
     out: &mut Vec<u8>,
     form: LineForm,
     moment: DateTime,
     object: &[u8],
     work: Work,
+    cause: Cause,
 ) -> Result<(), AllocError>
-    ensures { OnOk result (out.new.items ≡ out.old.items ++ fails form moment object.now work) }
+    ensures { OnOk result (out.new.items ≡ out.old.items ++ fails form moment object.now work cause) }
 {
     push_head(out, form, moment, Level::Error, b"journal-failed")?;
     push_word(out, form, b"object", object)?;
-    push_work(out, form, work)?;
+    push_work(out, form, work, cause)?;
     Ok(())
 }
 
-/// A status cannot be written, in the file at this path.
+/// A status cannot be written, in the file at this path, for this cause.
 pub fn push_no_status(
     out: &mut Vec<u8>,
     form: LineForm,
     moment: DateTime,
     path: &[u8],
+    cause: Cause,
 ) -> Result<(), AllocError>
-    ensures { OnOk result (out.new.items ≡ out.old.items ++ lacks form moment path.now) }
+    ensures { OnOk result (out.new.items ≡ out.old.items ++ lacks form moment path.now cause) }
 {
     push_head(out, form, moment, Level::Warn, b"no-status")?;
     push_word(out, form, b"path", path)?;
+    push_cause_end(out, form, cause)?;
+    Ok(())
+}
+
+/// What a start tells, and goes on.
+pub fn push_notice(
+    out: &mut Vec<u8>,
+    form: LineForm,
+    moment: DateTime,
+    said: &[u8],
+) -> Result<(), AllocError>
+    ensures { OnOk result (out.new.items ≡ out.old.items ++ notes form moment said.now) }
+{
+    push_head(out, form, moment, Level::Warn, b"notice")?;
+    push_word(out, form, b"said", said)?;
     push_end(out, form)
 }
 

@@ -2,14 +2,15 @@
 
 ghost use Rattle.std.specs.Prelude.{◌≡◌, OnOk, OnErr};
 ghost use Rattle.keep_log.specs.Told.{Tells, TellsFront};
-ghost use Rattle.keep_log.specs.Events.{begins, carries_on, changes, ends, fails, keeps, lacks, lets_go, starts};
+ghost use Rattle.keep_log.specs.Events.{begins, carries_on, changes, ends, fails, keeps, lacks, lets_go, notes, starts};
 
 use crate::event::{
     LetGo, Work, push_begun, push_epoch, push_failed, push_let_go, push_no_epoch, push_no_status,
-    push_recovered, push_start, push_stop,
+    push_notice, push_recovered, push_start, push_stop,
 };
 use crate::line::LineForm;
 use crate::moment::moment_of;
+use cause_core::cause::Cause;
 use jiff_core::civil::DateTime;
 use std::alloc::{AllocError, Global};
 use std::io::Write;
@@ -124,17 +125,31 @@ impl<R: Clock, E: Write> Log<R, E> {
         self.tell(made);
     }
 
-    /// A status cannot be written, in the file at this path.
-    pub fn no_status(&mut self, path: &[u8])
+    /// A status cannot be written, in the file at this path, for this cause.
+    pub fn no_status(&mut self, path: &[u8], cause: Cause)
         ensures { Tells self.old.form (E.contents self.old.errors) (E.contents self.new.errors)
-            (λ form moment. lacks form moment path.now) }
+            (λ form moment. lacks form moment path.now cause) }
     {
         let Some(form) = self.form else {
             return;
         };
         let moment = moment_at(&self.clock);
         self.line.clear();
-        let made = push_no_status(&mut self.line, form, moment, path);
+        let made = push_no_status(&mut self.line, form, moment, path, cause);
+        self.tell(made);
+    }
+
+    /// What a start tells, and goes on.
+    pub fn notice(&mut self, said: &[u8])
+        ensures { Tells self.old.form (E.contents self.old.errors) (E.contents self.new.errors)
+            (λ form moment. notes form moment said.now) }
+    {
+        let Some(form) = self.form else {
+            return;
+        };
+        let moment = moment_at(&self.clock);
+        self.line.clear();
+        let made = push_notice(&mut self.line, form, moment, said);
         self.tell(made);
     }
 
@@ -166,31 +181,31 @@ impl<R: Clock, E: Write> Log<R, E> {
         self.tell(made);
     }
 
-    /// No epoch of an object could begin.
-    pub fn no_epoch(&mut self, object: &[u8])
+    /// No epoch of an object could begin, for this cause.
+    pub fn no_epoch(&mut self, object: &[u8], cause: Cause)
         ensures { Tells self.old.form (E.contents self.old.errors) (E.contents self.new.errors)
-            (λ form moment. keeps form moment object.now) }
+            (λ form moment. keeps form moment object.now cause) }
     {
         let Some(form) = self.form else {
             return;
         };
         let moment = moment_at(&self.clock);
         self.line.clear();
-        let made = push_no_epoch(&mut self.line, form, moment, object);
+        let made = push_no_epoch(&mut self.line, form, moment, object, cause);
         self.tell(made);
     }
 
-    /// The journal of an object failed.
-    pub fn failed(&mut self, object: &[u8], work: Work)
+    /// The journal of an object failed, for this cause.
+    pub fn failed(&mut self, object: &[u8], work: Work, cause: Cause)
         ensures { Tells self.old.form (E.contents self.old.errors) (E.contents self.new.errors)
-            (λ form moment. fails form moment object.now work) }
+            (λ form moment. fails form moment object.now work cause) }
     {
         let Some(form) = self.form else {
             return;
         };
         let moment = moment_at(&self.clock);
         self.line.clear();
-        let made = push_failed(&mut self.line, form, moment, object, work);
+        let made = push_failed(&mut self.line, form, moment, object, work, cause);
         self.tell(made);
     }
 }

@@ -1,10 +1,12 @@
 //! Connections, a clock and journals, with a status.
 
 ghost use Rattle.std.specs.Prelude.{◌≡◌, ◌++◌, ℕ, List, OnOk, IfOk};
+ghost use Rattle.inside_core.specs.Labels.{labelled, server_label};
 ghost use Rattle.inside_core.specs.Server.{outside_text};
 
 use crate::sink::Sink;
-use inside_core::numbers::{Server, Stored};
+use inside_core::labels::{push_labelled, server_label};
+use inside_core::numbers::{Bucket, Durations, Server, Stored};
 use inside_core::server::push_server;
 use keep_loop::{Fault, Outside, ReadEnd, Visible};
 use std::alloc::{AllocError, Global};
@@ -15,10 +17,14 @@ use std::alloc::{AllocError, Global};
 pub struct Showing<W, K> {
     inner: W,
     sink: K,
+    // Tells of which server a number is.
+    label: Vec<u8>,
     server: Server,
     journals: Vec<Stored>,
     // Of each journal, whether lines were added since it was stored.
     loose: Vec<bool>,
+    // How long it took to store them.
+    syncs: Durations,
     // The second of the last tick, since the server began.
     second: u64,
     // It is time for a status from this second on.
@@ -26,6 +32,63 @@ pub struct Showing<W, K> {
     // What the object told, and the text of a status.
     told: Vec<u8>,
     text: Vec<u8>,
+}
+
+// The bounds of durations that are told: in seconds, and in nanoseconds.
+const BOUNDS: [(&str, u64); 11] = [
+    ("0.0001", 100_000),
+    ("0.0005", 500_000),
+    ("0.001", 1_000_000),
+    ("0.005", 5_000_000),
+    ("0.01", 10_000_000),
+    ("0.05", 50_000_000),
+    ("0.1", 100_000_000),
+    ("0.5", 500_000_000),
+    ("1", 1_000_000_000),
+    ("5", 5_000_000_000),
+    ("10", 10_000_000_000),
+];
+
+// Durations of nothing.
+fn no_durations(alloc: Global) -> Result<Durations, AllocError> {
+    let mut buckets = Vec::with_capacity(alloc, BOUNDS.len())?;
+    for (seconds, nanos) in BOUNDS {
+        buckets.push(Bucket {
+            seconds: seconds.as_bytes().to_vec(alloc)?,
+            nanos,
+            count: 0,
+        })?;
+    }
+    Ok(Durations {
+        buckets,
+        count: 0,
+        nanos: 0,
+    })
+}
+
+// One thing more took so many nanoseconds: it is counted where that is no more than the bound.
+fn grow_bucket(bucket: &mut Bucket, nanos: u64) {
+    if nanos <= bucket.nanos {
+        bucket.count = bucket.count.saturating_add(1);
+    }
+}
+
+// One thing more took so many nanoseconds.
+fn note_took(durations: &mut Durations, nanos: u64) {
+    for place in 0..durations.buckets.len() {
+        if let Some(bucket) = durations.buckets.get_mut(place) {
+            grow_bucket(bucket, nanos);
+        }
+    }
+    durations.count = durations.count.saturating_add(1);
+    durations.nanos = durations.nanos.saturating_add(nanos);
+}
+
+// No epoch of the journal at a place could begin.
+fn note_failed(journals: &mut Vec<Stored>, at: usize) {
+    if let Some(stored) = journals.get_mut(at) {
+        stored.failed = stored.failed.saturating_add(1);
+    }
 }
 
 // Lines of so many bytes were added to the journal at a place.
@@ -51,7 +114,15 @@ fn renew(journals: &mut Vec<Stored>, at: usize, size: usize) {
     }
 }
 
-// Whether lines were added to the journal at a place since it was stored, which is so from now on, or not.
+// Whether lines were added to the journal at a place since it was stored.
+fn is_loose(loose: &[bool], at: usize) -> bool {
+    match loose.get(at) {
+        Some(row) => *row,
+        None => false,
+    }
+}
+
+// The same, which is so from now on, or not.
 fn set_loose(loose: &mut Vec<bool>, at: usize, is_loose: bool) -> bool {
     match loose.get_mut(at) {
         Some(row) => {
@@ -72,24 +143,29 @@ fn none_loose(alloc: Global, count: usize) -> Result<Vec<bool>, AllocError> {
 }
 
 impl<W: Outside + Drop, K: Sink + Drop> Showing<W, K> {
-    /// These connections and journals, whose status goes to this sink. `server` and `journals` are their numbers at the
-    /// start. The error is that memory was refused.
+    /// These connections and journals, whose status goes to this sink. Each of its numbers has the label of the server of
+    /// this folder. `server` and `journals` are their numbers at the start. The error is that memory was refused.
     pub fn new(
         alloc: Global,
         inner: W,
         sink: K,
+        folder: &[u8],
         server: Server,
         journals: Vec<Stored>,
     ) -> Result<Showing<W, K>, AllocError>
-        ensures { IfOk result (λ shown. shown.inner ≡ inner) }
+        ensures inner { IfOk result (λ shown. shown.inner ≡ inner) }
+        ensures label { IfOk result (λ shown. shown.label.items ≡ server_label folder.now) }
     {
         let loose = none_loose(alloc, journals.len())?;
+        let label = server_label(alloc, folder)?;
         Ok(Showing {
             inner,
             sink,
+            label,
             server,
             journals,
             loose,
+            syncs: no_durations(alloc)?,
             second: 0,
             due_at: 0,
             told: Vec::new(alloc),
@@ -111,16 +187,23 @@ impl<W: Outside, K: Sink> Showing<W, K> {
         self.server.every > 0 && self.second >= self.due_at
     }
 
-    // Makes the text of a status: what is known here, and behind it what the object tells.
+    // Makes the text of a status: what is known here, and behind it what the object tells, each number with the label.
     fn compose<O: Visible>(&mut self, object: &O) -> Result<(), AllocError>
         ensures text { OnOk result ((told : List ℕ) × O.shows object.now told
-            × (self.new.text.items ≡ outside_text self.old.server self.old.journals.items ++ told)) }
+            × (self.new.text.items ≡ outside_text self.old.label.items self.old.server self.old.journals.items
+            self.old.syncs ++ labelled self.old.label.items told)) }
         ensures inner { self.new.inner ≡ self.old.inner }
     {
         object.status(&mut self.told)?;
         self.text.clear();
-        push_server(&mut self.text, self.server, &self.journals)?;
-        self.text.extend_from_slice(&self.told)?;
+        push_server(
+            &mut self.text,
+            &self.label,
+            self.server,
+            &self.journals,
+            &self.syncs,
+        )?;
+        push_labelled(&mut self.text, &self.label, &self.told)?;
         Ok(())
     }
 
@@ -152,13 +235,25 @@ impl<W: Outside, K: Sink> Showing<W, K> {
         set_loose(&mut self.loose, at, true);
     }
 
-    // It was stored.
-    fn note_stored(&mut self, at: usize)
+    // The time before it is stored, in nanoseconds, where lines were added to it.
+    fn time_before(&mut self, at: usize) -> u64
+        ensures { self.new.inner ≡ self.old.inner }
+    {
+        if is_loose(&self.loose, at) {
+            return self.sink.nanos();
+        }
+        0
+    }
+
+    // It was stored, which began at this time.
+    fn note_stored(&mut self, at: usize, begun: u64)
         ensures { self.new.inner ≡ self.old.inner }
     {
         if set_loose(&mut self.loose, at, false) {
             let time = self.server.start.saturating_add(self.second);
             note_sync(&mut self.journals, at, time);
+            let took = self.sink.nanos().saturating_sub(begun);
+            note_took(&mut self.syncs, took);
         }
     }
 
@@ -168,7 +263,9 @@ impl<W: Outside, K: Sink> Showing<W, K> {
     {
         if went {
             renew(&mut self.journals, at, size);
+            return;
         }
+        note_failed(&mut self.journals, at);
     }
 }
 
@@ -235,9 +332,10 @@ impl<W: Outside, K: Sink> Outside for Showing<W, K> {
     }
 
     fn sync(&mut self, journal: usize) -> Result<(), Fault> {
+        let begun = self.time_before(journal);
         let done = self.inner.sync(journal);
         if done.is_ok() {
-            self.note_stored(journal);
+            self.note_stored(journal, begun);
         }
         done
     }
@@ -249,6 +347,7 @@ impl<W: Outside, K: Sink> Outside for Showing<W, K> {
     }
 
     fn look<O: Visible>(&mut self, object: &O) {
+        self.inner.look(object);
         if self.is_due() {
             self.show(object);
         }

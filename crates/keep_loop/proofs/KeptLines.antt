@@ -105,7 +105,7 @@ module _ (file : List ℕ) (leaves : List ℕ → Type 0) (st size room : ℕ) (
     rest = room - length lines
 
     -- what a crash leaves while lines are added
-    append_leaves : (new : List ℕ → Type 0) → Writes size lines leaves new → (c : List ℕ) → new c →
+    pub append_leaves : (new : List ℕ → Type 0) → Writes size lines leaves new → (c : List ℕ) → new c →
         (holes : List ℕ) × IsLoose (s.loose ++ lines) holes × (c ≡ s.stored ++ holes ++ replicate rest 0)
     append_leaves new writes c left =
         let from = writes c left in
@@ -123,7 +123,7 @@ module _ (file : List ℕ) (leaves : List ℕ → Type 0) (st size room : ℕ) (
         subst (λ l. IsBetween l (text ++ lines) (recovered c)) here
         (subst (λ l. IsBetween s.stored l (recovered c)) all (subst (λ f. IsBetween s.stored (s.stored ++ (s.loose ++ lines)) (recovered f)) (sym is.2) plain))
 
-    append_file : with_bytes size lines file ≡ s.stored ++ (s.loose ++ lines) ++ replicate rest 0
+    pub append_file : with_bytes size lines file ≡ s.stored ++ (s.loose ++ lines) ++ replicate rest 0
     append_file =
         ap (λ (l : List ℕ). with_bytes size lines l) s.file_is ∙ written_lines s.stored s.loose room lines s.loose size rest s.size_is (omega (arith, fits))
         ∙ ap (λ (l : List ℕ). l ++ replicate rest 0) (append_assoc s.stored s.loose lines)
@@ -142,7 +142,7 @@ module _ (file : List ℕ) (leaves : List ℕ → Type 0) (st size room : ℕ) (
         leaves_only = λ c left. append_leaves new writes c left;
       }
 
-      append_found : recovered (with_bytes size lines file) ≡ s.stored ++ (s.loose ++ lines)
+      pub append_found : recovered (with_bytes size lines file) ≡ s.stored ++ (s.loose ++ lines)
       append_found = ap recovered append_file ∙ recovered_file s.stored (s.loose ++ lines) rest s.stored_lines (lines_append s.loose lines s.loose_lines are)
 
       pub append_text : (text : List ℕ) → recovered file ≡ text → recovered (with_bytes size lines file) ≡ text ++ lines

@@ -18,3 +18,14 @@ pub mod Moments
 pub mod Quiet
 pub mod Replaced
 pub mod Runs
+pub mod Texts
+pub mod CheckLines
+pub mod KeptTold
+pub mod FrontTold
+pub mod Named
+pub mod Digits
+pub mod Rows
+pub mod Heads
+pub mod TakenLines
+pub mod Taking
+pub mod Told

@@ -10,10 +10,10 @@ use Rattle.keep_loop.specs.Journal.{written, has_end, whole, recovered, IsSolid,
 
 -- the bytes before the first that is 0
 
-written_solid : (byte : ℕ) (file : List ℕ) → byte ≢ 0 → written (byte ∷ file) ≡ byte ∷ written file
+pub written_solid : (byte : ℕ) (file : List ℕ) → byte ≢ 0 → written (byte ∷ file) ≡ byte ∷ written file
 written_solid byte file solid = grind (arith, nat_tests)
 
-written_zero : (byte : ℕ) (file : List ℕ) → byte ≡ 0 → written (byte ∷ file) ≡ []
+pub written_zero : (byte : ℕ) (file : List ℕ) → byte ≡ 0 → written (byte ∷ file) ≡ []
 written_zero byte file none = grind (arith, nat_tests)
 
 pub written_past : (text file : List ℕ) → IsSolid text → written (text ++ file) ≡ text ++ written file
@@ -26,11 +26,11 @@ written_blank (suc room) = refl
 
 -- whole lines
 
-bool_cases : (b : Bool) → (b ≡ true) ⊎ (b ≡ false)
+pub bool_cases : (b : Bool) → (b ≡ true) ⊎ (b ≡ false)
 bool_cases true = inl refl
 bool_cases false = inr refl
 
-ends_on : (text more : List ℕ) → has_end text ≡ true → has_end (text ++ more) ≡ true
+pub ends_on : (text more : List ℕ) → has_end text ≡ true → has_end (text ++ more) ≡ true
 ends_on [] more ends = absurd (cc ends)
 ends_on (byte ∷ text) more ends = elim (cases_eq byte 10) [
   | inl is ↦ grind (arith, nat_tests)
@@ -44,13 +44,13 @@ chosen : {A : Type 0} (b : Bool) (x y z : A) → cond b x y ≡ z → ((b ≡ tr
 chosen true x y z is = inl (refl, is)
 chosen false x y z is = inr (refl, is)
 
-whole_parts : (byte : ℕ) (text : List ℕ) → whole (byte ∷ text) ≡ byte ∷ text → (has_end (byte ∷ text) ≡ true) × (whole text ≡ text)
+pub whole_parts : (byte : ℕ) (text : List ℕ) → whole (byte ∷ text) ≡ byte ∷ text → (has_end (byte ∷ text) ≡ true) × (whole text ≡ text)
 whole_parts byte text is = elim (chosen (has_end (byte ∷ text)) (byte ∷ whole text) [] (byte ∷ text) is) [
   | inl h ↦ (h.0, cc h.1)
   | inr h ↦ absurd (cc h.1)
 ]
 
-whole_keeps : (byte : ℕ) (text : List ℕ) → has_end (byte ∷ text) ≡ true → whole (byte ∷ text) ≡ byte ∷ whole text
+pub whole_keeps : (byte : ℕ) (text : List ℕ) → has_end (byte ∷ text) ≡ true → whole (byte ∷ text) ≡ byte ∷ whole text
 whole_keeps byte text ends = ap (λ b. cond b (byte ∷ whole text) []) ends
 
 pub whole_past : (text more : List ℕ) → whole text ≡ text → whole (text ++ more) ≡ text ++ whole more
@@ -194,7 +194,7 @@ whole_solid (byte ∷ text) solid = elim (bool_cases (has_end (byte ∷ text))) 
 ]
 
 -- a line end is kept
-whole_has : (text : List ℕ) → has_end text ≡ true → has_end (whole text) ≡ true
+pub whole_has : (text : List ℕ) → has_end text ≡ true → has_end (whole text) ≡ true
 whole_has [] ends = absurd (cc ends)
 whole_has (byte ∷ text) ends = elim (cases_eq byte 10) [
   | inl is ↦

@@ -21,7 +21,7 @@ or_true false = refl
 ends_behind : (byte : ℕ) (text : List ℕ) → has_end text ≡ true → has_end (byte ∷ text) ≡ true
 ends_behind byte text ends = ap (λ b. byte == 10 || b) ends ∙ or_true (byte == 10)
 
-none_ends : (text : List ℕ) → IsQuiet text → has_end text ≡ false
+pub none_ends : (text : List ℕ) → IsQuiet text → has_end text ≡ false
 none_ends [] quiet = refl
 none_ends (byte ∷ text) quiet = let later : has_end text ≡ false = none_ends text quiet.2 in grind (arith, nat_tests)
 
@@ -47,11 +47,11 @@ quiet_zero text byte file quiet is =
     ap whole (written_quiet text (byte ∷ file) quiet ∙ ap (λ (l : List ℕ). text ++ l) none ∙ append-nil text) ∙ whole_none text (none_ends text quiet)
 
 -- a line is whole where its end stands
-line_ends : (text more : List ℕ) → has_end (text ++ 10 ∷ more) ≡ true
+pub line_ends : (text more : List ℕ) → has_end (text ++ 10 ∷ more) ≡ true
 line_ends [] more = refl
 line_ends (byte ∷ text) more = let later : has_end (text ++ 10 ∷ more) ≡ true = line_ends text more in ends_behind byte (text ++ 10 ∷ more) later
 
-whole_line : (text more : List ℕ) → IsQuiet text → whole (text ++ 10 ∷ more) ≡ text ++ 10 ∷ whole more
+pub whole_line : (text more : List ℕ) → IsQuiet text → whole (text ++ 10 ∷ more) ≡ text ++ 10 ∷ whole more
 whole_line [] more quiet = refl
 whole_line (byte ∷ text) more quiet =
     let later : whole (text ++ 10 ∷ more) ≡ text ++ 10 ∷ whole more = whole_line text more quiet.2 in

@@ -3,7 +3,8 @@ use Rattle.std.proofs.Common.{◌≡◌, inl, inr, ⊎_elim, ℕ, ◌+◌, ◌<�
 use Rattle.std.specs.Prelude.{Option, Result, Ok, Err, OnOk}
 use Rattle.std.proofs.lemmas.List.{drop_more}
 use Rattle.keep_loop.specs.Device.{LeavesOnly}
-use Rattle.keep_loop.specs.Journal.{recovered, Begins, IsBetween}
+use Rattle.keep_loop.specs.Journal.{Begins}
+use Rattle.keep_loop.specs.Taken.{taken, TellsBetween}
 use Rattle.keep_loop.specs.Order.{Holds}
 use Rattle.keep_loop.specs.Run.{HoldsAtLeast}
 use Rattle.keep_loop.specs.declared.journal.Journal.{Journal}
@@ -27,10 +28,13 @@ weaker moment left_since old new P Q leads one = record {
   before = λ t c le left. ⊎_elim (λ before. inl before) (λ here. inr (leads c here)) (one.before t c le left);
 }
 
-pub wider : (stored more text all found : List ℕ) → Begins stored more → Begins text all → IsBetween more text found → IsBetween stored all found
+pub wider : (stored more text all found : List ℕ) → Begins stored more → Begins text all → TellsBetween more text found → TellsBetween stored all found
 wider stored more text all found front back is = record {
-  all_stored = begins_on stored more found front is.all_stored;
-  nothing_else = begins_on found text all is.nothing_else back;
+  is_taken = is.is_taken;
+  between = record {
+    all_stored = begins_on stored more (taken found) front is.between.all_stored;
+    nothing_else = begins_on (taken found) text all is.between.nothing_else back;
+  };
 }
 
 -- the next step
@@ -43,10 +47,10 @@ module _ {D : Type 0} (seen : D → Option (List ℕ)) (moment : D → ℕ) (lef
     pub text : List ℕ
     pub holds : HoldsAtLeast seen new stored text
     pub lines_are : text ++ rest ≡ all
-    pub leaves : LeavesOnly moment left_since old.device new.device (λ c. IsBetween stored all (recovered c))
+    pub leaves : LeavesOnly moment left_since old.device new.device (λ c. TellsBetween stored all c)
 
   pub so_far_first : (journal : Journal D) (stored text more : List ℕ) → Holds seen journal stored text →
-      LeavesOnly moment left_since journal.device journal.device (λ c. IsBetween stored (text ++ more) (recovered c)) → SoFar journal journal stored (text ++ more) more
+      LeavesOnly moment left_since journal.device journal.device (λ c. TellsBetween stored (text ++ more) c) → SoFar journal journal stored (text ++ more) more
   so_far_first journal stored text more holds leaves = record {
     text = text;
     holds = record { now_stored = stored; front = begins_self stored; holds = holds };
@@ -56,17 +60,17 @@ module _ {D : Type 0} (seen : D → Option (List ℕ)) (moment : D → ℕ) (lef
 
   -- what a step more leaves
   pub step_leaves : (old mid new : Journal D) (stored all lines rest : List ℕ) → SoFar old mid stored all (lines ++ rest) →
-      ((front text : List ℕ) → Holds seen mid front text → LeavesOnly moment left_since mid.device new.device (λ c. IsBetween front (text ++ lines) (recovered c))) →
-      LeavesOnly moment left_since old.device new.device (λ c. IsBetween stored all (recovered c))
+      ((front text : List ℕ) → Holds seen mid front text → LeavesOnly moment left_since mid.device new.device (λ c. TellsBetween front (text ++ lines) c)) →
+      LeavesOnly moment left_since old.device new.device (λ c. TellsBetween stored all c)
   step_leaves old mid new stored all lines rest so leaves =
       let h = so.holds in
       let back : Begins (so.text ++ lines) all = (rest, sym so.lines_are ∙ sym (append_assoc so.text lines rest)) in
-      then moment left_since old.device mid.device new.device (λ c. IsBetween stored all (recovered c)) so.leaves
-      (weaker moment left_since mid.device new.device (λ c. IsBetween h.now_stored (so.text ++ lines) (recovered c)) (λ c. IsBetween stored all (recovered c))
-      (λ c is. wider stored h.now_stored (so.text ++ lines) all (recovered c) h.front back is) (leaves h.now_stored so.text h.holds))
+      then moment left_since old.device mid.device new.device (λ c. TellsBetween stored all c) so.leaves
+      (weaker moment left_since mid.device new.device (λ c. TellsBetween h.now_stored (so.text ++ lines) c) (λ c. TellsBetween stored all c)
+      (λ c is. wider stored h.now_stored (so.text ++ lines) all c h.front back is) (leaves h.now_stored so.text h.holds))
 
   pub so_far_next : (old mid new : Journal D) (stored all lines rest : List ℕ) → SoFar old mid stored all (lines ++ rest) →
-      ((front text : List ℕ) → Holds seen mid front text → LeavesOnly moment left_since mid.device new.device (λ c. IsBetween front (text ++ lines) (recovered c))) →
+      ((front text : List ℕ) → Holds seen mid front text → LeavesOnly moment left_since mid.device new.device (λ c. TellsBetween front (text ++ lines) c)) →
       ((front text : List ℕ) → Holds seen mid front text → HoldsAtLeast seen new front (text ++ lines)) → SoFar old new stored all rest
   so_far_next old mid new stored all lines rest so leaves holds =
       let h = so.holds in
@@ -77,11 +81,6 @@ module _ {D : Type 0} (seen : D → Option (List ℕ)) (moment : D → ℕ) (lef
         lines_are = append_assoc so.text lines rest ∙ so.lines_are;
         leaves = step_leaves old mid new stored all lines rest so leaves;
       }
-
-  -- what is stored is the beginning of what is held
-  pub holds_begins : (journal : Journal D) (stored text : List ℕ) → Holds seen journal stored text → Begins stored text
-  holds_begins journal stored text h =
-      (drop journal.stored text, sym (take-append-drop journal.stored text) ∙ ap (λ (l : List ℕ). l ++ drop journal.stored text) h.stored_are)
 
 pub on_ok_leads : {A E P Q : Type 0} (result : Result A E) → (P → Q) → OnOk result P → OnOk result Q
 on_ok_leads (Ok x) leads p = leads p

@@ -1,3 +1,5 @@
+pub mod Crc
+pub mod Taken
 pub mod Cuts
 pub mod Epochs
 pub mod Seen

@@ -1,6 +1,7 @@
 -- Whole runs of a journal.
 use Rattle.std.specs.Prelude.{ℕ, List, [], ◌∷◌, ◌++◌, Option}
-use Rattle.keep_loop.specs.Journal.{AreLines, Begins}
+use Rattle.keep_loop.specs.Journal.{Begins}
+use Rattle.keep_loop.specs.Taken.{ArePlain}
 use Rattle.keep_loop.specs.Order.{Holds}
 use Rattle.keep_loop.specs.declared.journal.Journal.{Journal}
 use Rattle.keep_loop.specs.declared.uncalled.JournalStep.{JournalStep}
@@ -19,7 +20,7 @@ added (step ∷ steps) = added_by step ++ added steps
 -- each step adds lines
 abbrev pub AreSteps : List JournalStep → Type 0
 AreSteps [] = Unit {0}
-AreSteps (step ∷ steps) = AreLines (added_by step) × AreSteps steps
+AreSteps (step ∷ steps) = ArePlain (added_by step) × AreSteps steps
 
 -- the journal holds these lines, and at least these first ones are stored
 pub record HoldsAtLeast {D : Type 0} (seen : D → Option (List ℕ)) (journal : Journal D)

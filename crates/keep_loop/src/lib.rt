@@ -8,15 +8,21 @@
 //! `device::Device` is a file as a journal needs it: what each call does to it, and what a crash may leave at each moment.
 //! `memory::Memory` is one in memory; `folder::FolderFile` is one in a folder, of which nothing is known.
 //! `journal::Journal` keeps lines, and zeros behind them, in a file of fixed length: `append` adds whole lines, `sync`
-//! stores all of them at once, `change` begins the file anew in one step. `journal::recover` reads what a crash has left:
-//! all lines that were stored, and maybe some of those added since, in order, none of them in part. `run` says so of any
-//! list of steps that a crash cuts off, and `round` is that of a server: lines are stored, and only then is anything
-//! answered.
+//! stores all of them at once, `change` begins the file anew in one step. What a crash leaves tells all lines that were
+//! stored, and maybe some of those added since, in order, none of them in part. `run` says so of any list of steps that a
+//! crash cuts off, and `round` is that of a server: lines are stored, and only then is anything answered.
+//!
+//! What stands in the file beside these lines is an encoding of its own: line 1 tells its form (`head`), and lines by which
+//! the file checks itself end its front and each round (`check_lines`, `crc`). `taken_core` undoes it, and says where a file
+//! is not as it was written.
 #![tactic(auto)]
 
-mod cut;
+pub mod check_lines;
+pub mod crc;
+pub mod cut;
 pub mod device;
 pub mod folder;
+pub mod head;
 pub mod journal;
 mod keep;
 mod laws;
@@ -25,6 +31,7 @@ mod outside;
 pub mod post;
 mod rounds;
 pub mod served;
+pub mod taken;
 pub mod uncalled;
 
 pub use keep::{LoopLimits, MOST_LINE};

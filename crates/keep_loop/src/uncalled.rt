@@ -2,7 +2,7 @@
 
 ghost use Rattle.std.specs.Prelude.{◌≡◌, ◌⊎◌, ◌++◌, List, ℕ, OnOk, IsErrOf};
 ghost use Rattle.keep_loop.specs.Device.{LeavesOnly};
-ghost use Rattle.keep_loop.specs.Journal.{recovered, AreLines, IsBetween};
+ghost use Rattle.keep_loop.specs.Taken.{ArePlain, TellsBetween};
 ghost use Rattle.keep_loop.specs.declared.uncalled.RoundFault.TheVariants.{NotStored, NotWritten};
 
 use crate::device::{Device, DeviceError};
@@ -31,7 +31,7 @@ impl<D: Device> Journal<D> {
         answers: &[u8],
     ) -> Result<(), RoundFault>
         requires in_order { IsInOrder D.seen D.may_leave self.old }
-        requires lines { AreLines lines.now }
+        requires lines { ArePlain lines.now }
 
         ensures in_order { OnOk result (IsInOrder D.seen D.may_leave self.new) }
         ensures stored { OnOk result ((stored text : List ℕ) → Holds D.seen self.old stored text
@@ -50,7 +50,7 @@ impl<D: Device> Journal<D> {
 
         ensures any_moment { (stored text : List ℕ) → Holds D.seen self.old stored text
             → LeavesOnly D.moment D.left_since self.old.device self.new.device
-            (λ c. IsBetween stored (text ++ lines.now) (recovered c)) }
+            (λ c. TellsBetween stored (text ++ lines.now) c) }
     {
         let Ok(()) = self.append(lines) else {
             return Err(RoundFault::NotStored);
@@ -81,14 +81,14 @@ impl<D: Device> Journal<D> {
     // Makes one step.
     fn make(&mut self, step: &JournalStep) -> Result<(), DeviceError>
         requires in_order { IsInOrder D.seen D.may_leave self.old }
-        requires lines { AreLines (added_by step.now) }
+        requires lines { ArePlain (added_by step.now) }
 
         ensures in_order { OnOk result (IsInOrder D.seen D.may_leave self.new) }
         ensures holds { OnOk result ((stored text : List ℕ) → Holds D.seen self.old stored text
             → HoldsAtLeast D.seen self.new stored (text ++ added_by step.now)) }
         ensures any_moment { (stored text : List ℕ) → Holds D.seen self.old stored text
             → LeavesOnly D.moment D.left_since self.old.device self.new.device
-            (λ c. IsBetween stored (text ++ added_by step.now) (recovered c)) }
+            (λ c. TellsBetween stored (text ++ added_by step.now) c) }
     {
         match step {
             JournalStep::Lines(lines) => self.append(lines),
@@ -108,7 +108,7 @@ impl<D: Device> Journal<D> {
             → HoldsAtLeast D.seen self.new stored (text ++ added steps.now)) }
         ensures any_moment { (stored text : List ℕ) → Holds D.seen self.old stored text
             → LeavesOnly D.moment D.left_since self.old.device self.new.device
-            (λ c. IsBetween stored (text ++ added steps.now) (recovered c)) }
+            (λ c. TellsBetween stored (text ++ added steps.now) c) }
     {
         for step in steps {
             self.make(step)?;

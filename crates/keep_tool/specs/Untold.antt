@@ -14,12 +14,12 @@ IsUntold failures.ReadFault = ⊥
 IsUntold failures.WriteFault = ⊥
 IsUntold failures.Memory = ⊤
 
--- a failure of a start: 2 for a mistake in a value of an option, 3 or 4 for a fault
-abbrev pub IsUnbegun : ToolFailure → Type 0
-IsUnbegun (failures.Usage error) = kind_of error ≡ kinds.ValueValidation
-IsUnbegun failures.ReadFault = ⊤
-IsUnbegun failures.WriteFault = ⊤
-IsUnbegun failures.Memory = ⊤
+-- a want of memory, or a mistake in a value of an option, with status 2
+abbrev pub IsUndue : ToolFailure → Type 0
+IsUndue (failures.Usage error) = kind_of error ≡ kinds.ValueValidation
+IsUndue failures.ReadFault = ⊥
+IsUndue failures.WriteFault = ⊥
+IsUndue failures.Memory = ⊤
 
 -- a want of memory, or a mistake in an option that these words have
 abbrev pub IsUnwatched : Sorted → ToolFailure → Type 0

@@ -1,27 +1,20 @@
 //! What was done of objects before a first start.
 
-ghost use Rattle.std.specs.Prelude.{IfOk};
-ghost use Rattle.keep_tool.specs.Untold.{IsUnbegun};
-
 use crate::lines::object_line;
-use answer_core::failure::ToolFailure;
-use command_line::mistakes::past_error;
+use crate::notes::note;
 use command_line::past::Past;
 use decl_core::analyse::Accepted;
 use decl_core::object::Object;
 use keep_core::start::push_calls;
+use keep_log::log::Log;
 use path_count::past::PastEvent;
 use path_tree::node::OpId;
 use std::alloc::{AllocError, Global};
+use std::io::Write;
 
 // Whether what was done before is told of an object.
 fn is_of(object: &Object, past: &Past<'_>) -> bool {
     object.name.is_spelled_by(past.object.as_bytes())
-}
-
-// The first word of the command line that tells what was done of an object before.
-pub(crate) fn first_past<'s, 'a>(object: &Object, pasts: &'s [Past<'a>]) -> Option<&'s Past<'a>> {
-    pasts.iter().find(|past| is_of(object, past))
 }
 
 // The operation of this name.
@@ -55,22 +48,25 @@ pub(crate) fn done_before(
     Ok(Ok(done))
 }
 
-// The mistake of a word that tells of a past which a journal tells.
-pub(crate) fn told_twice(
+// Tells of each word of the command line that tells of the past of an object which has a journal: the journal has its past.
+pub(crate) fn note_pasts<E: Write, L: Write>(
     alloc: Global,
+    object: &Object,
     name: &str,
-    past: &Past<'_>,
-) -> Result<ToolFailure, AllocError>
-    ensures { IfOk result IsUnbegun }
-{
-    let Past {
-        object,
-        operation,
-        times,
-    } = past;
-    let word = format!(in alloc; "{object}:{operation}:{times}")?;
-    let form = format!(in alloc; "what was done before is read from {name}.journal alone")?;
-    Ok(ToolFailure::Usage(past_error(alloc, word.as_str(), form.as_str())?))
+    pasts: &[Past<'_>],
+    error: &mut E,
+    log: &mut Log<HostRuntime, L>,
+) -> Result<(), AllocError> {
+    for past in pasts {
+        if is_of(object, past) {
+            let (said, operation, times) = (past.object, past.operation, past.times);
+            let line = format!(in alloc;
+                "--past {said}:{operation}:{times}: {name} has a journal, which has its past\n"
+            )?;
+            note(line.as_bytes(), error, log);
+        }
+    }
+    Ok(())
 }
 
 // `no object NAME` for each word that tells of the past of an object that is not there.

@@ -1,12 +1,18 @@
 //! Objects of a server that stays, begun: behind their journals, or with their parts.
 
 ghost use Rattle.std.specs.Prelude.{IfErr};
-ghost use Rattle.keep_tool.specs.Untold.{IsUnbegun};
+ghost use Rattle.answer_core.specs.Status.{IsFault};
 
-use crate::before::{done_before, first_past, strangers, told_twice};
-use crate::custody::{AllRules, add_held, begin_held};
+use crate::before::strangers;
+use crate::belief::Belief;
+use crate::custody::{AllRules, add_held};
+use crate::cuts::{CutFile, keep_cuts};
 use crate::ending::say;
-use crate::lines::{count_lines, object_line, refused_line, told_line};
+use crate::folder::FolderNames;
+use crate::lines::object_line;
+use crate::notes::{note_shared, note_strangers};
+use crate::one::{Begun, StartPlace, begin_one};
+use crate::sources::texts_of;
 use crate::stuck::stuck_lines;
 use answer_core::answer::REFUSED;
 use answer_core::explanation::explained;
@@ -21,141 +27,30 @@ use decl_core::hold::Rules;
 use decl_core::object::Object;
 use device_core::dir_shelf::DirShelf;
 use guest_core::held::Holds;
-use keep_core::start::{NotBegun, begin_first, opening_of};
 use keep_log::log::Log;
-use keep_loop::device::DeviceError;
-use keep_loop::folder::FolderFile;
-use keep_loop::journal::recover as lines_of;
-use live_core::call::Limits;
 use live_core::hosted::Hosted;
 use std::alloc::{AllocError, Global};
 use std::io::Write;
 use value_core::write_whole;
 
-/// So many names an object knows before a new one takes the place of another.
-pub(crate) const NAMES: u16 = 4_096;
-
-/// Sessions have the numbers from 1 to this one, and so many calls wait at most.
-pub(crate) const LIMITS: Limits = Limits {
-    sessions: 65_535,
-    waiting: 10_000,
-};
-
-/// The objects of a server, with their names, the fronts with which their journals begin, and what is held of them.
+/// The objects of a server, with their names, their texts, the fronts with which their journals begin, and what is held of
+/// them.
 #[derive(Drop)]
 pub struct KeptObjects {
     /// The objects, in the order of the source.
     pub objects: Vec<Hosted>,
     /// The name of each.
     pub names: Vec<String>,
+    /// What FILE says of each.
+    pub texts: Vec<Vec<u8>>,
     /// What the journal of each begins with.
     pub fronts: Vec<Vec<u8>>,
     /// What is held of each; of none where no object has rules.
     pub custody: AllHeld,
 }
 
-// One object with what is held of it, or the line that says why it is not kept.
-enum Begun {
-    Ready(Hosted, Holds),
-    Told(Vec<u8>),
-}
-
-// In which folder objects begin, what was done of them before, and how many seconds who is gone holds something.
-#[derive(Clone, Copy)]
-struct StartPlace<'a, 'b> {
-    rt: &'a HostRuntime,
-    folder: &'a str,
-    pasts: &'a [Past<'b>],
-    away: u64,
-}
-
-// The lines of a journal in a folder, which is made where it is missing.
-fn journal_lines(rt: &HostRuntime, folder: &str, name: &str) -> Result<Vec<u8>, ToolFailure>
-    ensures { IfErr result IsUnbegun }
-{
-    let mut file = FolderFile::open(*rt, folder, name)?;
-    match lines_of(rt.alloc(), &mut file) {
-        Ok(lines) => Ok(lines),
-        Err(DeviceError::Memory) => Err(ToolFailure::Memory),
-        Err(_) => Err(ToolFailure::ReadFault),
-    }
-}
-
-// Begins one object: behind its journal, or where that has no line yet with the parts in the folder.
-fn begin_one<E: Write>(
-    place: StartPlace<'_, '_>,
-    object: Object,
-    name: &str,
-    rules: &Rules,
-    shelf: &mut DirShelf<HostRuntime>,
-    log: &mut Log<HostRuntime, E>,
-) -> Result<Begun, ToolFailure>
-    ensures { IfErr result IsUnbegun }
-{
-    let alloc = place.rt.alloc();
-    let lines = journal_lines(place.rt, place.folder, name)?;
-    if lines.is_empty() {
-        let begun = begin_new(alloc, object, name, place.pasts, shelf)?;
-        if let Begun::Ready(_, _) = &begun {
-            log.begun(name.as_bytes());
-        }
-        return Ok(begun);
-    }
-    if let Some(past) = first_past(&object, place.pasts) {
-        return Err(told_twice(alloc, name, past)?);
-    }
-    begin_recovered(alloc, object, name, rules, &lines, log)
-}
-
-// Begins one object behind the lines of its journal.
-fn begin_recovered<E: Write>(
-    alloc: Global,
-    object: Object,
-    name: &str,
-    rules: &Rules,
-    lines: &[u8],
-    log: &mut Log<HostRuntime, E>,
-) -> Result<Begun, ToolFailure>
-    ensures { IfErr result IsUnbegun }
-{
-    match begin_held(alloc, object, rules, lines)? {
-        Ok((hosted, held)) => {
-            log.recovered(name.as_bytes(), lines.len() as u64, count_lines(lines));
-            Ok(Begun::Ready(hosted, held))
-        }
-        Err(NotBegun::Refused(fault)) => Ok(Begun::Told(refused_line(alloc, name, fault)?)),
-        Err(NotBegun::Memory) => Err(ToolFailure::Memory),
-        Err(_) => Ok(Begun::Told(object_line(alloc, name, b" past does not fit\n")?)),
-    }
-}
-
-// Begins one object that has no journal.
-fn begin_new(
-    alloc: Global,
-    object: Object,
-    name: &str,
-    pasts: &[Past<'_>],
-    shelf: &mut DirShelf<HostRuntime>,
-) -> Result<Begun, ToolFailure>
-    ensures { IfErr result IsUnbegun }
-{
-    let done = match done_before(alloc, &object, name, pasts)? {
-        Ok(done) => done,
-        Err(line) => return Ok(Begun::Told(line)),
-    };
-    let values = match opening_of(alloc, &object, !done.is_empty(), shelf) {
-        Ok(values) => values,
-        Err(why) => return Ok(Begun::Told(told_line(alloc, &object, name, why)?)),
-    };
-    match begin_first(alloc, object, &done, values, NAMES, LIMITS) {
-        Ok(hosted) => Ok(Begun::Ready(hosted, Holds::new(alloc))),
-        Err(NotBegun::Memory) => Err(ToolFailure::Memory),
-        Err(_) => Ok(Begun::Told(object_line(alloc, name, b" past does not fit\n")?)),
-    }
-}
-
 fn name_of(alloc: Global, object: &Object) -> Result<String, ToolFailure>
-    ensures { IfErr result IsUnbegun }
+    ensures { IfErr result IsFault }
 {
     match String::from_utf8(object.name.as_bytes().to_vec(alloc)?) {
         Ok(name) => Ok(name),
@@ -163,25 +58,29 @@ fn name_of(alloc: Global, object: &Object) -> Result<String, ToolFailure>
     }
 }
 
-// A start: the rules of the objects that are still to begin, those that have begun, and the lines of those that have not.
+// A start: the rules of the objects that are still to begin, those that have begun, the files of journals that are cut, and
+// the lines of those that have not begun.
 #[derive(Drop)]
 struct KeepStart {
     rules: AllRules,
     kept: KeptObjects,
+    cuts: Vec<CutFile>,
     told: Vec<u8>,
 }
 
 impl KeepStart {
     // Before the first object.
-    fn new(alloc: Global, rules: Vec<Rules>) -> KeepStart {
+    fn new(alloc: Global, rules: Vec<Rules>, texts: Vec<Vec<u8>>) -> KeepStart {
         KeepStart {
             rules: AllRules::new(rules),
             kept: KeptObjects {
                 objects: Vec::new(alloc),
                 names: Vec::new(alloc),
+                texts,
                 fronts: Vec::new(alloc),
                 custody: AllHeld::new(alloc),
             },
+            cuts: Vec::new(alloc),
             told: Vec::new(alloc),
         }
     }
@@ -197,7 +96,10 @@ impl KeepStart {
     ) -> Result<(), AllocError> {
         match begun {
             Begun::Told(line) => self.told.extend_from_slice(&line),
-            Begun::Ready(hosted, held) => {
+            Begun::Ready(hosted, held, cut) => {
+                if let Some(cut) = cut {
+                    self.cuts.push(cut)?;
+                }
                 let ruled = if self.rules.any {
                     Some((own, held))
                 } else {
@@ -224,71 +126,116 @@ impl KeepStart {
         }
     }
 
-    // Begins one object more.
-    fn begin<E: Write>(
+    // The text of the object at a place.
+    fn text_at(&self, alloc: Global, at: usize) -> Result<Vec<u8>, AllocError> {
+        match self.kept.texts.get(at) {
+            Some(text) => Ok(text.to_vec(alloc)?),
+            None => Ok(Vec::new(alloc)),
+        }
+    }
+
+    // Begins one object more, of which the text is the one at this place.
+    fn begin<E: Write, L: Write>(
         &mut self,
-        place: StartPlace<'_, '_>,
+        place: StartPlace<'_, '_, '_>,
         object: Object,
+        at: usize,
         shelf: &mut DirShelf<HostRuntime>,
-        log: &mut Log<HostRuntime, E>,
+        error: &mut E,
+        log: &mut Log<HostRuntime, L>,
     ) -> Result<(), ToolFailure>
-        ensures { IfErr result IsUnbegun }
+        ensures { IfErr result IsFault }
     {
         let alloc = place.rt.alloc();
         let name = name_of(alloc, &object)?;
         let own = self.rules.next(alloc);
-        let begun = begin_one(place, object, name.as_str(), &own, shelf, log)?;
+        let text = self.text_at(alloc, at)?;
+        let begun = begin_one(place, object, name.as_str(), &text, &own, shelf, error, log)?;
         self.take(alloc, name, own, begun, place.away)?;
         Ok(())
     }
 
-    // The objects, or the lines of those that have not begun.
-    fn end(self) -> Result<KeptObjects, Vec<u8>> {
+    // The objects with the files of journals that are cut, or the lines of those that have not begun.
+    fn end(self) -> Result<(KeptObjects, Vec<CutFile>), Vec<u8>> {
         let KeepStart {
             rules: _,
             kept,
+            cuts,
             told,
         } = self;
         if told.is_empty() {
-            return Ok(kept);
+            return Ok((kept, cuts));
         }
         Err(told)
     }
 }
 
 // Begins the objects, in order.
-fn begin_each<E: Write>(
-    place: StartPlace<'_, '_>,
+fn begin_each<E: Write, L: Write>(
+    place: StartPlace<'_, '_, '_>,
     accepted: Vec<Accepted>,
     start: &mut KeepStart,
-    log: &mut Log<HostRuntime, E>,
+    error: &mut E,
+    log: &mut Log<HostRuntime, L>,
 ) -> Result<(), ToolFailure>
-    ensures { IfErr result IsUnbegun }
+    ensures { IfErr result IsFault }
 {
     let mut shelf = DirShelf::new(*place.rt, place.folder)?;
+    let mut at: usize = 0;
     for one in accepted {
-        start.begin(place, one.into_object(), &mut shelf, log)?;
+        start.begin(place, one.into_object(), at, &mut shelf, error, log)?;
+        at = at.saturating_add(1);
     }
     Ok(())
 }
 
+fn push_name(names: &mut Vec<String>, name: String) -> Result<(), AllocError> {
+    names.push(name)?;
+    Ok(())
+}
+
+// The names of objects.
+fn names_of(alloc: Global, accepted: &[Accepted]) -> Result<Vec<String>, ToolFailure>
+    ensures { IfErr result IsFault }
+{
+    let mut names = Vec::new(alloc);
+    for one in accepted {
+        let name = name_of(alloc, one.object())?;
+        push_name(&mut names, name)?;
+    }
+    Ok(names)
+}
+
 // Begins the objects, in order, by these rules, or gives the lines of those that are not.
-fn begin_all<E: Write>(
-    place: StartPlace<'_, '_>,
+fn begin_all<E: Write, L: Write>(
+    place: StartPlace<'_, '_, '_>,
     accepted: Vec<Accepted>,
     rules: Vec<Rules>,
-    log: &mut Log<HostRuntime, E>,
+    texts: Vec<Vec<u8>>,
+    error: &mut E,
+    log: &mut Log<HostRuntime, L>,
 ) -> Result<Result<KeptObjects, Vec<u8>>, ToolFailure>
-    ensures { IfErr result IsUnbegun }
+    ensures { IfErr result IsFault }
 {
     let alloc = place.rt.alloc();
-    let unknown = strangers(alloc, &accepted, place.pasts)?;
+    let mut unknown = strangers(alloc, &accepted, place.pasts)?;
+    place.belief.push_strangers(&accepted, &mut unknown)?;
     if !unknown.is_empty() {
         return Ok(Err(unknown));
     }
-    let mut start = KeepStart::new(alloc, rules);
-    begin_each(place, accepted, &mut start, log)?;
-    Ok(start.end())
+    let names = names_of(alloc, &accepted)?;
+    let journals = place.names.journals(alloc)?;
+    note_shared(place.rt, place.folder, error, log)?;
+    note_strangers(alloc, place.folder, &journals, &names, error, log)?;
+    let mut start = KeepStart::new(alloc, rules, texts);
+    begin_each(place, accepted, &mut start, error, log)?;
+    match start.end() {
+        Ok((kept, cuts)) => {
+            keep_cuts(place.rt, place.folder, &cuts, error, log)?;
+            Ok(Ok(kept))
+        }
+        Err(told) => Ok(Err(told)),
+    }
 }
 
 // Adds an object with its rules and what is held of it, where any object has rules; or gives the line that says why it is
@@ -337,17 +284,18 @@ fn put(
 // Begins objects that are accepted. Where each has begun `error` gets a line of each that is known to get stuck, else
 // `writer` gets a line of each that has not, and none is given.
 fn begin_accepted<W: Write, E: Write, L: Write>(
-    place: StartPlace<'_, '_>,
+    place: StartPlace<'_, '_, '_>,
     accepted: Vec<Accepted>,
     rules: Vec<Rules>,
+    texts: Vec<Vec<u8>>,
     writer: &mut W,
     error: &mut E,
     log: &mut Log<HostRuntime, L>,
 ) -> Result<Option<KeptObjects>, ToolFailure>
-    ensures { IfErr result IsUnbegun }
+    ensures { IfErr result IsFault }
 {
     let stuck = stuck_lines(place.rt.alloc(), &accepted)?;
-    match begin_all(place, accepted, rules, log)? {
+    match begin_all(place, accepted, rules, texts, error, log)? {
         Ok(kept) => {
             let _ = write_whole(error, &stuck);
             Ok(Some(kept))
@@ -359,42 +307,61 @@ fn begin_accepted<W: Write, E: Write, L: Write>(
     }
 }
 
-/// The objects of a source, begun by these rules, those of each object in their order, or none where no object has any.
-/// `pasts` are what was done before parts were made, where an object begins with parts; `away` is how many seconds who is
-/// gone holds something. Where the source is refused, or an object is not begun with, lines say so, and none is given.
-/// `error` gets why the source is refused, as far as that is to be told, and a line of each object that is known to get
-/// stuck; `log` hears of each that has begun.
+/// What a start is asked for beside its command line: its objects as FILE has them, which is `text`, and without their rules,
+/// which is `source`.
+#[derive(Drop)]
+pub struct StartSource {
+    pub text: Vec<u8>,
+    pub source: Vec<u8>,
+    /// Of each object in their order, or none where no object has any.
+    pub rules: Vec<Rules>,
+}
+
+/// The objects of a source, begun. `pasts` are what was done before parts were made, where an object begins with parts;
+/// `belief` is what the start believes; `away` is how many seconds who is gone holds something. Where the source is refused,
+/// or an object is not begun with, lines say so, none is given, and nothing in the folder is changed; else the files of
+/// journals that are cut are kept, and nothing else in the folder is changed. `error` gets why the source is refused, as far
+/// as that is to be told, a line of each object that is known to get stuck, and, where there is no log, what the start tells
+/// and goes on; `log` hears that, and of each object that has begun.
 ///
-/// A failure is `Usage` where a past is told of an object that has a journal, `ReadFault` where the folder could not be
-/// read, `WriteFault` where a line could not be written, or `Memory`.
+/// A failure is `ReadFault` where the folder, or a file of it, could not be read, which is told, `WriteFault` where a line or
+/// the file of a cut could not be written, or `Memory`.
 pub fn begin_source<W: Write, E: Write, L: Write>(
     rt: &HostRuntime,
-    source: &[u8],
-    rules: Vec<Rules>,
+    source: StartSource,
     asked: Keeping<'_>,
     away: u64,
     pasts: &[Past<'_>],
+    belief: &Belief<'_>,
     writer: &mut W,
     error: &mut E,
     log: &mut Log<HostRuntime, L>,
 ) -> Result<Option<KeptObjects>, ToolFailure>
-    ensures { IfErr result IsUnbegun }
+    ensures { IfErr result IsFault }
 {
-    let alloc = rt.alloc();
-    match judge(alloc, source)? {
+    let StartSource {
+        text,
+        source,
+        rules,
+    } = source;
+    match judge(rt.alloc(), &source)? {
         JudgedSource::Ready(accepted) => {
+            let names = FolderNames::look(rt, asked.folder)?;
             let place = StartPlace {
                 rt,
                 folder: asked.folder,
+                names: &names,
                 pasts,
+                belief,
                 away,
             };
-            begin_accepted(place, accepted, rules, writer, error, log)
+            let texts = texts_of(rt.alloc(), &text)?;
+            begin_accepted(place, accepted, rules, texts, writer, error, log)
         }
         JudgedSource::Told(lines) => {
             let ended = written(&lines, REFUSED, writer);
             let telling = telling_of(rt, asked.explain);
-            explained(alloc, ended, telling, asked.file, source, None, error)?;
+            explained(rt.alloc(), ended, telling, asked.file, &source, None, error)?;
             Ok(None)
         }
     }

@@ -1,7 +1,7 @@
 //! What is held of the objects of a server when it starts.
 
-use crate::begin::{LIMITS, NAMES};
 use crate::lines::count_lines;
+use crate::one::{LIMITS, NAMES};
 use client_core::all::AllHeld;
 use client_core::holding::Holding;
 use decl_core::hold::Rules;
@@ -10,7 +10,7 @@ use front_read::hold_lines::push_held;
 use guest_core::held::Holds;
 use keep_core::start::{NotBegun, begin_behind};
 use live_core::hosted::Hosted;
-use recover_core::past::play_held;
+use recover_core::past::{ends_in, play_held};
 use recover_core::recover::{House, RecoverFault};
 use recover_core::text::{HeldFront, cut_held, read_held};
 use std::alloc::{AllocError, Global};
@@ -68,54 +68,21 @@ fn moved_by(why: NotBegun, text: &[u8], front: usize, behind: usize) -> NotBegun
     }
 }
 
-// Whether the line of this number, the first of which is 1, begins as one that tells what is held.
-fn tells_held(text: &[u8], line: u64) -> bool {
-    let mut count: u64 = 1;
-    for place in 0..text.len() {
-        if count == line {
-            return text[place..].starts_with(b"held ");
-        }
-        if text[place] == b'\n' {
-            count = count.saturating_add(1);
-        }
-    }
-    false
-}
-
-// A fault of a journal: a line that tells what is held, and that cannot be read, was written of other holds.
-fn told_as(text: &[u8], fault: RecoverFault) -> RecoverFault {
-    match fault {
-        RecoverFault::Front(line) if tells_held(text, line) => RecoverFault::Changed,
-        RecoverFault::Line(line, _) if tells_held(text, line) => RecoverFault::Changed,
-        fault => fault,
-    }
-}
-
-// Begins one object of which nothing can be held.
-fn begin_bare(alloc: Global, object: Object, lines: &[u8]) -> Result<BegunHeld, AllocError> {
-    match begin_plain(alloc, object, lines, Holds::new(alloc))? {
-        Err(NotBegun::Refused(fault)) => Ok(Err(NotBegun::Refused(told_as(lines, fault)))),
-        begun => Ok(begun),
-    }
-}
-
-/// Begins one object behind the lines of its journal. Where its front tells that something is held which this object does
-/// not hold so, it was changed.
+/// Begins one object behind the lines of its journal, which has this format: 1 where it says none. A line of its front that
+/// tells that something is held which this object does not hold so has a fault.
 pub(crate) fn begin_held(
     alloc: Global,
     object: Object,
     rules: &Rules,
+    format: u64,
     lines: &[u8],
 ) -> Result<BegunHeld, AllocError> {
     if rules.holds.is_empty() {
-        return begin_bare(alloc, object, lines);
+        return begin_plain(alloc, object, lines, Holds::new(alloc));
     }
     match read_held(alloc, &object, &rules.holds, lines)? {
-        Err(line) => {
-            let fault = told_as(lines, RecoverFault::Front(line));
-            Ok(Err(NotBegun::Refused(fault)))
-        }
-        Ok(read) => begin_read(alloc, object, rules, lines, read),
+        Err(line) => Ok(Err(NotBegun::Refused(RecoverFault::Front(line)))),
+        Ok(read) => begin_read(alloc, object, rules, format, lines, read),
     }
 }
 
@@ -124,12 +91,14 @@ fn begin_read(
     alloc: Global,
     object: Object,
     rules: &Rules,
+    format: u64,
     lines: &[u8],
     read: HeldFront,
 ) -> Result<BegunHeld, AllocError> {
     let cut = cut_held(alloc, lines, &read)?;
     let (front, behind) = (read.front, read.behind);
-    let begun = match play_held(alloc, &object, &rules.holds, read, lines)? {
+    let ends = ends_in(format);
+    let begun = match play_held(alloc, &object, ends, &rules.holds, read, lines)? {
         Some(held) => begin_plain(alloc, object, &cut, held)?,
         None => refuse_unplayed(alloc, object, &cut)?,
     };

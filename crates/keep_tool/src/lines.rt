@@ -1,7 +1,7 @@
 //! What is told of objects that are not begun with.
 
 ghost use Rattle.std.specs.Prelude.{IfErr};
-ghost use Rattle.keep_tool.specs.Untold.{IsUnbegun};
+ghost use Rattle.answer_core.specs.Status.{IsFault};
 
 use answer_core::failure::ToolFailure;
 use audit_core::verdict::AuditFault as TraceFault;
@@ -10,6 +10,7 @@ use keep_core::open::push_damaged;
 use keep_core::start::NotBegun;
 use recover_core::recover::RecoverFault;
 use std::alloc::{AllocError, Global};
+use taken_core::taken::{TakeFault, line_in_file};
 
 // How many lines there are.
 pub(crate) fn count_lines(lines: &[u8]) -> u64 {
@@ -40,10 +41,33 @@ fn fault_text(alloc: Global, fault: TraceFault) -> Result<String, AllocError> {
     }
 }
 
-// The line of a journal that is refused.
+// The line of the file of a journal that is not taken.
+pub(crate) fn taken_line(
+    alloc: Global,
+    name: &str,
+    fault: TakeFault,
+) -> Result<Vec<u8>, AllocError> {
+    let line = match fault {
+        TakeFault::Line(line) => format!(in alloc; "{name}.journal line {line} bad\n")?,
+        TakeFault::Format(format) => format!(in alloc; "{name}.journal has format {format}\n")?,
+        TakeFault::Behind(line, count) => format!(in alloc;
+            "{name}.journal line {line}: {count} bytes behind it are not 0\n"
+        )?,
+    };
+    line.as_bytes().to_vec(alloc)
+}
+
+/// The line of the file of a journal that ends behind this line, and lacks room.
+pub(crate) fn short_line(alloc: Global, name: &str, line: u64) -> Result<Vec<u8>, AllocError> {
+    let line = format!(in alloc; "{name}.journal line {line}: the file ends behind it\n")?;
+    line.as_bytes().to_vec(alloc)
+}
+
+// The line of a journal that is refused, of which this is the file.
 pub(crate) fn refused_line(
     alloc: Global,
     name: &str,
+    file: &[u8],
     fault: RecoverFault,
 ) -> Result<Vec<u8>, AllocError> {
     let line = match fault {
@@ -52,9 +76,11 @@ pub(crate) fn refused_line(
         }
         RecoverFault::Past => format!(in alloc; "object {name} past does not fit\n")?,
         RecoverFault::Front(line) | RecoverFault::Contradicts(line) => {
+            let line = line_in_file(file, line);
             format!(in alloc; "{name}.journal line {line} bad\n")?
         }
         RecoverFault::Line(line, fault) => {
+            let line = line_in_file(file, line);
             let said = fault_text(alloc, fault)?;
             format!(in alloc; "{name}.journal line {line} {said}\n")?
         }
@@ -69,10 +95,10 @@ pub(crate) fn told_line(
     name: &str,
     why: NotBegun,
 ) -> Result<Vec<u8>, ToolFailure>
-    ensures { IfErr result IsUnbegun }
+    ensures { IfErr result IsFault }
 {
     let line = match why {
-        NotBegun::Refused(fault) => refused_line(alloc, name, fault)?,
+        NotBegun::Refused(fault) => refused_line(alloc, name, &[], fault)?,
         NotBegun::NoPast => object_line(alloc, name, b" past does not fit\n")?,
         NotBegun::Uncounted => object_line(alloc, name, b" past is not known\n")?,
         NotBegun::Damaged(part) => {

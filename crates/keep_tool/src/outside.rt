@@ -8,26 +8,28 @@ ghost use Rattle.keep_log.specs.declared.line.LineForm.TheVariants.{Text, Json};
 use crate::ears::{place_text, tell_place};
 use crate::status::StatusFile;
 use answer_core::failure::ToolFailure;
+use answer_core::lack::{Lacking, Wanted};
+use answer_core::said::told;
 use command_line::request::{Keeping, Sync};
 use command_line::watching::{LogForm, Watching};
 use inside_core::numbers::{Server, Stored};
 use keep_log::line::LineForm;
 use keep_log::log::Log;
-use keep_log::logged::Logged;
+use keep_log::logged::{Logged, LoggedJournal};
 use keep_log::shown::Showing;
 use keep_loop::LoopLimits;
 use live_core::hosted::MOST_LINES;
 use mio_core::clock::Intervals;
-use mio_core::journals::Journals;
+use mio_core::journals::{FirstJournals, Journals, JournalsFault};
 use mio_core::stream::ClientListener;
 use mio_core::traces::epoch_of;
-use mio_core::wires::{ServeOptions, Wires};
+use mio_core::wires::{ServeOptions, WireStart, Wires};
 use std::alloc::{AllocError, Global};
 use std::io::Write;
 use std::rt::Stderr;
 
 // Behind a front a journal has room for so many bytes.
-const ROOM: usize = MOST_LINES;
+pub(crate) const ROOM: usize = MOST_LINES;
 
 // So many bytes are a megabyte.
 const MEGABYTE: u64 = 1_000_000;
@@ -56,11 +58,11 @@ pub fn form_of(log: LogForm) -> Option<LineForm>
     }
 }
 
-// The names of objects, as bytes.
-fn names_of(alloc: Global, names: &[String]) -> Result<Vec<Vec<u8>>, AllocError> {
+// The journals of objects of these names, as a log knows them.
+fn logged_of(alloc: Global, names: &[String]) -> Result<Vec<LoggedJournal>, AllocError> {
     let mut all = Vec::with_capacity(alloc, names.len())?;
     for name in names {
-        all.push(name.as_bytes().to_vec(alloc)?)?;
+        all.push(LoggedJournal::new(name.as_bytes().to_vec(alloc)?))?;
     }
     Ok(all)
 }
@@ -83,6 +85,7 @@ fn journals_of(
             bytes: front.len() as u64,
             syncs: 0,
             synced: 0,
+            failed: 0,
         })?;
     }
     Ok(all)
@@ -131,6 +134,16 @@ pub type AllOutside = Showing<
     StatusFile<Stderr>,
 >;
 
+// What a start ends with whose journals could not be begun with this fault.
+fn unbegun(fault: JournalsFault) -> ToolFailure
+    ensures { IsFault result }
+{
+    match fault {
+        JournalsFault::Memory => ToolFailure::Memory,
+        JournalsFault::Folder => ToolFailure::WriteFault,
+    }
+}
+
 // What is outside of the objects of a server that starts: its connections and its journals, which are logged and shown.
 fn outside_of(
     rt: &HostRuntime,
@@ -144,27 +157,28 @@ fn outside_of(
     ensures { IfErr result IsFault }
 {
     let alloc = rt.alloc();
+    let waiting = match WireStart::begin(rt, rt, alloc, listener, serving_of(asked)) {
+        Ok(waiting) => waiting,
+        Err(error) => return Err(told(rt, Lacking::of(Wanted::Waiting, error), "")),
+    };
     let traces = u64::from(asked.traces).saturating_mul(MEGABYTE);
-    let begun = Journals::begin(*rt, asked.folder, names, fronts, ROOM, traces);
-    let Some(journals) = begun else {
-        return Err(ToolFailure::WriteFault);
+    let journals = match Journals::begin(*rt, asked.folder, names, fronts, ROOM, traces) {
+        Ok(journals) => journals,
+        Err(fault) => return Err(unbegun(fault)),
     };
     let form = form_of(watching.log);
-    let told = names_of(alloc, names)?;
+    let told = logged_of(alloc, names)?;
     let stored = journals_of(alloc, names, fronts)?;
     let file = StatusFile::new(rt, asked.folder, Log::new(alloc, form, *rt, rt.stderr()))?;
-    let wires = Wires::open(rt, *rt, listener, journals, serving_of(asked), rt.stderr())?;
+    let wires = Wires::open(*rt, waiting, journals, rt.stderr());
     let logged = Logged::new(wires, Log::new(alloc, form, *rt, rt.stderr()), told);
     let server = server_of(asked, watching, start);
-    Ok(Showing::new(alloc, logged, file, server, stored)?)
+    let folder = asked.folder.as_bytes();
+    Ok(Showing::new(alloc, logged, file, folder, server, stored)?)
 }
 
-/// What is outside of so many objects of a server that starts at this time: its connections and its journals, which are
-/// logged and shown. `writer` gets the line that tells where it listens, `log` that it has started.
-///
-/// A failure is `WriteFault` where a journal, or the line, could not be written, `ReadFault` where the system fails
-/// otherwise, or `Memory`.
-pub fn begin_outside<W: Write, L: Write>(
+// The same; `writer` gets the line that tells where it listens, `log` that it has started.
+fn begin_told<W: Write, L: Write>(
     rt: &HostRuntime,
     names: &[String],
     fronts: &[Vec<u8>],
@@ -179,12 +193,42 @@ pub fn begin_outside<W: Write, L: Write>(
 {
     let alloc = rt.alloc();
     let outside = outside_of(rt, names, fronts, asked, watching, listener, start)?;
-    tell_place(alloc, asked, writer)?;
     let place = place_text(alloc, asked)?;
+    tell_place(alloc, asked, writer)?;
     log.started(
         names.len() as u64,
         asked.folder.as_bytes(),
         place.as_bytes(),
     );
     Ok(outside)
+}
+
+/// What is outside of so many objects of a server that starts at this time: its connections and its journals, which are
+/// logged and shown. `writer` gets the line that tells where it listens, `log` that it has started.
+///
+/// A failure is `WriteFault` where a journal, which is told, or the line could not be written, `ReadFault` where the system
+/// fails otherwise, which is told, or `Memory`. Then no journal is left that was not there before.
+pub fn begin_outside<W: Write, L: Write>(
+    rt: &HostRuntime,
+    names: &[String],
+    fronts: &[Vec<u8>],
+    asked: Keeping<'_>,
+    watching: Watching,
+    listener: ClientListener,
+    start: u64,
+    writer: &mut W,
+    log: &mut Log<HostRuntime, L>,
+) -> Result<AllOutside, ToolFailure>
+    ensures { IfErr result IsFault }
+{
+    let first = FirstJournals::look(rt, asked.folder, names)?;
+    match begin_told(
+        rt, names, fronts, asked, watching, listener, start, writer, log,
+    ) {
+        Ok(outside) => Ok(outside),
+        Err(failure) => {
+            first.take_back(rt, asked.folder);
+            Err(failure)
+        }
+    }
 }

@@ -474,6 +474,7 @@ impl Hosted {
         self.added = 0;
         self.behind = 0;
         self.tried = 0;
+        self.again = false;
         self.guests.renew();
     }
 }

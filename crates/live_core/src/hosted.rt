@@ -47,7 +47,7 @@ pub const LEAST_ADDED: usize = 1_048_576;
 /// The lines of all calls that wait have at most so many bytes: so a call that may start has room.
 pub const MOST_OWING: usize = 6_291_456;
 
-/// Where no new epoch can begin, it is tried again behind so many calls.
+/// Where no new epoch can begin, it is tried again behind so many calls, and each second.
 pub const CALLS_BETWEEN: u32 = 1_000;
 
 /// What an object that is to be served begins with.
@@ -114,8 +114,10 @@ pub struct Hosted {
     pub(crate) waiting: u32,
     // how many calls were asked for, and new names came, since a new epoch is due
     pub(crate) behind: u32,
-    // how many of them there were when one was tried last, and could not begin; 0 where none was
+    // how many of them there were when one was tried last, and could not begin; 0 where none was, or it is tried again
     pub(crate) tried: u32,
+    // whether it is tried again since a second has gone by
+    pub(crate) again: bool,
     // how many calls finished
     pub(crate) entries: u64,
 }
@@ -230,6 +232,7 @@ impl Hosted {
             waiting,
             behind: 0,
             tried: 0,
+            again: false,
             entries: 0,
         })
     }
@@ -486,11 +489,29 @@ impl Hosted {
         self.is_due_at(self.behind)
     }
 
-    /// A new epoch could not begin: it is tried again behind 1,000 calls.
+    /// A new epoch could not begin: it is tried again behind 1,000 calls, or a second later.
     pub fn put_off(&mut self)
         ensures { self.new ≡ self.old }
     {
         self.tried = self.behind;
+        self.again = false;
+    }
+
+    /// Time goes by, a second or (`is_second` is false) less. Behind a second a new epoch that could not begin is to be tried
+    /// again; where none began of which that was said, it could not.
+    pub fn tell_time(&mut self, is_second: bool)
+        ensures { self.new ≡ self.old }
+    {
+        if !is_second {
+            if self.again {
+                self.put_off();
+            }
+            return;
+        }
+        if self.tried > 0 {
+            self.tried = 0;
+            self.again = true;
+        }
     }
 
     // Where a call is the first one of a round, and a new epoch was to be tried behind the round before, it could not

@@ -53,6 +53,13 @@ impl Watch {
         }
     }
 
+    /// The second since the server began, as the clock showed it last.
+    pub fn second(&self) -> u64
+        ensures { result ≡ self.now.time / 1000 }
+    {
+        self.time / 1_000
+    }
+
     // When something is due next.
     fn next(&self) -> u64
         ensures never { self.now.pace.sync ≡ 0 → result ≡ self.now.tick_at }

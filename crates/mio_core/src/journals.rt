@@ -1,47 +1,76 @@
 //! Journals, each in order or shut for ever, and the files of the epochs that they had before.
 
-ghost use Rattle.std.specs.Prelude.{◌≡◌, ◌<◌, ◌+◌, ◌^◌, length, true};
-ghost use Rattle.keep_loop.specs.Journal.{AreLines};
+ghost use Rattle.std.specs.Prelude.{◌<◌, ◌+◌, ◌^◌, length};
+ghost use Rattle.keep_loop.specs.Taken.{ArePlain, IsFront};
 
+use crate::ahead::Ahead;
+use crate::own::OwnFiles;
 use crate::traces::{Traces, epoch_of};
+use cause_core::cause::{Cause, cause_of};
+use cause_core::fault::{FileFault, FileTask, push_fault};
+use keep_loop::device::{Device, DeviceError};
 use keep_loop::folder::FolderFile;
-use keep_loop::journal::{Journal, recover, recovered_are_lines, recovered_len};
-use std::alloc::Global;
+use keep_loop::head::{are_plain, is_front};
+use keep_loop::journal::{Journal, recovered_len};
+use std::alloc::{AllocError, AllocFailed, Global};
+use std::fs::{self, File, OpenFile};
 use std::rt::Files;
+use std::{io, str};
+
+// The file of a journal.
+type OwnFile<R> = FolderFile<OwnFiles<R>>;
 
 /// A journal in a folder that is in order.
 #[derive(Drop)]
 pub struct Ordered<R: Files + AllocGlobal> {
-    journal: Journal<FolderFile<R>>,
+    journal: Journal<OwnFile<R>>,
     // Whether lines were added since it was stored.
     is_loose: bool,
-    ghost fits: { journal.size + journal.room < 2 ^ 62 },
+    ghost fits: { journal.size + journal.room + journal.checks < 2 ^ 63 },
 }
 
-// Whether these bytes are whole lines, none of which has a byte 0.
-fn are_lines(bytes: &[u8]) -> bool
-    ensures { result ≡ true → AreLines bytes.now }
-{
-    recovered_are_lines();
-    recovered_len(bytes) == bytes.len()
-}
-
-// Which epoch a journal tells of, and how many bytes its lines have.
+// Which epoch a journal tells of, and how many bytes its lines have in the file.
 #[derive(Clone, Copy)]
 struct Lines {
     epoch: u64,
     size: u64,
 }
 
+/// Why journals are not begun with.
+#[derive(Clone, Copy, Debug, PartialEq, Eq)]
+pub enum JournalsFault {
+    /// Memory was refused.
+    Memory,
+    /// The folder failed. Standard error was told with which file, and why.
+    Folder,
+}
+
+impl From<AllocError> for JournalsFault {
+    fn from(_: AllocError) -> JournalsFault {
+        JournalsFault::Memory
+    }
+}
+
+impl<T: Drop> From<AllocFailed<T>> for JournalsFault {
+    fn from(_: AllocFailed<T>) -> JournalsFault {
+        JournalsFault::Memory
+    }
+}
+
 /// Journals, each at its place. One that failed is shut, and nothing more is tried with it.
 #[derive(Drop)]
 pub struct Journals<R: Files + AllocGlobal> {
+    rt: R,
     alloc: Global,
     room: usize,
     journals: Vec<Option<Ordered<R>>>,
     // Of each journal.
     lines: Vec<Lines>,
     traces: Traces<R>,
+    // What stands ready for the epochs to come.
+    ahead: Ahead<R>,
+    // Why the last one failed that did, or could not begin anew.
+    cause: Cause,
 }
 
 // The most bytes of a front, and of the room behind it.
@@ -55,29 +84,149 @@ fn lines_of(lines: &[u8]) -> Option<Lines> {
     })
 }
 
-// A journal that begins with this front, or nothing where it cannot.
+// A journal that begins with this front; or why it cannot, and its file.
 fn begin_one<R: Files + AllocGlobal + Drop>(
     alloc: Global,
-    file: FolderFile<R>,
+    file: OwnFile<R>,
     front: &[u8],
     room: usize,
-) -> Option<Ordered<R>> {
-    if !are_lines(front) || front.len() > MOST_ROOM || room > MOST_ROOM {
-        return None;
+) -> Result<Ordered<R>, (DeviceError, OwnFile<R>)> {
+    if !is_front(front) || front.len() > MOST_ROOM || room > MOST_ROOM {
+        return Err((DeviceError::Full, file));
     }
     match Journal::begin(alloc, file, front, room) {
-        Ok(journal) => Some(Ordered {
+        Ok(journal) => Ok(Ordered {
             journal,
             is_loose: false,
         }),
-        Err(_) => None,
+        Err(failed) => Err(failed),
     }
 }
 
+/// The paths of journals that a first start makes.
+#[derive(Drop)]
+pub struct FirstJournals {
+    paths: Vec<String>,
+}
+
+impl FirstJournals {
+    /// Those of these names that are not in a folder yet. The error is that memory was refused.
+    pub fn look<R: Files + AllocGlobal>(
+        rt: &R,
+        folder: &str,
+        names: &[String],
+    ) -> Result<FirstJournals, AllocError> {
+        let mut paths = Vec::new(rt.alloc());
+        for name in names {
+            let name = name.as_str();
+            let path = format!(in rt.alloc(); "{folder}/{name}.journal")?;
+            if fs::symlink_metadata(rt, path.as_str()).is_err() {
+                paths.push(path)?;
+            }
+        }
+        Ok(FirstJournals { paths })
+    }
+
+    /// Removes them again, where they are there: a start that is refused leaves nothing.
+    pub fn take_back<R: Files>(&self, rt: &R, folder: &str) {
+        if self.paths.is_empty() {
+            return;
+        }
+        for path in &self.paths {
+            let _removed = fs::remove_file(rt, path.as_str());
+        }
+        let _stored = store_folder(rt, folder);
+    }
+}
+
+// The names of a folder go to the disk.
+fn store_folder<R: Files>(rt: &R, folder: &str) -> io::Result<()> {
+    File::open(rt, folder)?.sync_all()
+}
+
+// Why a start failed with the file of a journal.
+fn why_failed<R: Files + AllocGlobal>(error: DeviceError, file: &OwnFile<R>) -> Cause {
+    match error {
+        DeviceError::Memory => Cause::NoMemory,
+        DeviceError::Failed | DeviceError::Full => file.cause(),
+    }
+}
+
+// Tells standard error a line, where it was made.
+fn tell_line<R: Eprint>(rt: &R, made: Result<(), AllocError>, line: &[u8]) {
+    if made.is_err() {
+        return;
+    }
+    if let Ok(text) = str::from_utf8(line) {
+        let _ = eprint!(*rt; "{text}");
+    }
+}
+
+// Tells standard error what could not be done last with the file of a journal, and why.
+fn tell_failed<R: Files + AllocGlobal + Eprint>(rt: &R, file: &OwnFile<R>) {
+    let mut line = Vec::new(rt.alloc());
+    let made = file.push_failed(&mut line);
+    tell_line(rt, made, &line);
+}
+
+// Why a file was not replaced, which was to be replaced so often before that; the line that tells it is added. Where it still
+// is memory was refused, and no line is added.
+fn why_not_replaced<R: Files + AllocGlobal>(
+    file: &OwnFile<R>,
+    tries: u64,
+    line: &mut Vec<u8>,
+) -> Cause {
+    if file.tries() == tries {
+        return Cause::NoMemory;
+    }
+    let _made = file.push_failed(line);
+    file.cause()
+}
+
+// Why journals are not begun with: it is told, but where memory was refused.
+fn unbegun<R: Files + AllocGlobal + Eprint>(
+    rt: &R,
+    error: DeviceError,
+    file: &OwnFile<R>,
+) -> JournalsFault {
+    if why_failed(error, file) == Cause::NoMemory {
+        return JournalsFault::Memory;
+    }
+    tell_failed(rt, file);
+    JournalsFault::Folder
+}
+
+// The same, where the journal of this name could not be opened.
+fn unopened<R: AllocGlobal + Eprint>(
+    rt: &R,
+    folder: &str,
+    name: &str,
+    error: &io::Error,
+) -> JournalsFault {
+    let cause = cause_of(error);
+    if cause == Cause::NoMemory {
+        return JournalsFault::Memory;
+    }
+    let Ok(path) = format!(in rt.alloc(); "{folder}/{name}.journal") else {
+        return JournalsFault::Memory;
+    };
+    let fault = FileFault {
+        task: FileTask::Open,
+        cause,
+    };
+    let mut line = Vec::new(rt.alloc());
+    let made = push_fault(&mut line, path.as_bytes(), fault);
+    tell_line(rt, made, &line);
+    JournalsFault::Folder
+}
+
+// A journal that goes on in order; or why it failed, and its file.
+type OrFailed<T, R> = Result<T, (DeviceError, OwnFile<R>)>;
+
 impl<R: Files + AllocGlobal + Drop> Ordered<R> {
-    // Begun anew, or as it was where it could not, and whether it went; or nothing where that failed.
-    fn change(self, alloc: Global, front: &[u8], room: usize) -> Option<(Ordered<R>, bool)>
-        requires lines { AreLines front.now }
+    // Begun anew, or as it was where it could not, and whether it went.
+    fn change(self, alloc: Global, front: &[u8], room: usize) -> OrFailed<(Ordered<R>, bool), R>
+        requires lines { IsFront front.now }
         requires small { length front.now + room < 2 ^ 62 }
     {
         let Ordered {
@@ -85,57 +234,59 @@ impl<R: Files + AllocGlobal + Drop> Ordered<R> {
             is_loose,
         } = self;
         match journal.change(alloc, front, room) {
-            Ok(went) => Some((
+            Ok(went) => Ok((
                 Ordered {
                     journal,
                     is_loose: is_loose && !went,
                 },
                 went,
             )),
-            Err(_) => None,
+            Err(error) => Err((error, journal.into_device())),
         }
     }
 
-    // With more lines, or nothing where that failed.
-    fn append(self, lines: &[u8]) -> Option<Ordered<R>>
-        requires { AreLines lines.now }
+    // With more lines.
+    fn append(self, lines: &[u8]) -> OrFailed<Ordered<R>, R>
+        requires { ArePlain lines.now }
     {
         let Ordered {
             mut journal,
             is_loose: _,
         } = self;
         match journal.append(lines) {
-            Ok(()) => Some(Ordered {
+            Ok(()) => Ok(Ordered {
                 journal,
                 is_loose: true,
             }),
-            Err(_) => None,
+            Err(error) => Err((error, journal.into_device())),
         }
     }
 
-    // With all lines on the disk, or nothing where that failed.
-    fn sync(self) -> Option<Ordered<R>> {
+    // With all lines on the disk.
+    fn sync(self) -> OrFailed<Ordered<R>, R> {
         let Ordered {
             mut journal,
             is_loose,
         } = self;
         if !is_loose {
-            return Some(Ordered { journal, is_loose });
+            return Ok(Ordered { journal, is_loose });
         }
         match journal.sync() {
-            Ok(()) => Some(Ordered {
+            Ok(()) => Ok(Ordered {
                 journal,
                 is_loose: false,
             }),
-            Err(_) => None,
+            Err(error) => Err((error, journal.into_device())),
         }
     }
 }
 
 impl<R: Files + AllocGlobal + Copy + Eprint + Drop> Journals<R> {
     /// Journals of these names in a folder, each begun anew with its front, and room for so many bytes behind it. An epoch
-    /// that ends is kept in a file of its own (`traces`); these files have so many bytes at most, all together. `None`: a
-    /// journal could not be opened or begun, or its front is not whole lines, or too long; or memory was refused.
+    /// that ends is kept in a file of its own (`traces`); these files have so many bytes at most, all together.
+    ///
+    /// A failure is `Folder` where a journal could not be opened, read or begun, or its front is none, or too
+    /// long, or `Memory`. Then some of them may have begun (`FirstJournals`).
     pub fn begin(
         rt: R,
         folder: &str,
@@ -143,41 +294,88 @@ impl<R: Files + AllocGlobal + Copy + Eprint + Drop> Journals<R> {
         fronts: &[Vec<u8>],
         room: usize,
         most: u64,
-    ) -> Option<Journals<R>> {
+    ) -> Result<Journals<R>, JournalsFault> {
+        let mut journals = Journals::none(rt, folder, names, room, most)?;
+        journals.add_all(folder, names, fronts)?;
+        Ok(journals)
+    }
+
+    // None yet, of these names.
+    fn none(
+        rt: R,
+        folder: &str,
+        names: &[String],
+        room: usize,
+        most: u64,
+    ) -> Result<Journals<R>, JournalsFault> {
         let alloc = rt.alloc();
-        let mut journals = Journals {
+        let Some(traces) = Traces::look(rt, folder, names, most) else {
+            return Err(JournalsFault::Memory);
+        };
+        let Some(ahead) = Ahead::look(rt, folder, names) else {
+            return Err(JournalsFault::Memory);
+        };
+        Ok(Journals {
+            rt,
             alloc,
             room,
             journals: Vec::new(alloc),
             lines: Vec::new(alloc),
-            traces: Traces::look(rt, folder, names, most)?,
-        };
+            traces,
+            ahead,
+            cause: Cause::Unknown,
+        })
+    }
+
+    // Begins those of these names.
+    fn add_all(
+        &mut self,
+        folder: &str,
+        names: &[String],
+        fronts: &[Vec<u8>],
+    ) -> Result<(), JournalsFault> {
         for at in 0..names.len() {
-            let front = fronts.get(at)?;
-            journals.add(rt, folder, names[at].as_str(), front.as_slice())?;
+            match fronts.get(at) {
+                Some(front) => self.add(folder, names[at].as_str(), front.as_slice())?,
+                None => return Err(JournalsFault::Memory),
+            }
         }
-        Some(journals)
+        Ok(())
+    }
+
+    // The file of the journal of this name, and its bytes.
+    fn opened(&self, folder: &str, name: &str) -> Result<(OwnFile<R>, Vec<u8>), JournalsFault> {
+        let mut file = match FolderFile::open(OwnFiles::new(self.rt), folder, name) {
+            Ok(file) => file,
+            Err(error) => return Err(unopened(&self.rt, folder, name, &error)),
+        };
+        match file.read(self.alloc) {
+            Ok(before) => Ok((file, before)),
+            Err(error) => Err(unbegun(&self.rt, error, &file)),
+        }
     }
 
     // Begins one more.
-    fn add(&mut self, rt: R, folder: &str, name: &str, front: &[u8]) -> Option<()> {
+    fn add(&mut self, folder: &str, name: &str, front: &[u8]) -> Result<(), JournalsFault> {
         let at = self.journals.len();
-        let mut file = FolderFile::open(rt, folder, name).ok()?;
-        let before = recover(self.alloc, &mut file).ok()?;
-        let ending = lines_of(&before);
+        let (file, before) = self.opened(folder, name)?;
+        let ending = lines_of(&before[..recovered_len(&before)]);
         let is_linked = self.link(at, ending);
-        let begun = begin_one(self.alloc, file, front, self.room)?;
+        let begun = match begin_one(self.alloc, file, front, self.room) {
+            Ok(begun) => begun,
+            Err((error, file)) => return Err(unbegun(&self.rt, error, &file)),
+        };
         if is_linked {
             self.ended(at, ending);
         }
-        let lines = lines_of(front)?;
-        let Ok(()) = self.journals.push(Some(begun)) else {
-            return None;
-        };
-        let Ok(()) = self.lines.push(lines) else {
-            return None;
-        };
-        Some(())
+        let size = begun.journal.size();
+        self.ahead.changed(at, size, true);
+        self.journals.push(Some(begun))?;
+        self.lines.push(Lines {
+            epoch: epoch_of(front).unwrap_or(0),
+            size: size as u64,
+        })?;
+        Ok(())
     }
 }
 
@@ -212,7 +410,7 @@ impl<R: Files + AllocGlobal + Eprint + Drop> Journals<R> {
         }
     }
 
-    // A journal has these lines.
+    // A journal begins with these lines.
     fn note(&mut self, at: usize, front: &[u8]) {
         let Some(lines) = lines_of(front) else {
             return;
@@ -220,47 +418,133 @@ impl<R: Files + AllocGlobal + Eprint + Drop> Journals<R> {
         if let Some(row) = self.lines.get_mut(at) {
             *row = lines;
         }
+        self.grow(at);
     }
 
-    // So many bytes of lines more are in a journal.
-    fn grow(&mut self, at: usize, size: usize) {
+    // A journal has more lines.
+    fn grow(&mut self, at: usize) {
+        let Some(Some(ordered)) = self.journals.get(at) else {
+            return;
+        };
         if let Some(lines) = self.lines.get_mut(at) {
-            lines.size = lines.size.saturating_add(size as u64);
+            lines.size = ordered.journal.size() as u64;
         }
     }
 
-    /// Adds lines to a journal. `false`: they are not whole lines, or it has no room, or it failed; it is shut then.
+    // Nothing can be done with a journal, which is told.
+    fn refuse(&mut self, at: usize) {
+        self.cause = Cause::Unknown;
+        self.traces.tell_shut(at);
+    }
+
+    // A journal failed: what could not be done with its file is told, and why, but where memory was refused.
+    fn failed(&mut self, error: DeviceError, file: &OwnFile<R>) {
+        self.cause = why_failed(error, file);
+        if self.cause != Cause::NoMemory {
+            tell_failed(&self.rt, file);
+        }
+    }
+
+    /// Why the last one failed that did, or could not begin anew.
+    pub fn cause(&self) -> Cause {
+        self.cause
+    }
+
+    // The journal at a place, which it leaves. `None`: it is not there, or shut, which is told.
+    fn take(&mut self, at: usize) -> Option<Ordered<R>> {
+        let taken = match self.journals.get_mut(at) {
+            Some(place) => place.take(),
+            None => None,
+        };
+        if taken.is_none() {
+            self.refuse(at);
+        }
+        taken
+    }
+
+    // What came of a journal that has left its place. `false`: it failed, which is told, and is shut.
+    fn put(&mut self, at: usize, came: OrFailed<Ordered<R>, R>) -> bool {
+        match came {
+            Ok(ordered) => {
+                if let Some(place) = self.journals.get_mut(at) {
+                    *place = Some(ordered);
+                }
+                true
+            }
+            Err((error, file)) => {
+                self.failed(error, &file);
+                false
+            }
+        }
+    }
+
+    /// Adds lines to a journal. `false`: they are not whole lines, or one is a check line, or it has no room, or it failed; it
+    /// is shut then. Standard error is told with which file, and why, but where memory was refused.
     pub fn append(&mut self, at: usize, lines: &[u8]) -> bool {
-        if !are_lines(lines) {
+        if !are_plain(lines) {
+            self.refuse(at);
             return false;
         }
-        let Some(place) = self.journals.get_mut(at) else {
+        let Some(ordered) = self.take(at) else {
             return false;
         };
-        let Some(ordered) = place.take() else {
-            return false;
-        };
-        *place = ordered.append(lines);
-        let is_there = place.is_some();
-        self.grow(at, lines.len());
+        let came = ordered.append(lines);
+        let is_there = self.put(at, came);
+        self.grow(at);
         is_there
     }
 
-    // Begins a journal anew. `Some(false)`: it could not, and goes on. `None`: it failed, and is shut.
+    // Why the journal at a place could not begin anew; the line that tells it is added, where it is known.
+    fn why_kept(&self, at: usize, tries: u64, line: &mut Vec<u8>) -> Cause {
+        let Some(Some(ordered)) = self.journals.get(at) else {
+            return Cause::Unknown;
+        };
+        why_not_replaced(ordered.journal.device(), tries, line)
+    }
+
+    // A journal could not begin anew, and goes on: the cause is noted, and told. `tries` is how often its file was to be
+    // replaced before that; where it still is memory was refused.
+    fn kept(&mut self, at: usize, tries: u64) {
+        let mut line = Vec::new(self.alloc);
+        self.cause = self.why_kept(at, tries, &mut line);
+        if self.cause == Cause::NoMemory {
+            self.traces
+                .tell_kept(at, self.cause, "there is no memory\n");
+            return;
+        }
+        let why = str::from_utf8(&line).unwrap_or("");
+        self.traces.tell_kept(at, self.cause, why);
+    }
+
+    // Begins a journal anew. `Some(false)`: it could not, and goes on, which is told. `None`: it failed, which is told, and is
+    // shut.
     fn renew(&mut self, at: usize, front: &[u8]) -> Option<bool> {
-        if !are_lines(front) || front.len() > MOST_ROOM || self.room > MOST_ROOM {
+        let ordered = self.take(at)?;
+        let tries = ordered.journal.device().tries();
+        if !is_front(front) || front.len() > MOST_ROOM || self.room > MOST_ROOM {
+            let _put = self.put(at, Ok(ordered));
+            self.kept(at, tries);
             return Some(false);
         }
-        let place = self.journals.get_mut(at)?;
-        let ordered = place.take()?;
-        let (ordered, went) = ordered.change(self.alloc, front, self.room)?;
-        *place = Some(ordered);
-        Some(went)
+        match ordered.change(self.alloc, front, self.room) {
+            Ok((ordered, went)) => {
+                let _put = self.put(at, Ok(ordered));
+                if !went {
+                    self.kept(at, tries);
+                }
+                Some(went)
+            }
+            Err((error, file)) => {
+                self.failed(error, &file);
+                None
+            }
+        }
     }
 
     /// Begins a journal anew with this front; the lines of the epoch that ends are kept in a file of their own.
-    /// `Some(false)`: it could not, or the front is not whole lines, or too long, and the journal is as it was; standard
-    /// error is told so. `None`: it failed, and is shut.
+    /// `Some(false)`: it could not, or the front is none, or too long, and the journal is as it was; standard
+    /// error is told so, once for each cause. `None`: it failed, and is shut; standard error is told with which file, and
+    /// why, but where memory was refused.
     pub fn change(&mut self, at: usize, front: &[u8]) -> Option<bool> {
         // Else the file of the epoch that ends might lack lines behind a crash.
         if !self.sync(at) {
@@ -269,29 +553,44 @@ impl<R: Files + AllocGlobal + Eprint + Drop> Journals<R> {
         let ending = self.lines_at(at);
         let is_linked = self.link(at, ending);
         let went = self.renew(at, front)?;
+        self.ahead.changed(at, front.len(), went);
         if went {
             if is_linked {
                 self.ended(at, ending);
             }
             self.note(at, front);
+            self.traces.note_begun(at);
             return Some(true);
         }
         if is_linked {
             self.unlink(at, ending);
         }
-        self.traces.tell_kept(at);
         Some(false)
     }
 
-    /// Stores a journal. `false`: it failed, and is shut.
+    /// The same, where nothing will be made ready any more: what stands ready is kept, so that the next start works on a full
+    /// disk.
+    pub fn change_last(&mut self, at: usize, front: &[u8]) -> Option<bool> {
+        let is_aside = self.ahead.set_aside(at);
+        let went = self.change(at, front);
+        if is_aside {
+            self.ahead.put_back(at);
+        }
+        went
+    }
+
+    /// Writes a piece of what is to stand ready for the epochs to come. It is this second.
+    pub fn go_on(&mut self, second: u64) {
+        self.ahead.go_on(second);
+    }
+
+    /// Stores a journal. `false`: it failed, and is shut; standard error is told with which file, and why, but where memory
+    /// was refused.
     pub fn sync(&mut self, at: usize) -> bool {
-        let Some(place) = self.journals.get_mut(at) else {
+        let Some(ordered) = self.take(at) else {
             return false;
         };
-        let Some(ordered) = place.take() else {
-            return false;
-        };
-        *place = ordered.sync();
-        place.is_some()
+        let came = ordered.sync();
+        self.put(at, came)
     }
 }

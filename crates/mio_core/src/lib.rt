@@ -4,8 +4,11 @@
 //! `Outside` says is a premise of what is proved of the loop.
 #![tactic(auto)]
 
+pub mod ahead;
 pub mod clock;
 pub mod journals;
+pub mod others;
+pub mod own;
 mod places;
 pub mod stream;
 pub mod traces;

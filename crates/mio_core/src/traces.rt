@@ -1,5 +1,7 @@
 //! The files of epochs that have ended: `NAME.000001.trace` and so on, by the number of the epoch.
 
+use crate::others::tells_same;
+use cause_core::cause::Cause;
 use std::fs::{self, OpenFile, OpenOptions};
 use std::io::{self, ErrorKind};
 use std::rt::Files;
@@ -18,6 +20,8 @@ struct TraceRow {
     behind: u64,
     // Their bytes.
     bytes: u64,
+    // Whether no new epoch could be written, which was told, and for what cause.
+    kept: Option<Cause>,
 }
 
 /// The files of the ended epochs of objects, in a folder. What fails with them changes nothing else: standard error is told
@@ -50,7 +54,7 @@ fn number_of(digits: &[u8]) -> Option<u64> {
 }
 
 // The number of the epoch of which this is the name of the file, if it is one of this object.
-fn epoch_in(file: &[u8], object: &[u8]) -> Option<u64> {
+pub(crate) fn epoch_in(file: &[u8], object: &[u8]) -> Option<u64> {
     let digits = file
         .strip_prefix(object)?
         .strip_prefix(b".".as_slice())?
@@ -107,6 +111,7 @@ impl<R: Files + AllocGlobal + Copy + Eprint + Drop> Traces<R> {
                 oldest: 0,
                 behind: 0,
                 bytes: 0,
+                kept: None,
             };
             rows.push(row).ok()?;
         }
@@ -201,22 +206,25 @@ impl<R: Files + AllocGlobal + Eprint + Drop> Traces<R> {
         }
     }
 
-    // Gives the journal a second name. What has that name is of no use: a crash has left it, or it is of another history.
+    // Gives the journal a second name. What has that name stays: where it tells the same, a crash has left it, and else it
+    // is of another history.
     fn try_link(&mut self, at: usize, epoch: u64) -> io::Result<()> {
         let journal = self.journal(at)?;
         let path = self.path(at, epoch)?;
         let Err(error) = fs::hard_link(&self.rt, journal.as_str(), path.as_str()) else {
             return Ok(());
         };
-        if error.kind() != ErrorKind::AlreadyExists {
+        if error.kind() != ErrorKind::AlreadyExists
+            || !tells_same(&self.rt, path.as_str(), journal.as_str())?
+        {
             return Err(error);
         }
+        // It was counted, and will be again.
         let bytes = self.bytes_at(path.as_str());
-        self.remove(path.as_str())?;
         if let Some(row) = self.rows.get_mut(at) {
             row.bytes = row.bytes.saturating_sub(bytes);
         }
-        fs::hard_link(&self.rt, journal.as_str(), path.as_str())
+        Ok(())
     }
 
     /// The journal of an object will be begun anew, and this epoch ends: the file of its lines gets a name that stays.
@@ -316,13 +324,40 @@ impl<R: Files + AllocGlobal + Eprint + Drop> Traces<R> {
         }
     }
 
-    /// Tells standard error that the epoch of an object goes on, since no new one could be written.
-    pub fn tell_kept(&self, at: usize) {
-        if let Some(row) = self.rows.get(at) {
-            let name = row.name.as_str();
+    /// A new epoch of an object has begun.
+    pub fn note_begun(&mut self, at: usize) {
+        if let Some(row) = self.rows.get_mut(at) {
+            row.kept = None;
+        }
+    }
+
+    /// Tells standard error that the epoch of an object goes on, since no new one could be written, and why, in a line, if
+    /// that is known. It is told once, until one begins or the cause is another one.
+    pub fn tell_kept(&mut self, at: usize, cause: Cause, why: &str) {
+        let Some(row) = self.rows.get_mut(at) else {
+            return;
+        };
+        if row.kept == Some(cause) {
+            return;
+        }
+        row.kept = Some(cause);
+        let name = row.name.as_str();
+        if why.is_empty() {
             let _ = eprint!(self.rt;
                 "{name}: no new epoch could be written, the old one goes on\n"
             );
+            return;
+        }
+        let _ = eprint!(self.rt;
+            "{name}: no new epoch could be written, the old one goes on: {why}"
+        );
+    }
+
+    /// Tells standard error that the journal of an object cannot be written, for a cause that is not known.
+    pub(crate) fn tell_shut(&self, at: usize) {
+        if let Ok(path) = self.journal(at) {
+            let path = path.as_str();
+            let _ = eprint!(self.rt; "{path}: this file cannot be written\n");
         }
     }
 }

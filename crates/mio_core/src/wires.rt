@@ -4,7 +4,8 @@ use crate::clock::{Intervals, Watch};
 use crate::journals::Journals;
 use crate::places::{Got, Places};
 use crate::stream::ClientListener;
-use keep_loop::{Fault, Outside, ReadEnd};
+use cause_core::cause::{Cause, Caused};
+use keep_loop::{Fault, Outside, ReadEnd, Visible};
 use mio::unix::SourceFd;
 use mio::{Events, Interest, Poll, Token};
 use std::alloc::{AllocError, Global};
@@ -76,12 +77,14 @@ struct WireRoom {
     ready: Vec<u64>,
 }
 
-// What a loop has before it begins.
+/// What waits for connections of a listener, before there are journals.
 #[derive(Drop)]
-struct WireParts {
+pub struct WireStart {
     poll: Poll,
     watch: Watch,
     room: WireRoom,
+    listener: ClientListener,
+    stops_with_input: bool,
 }
 
 // Room for so many connections.
@@ -103,19 +106,27 @@ fn poll_of(net: &impl Net, listener: &mut ClientListener) -> io::Result<Poll> {
     Ok(poll)
 }
 
-// What a loop has before it begins, or the error of the system, or a want of memory.
-fn parts_of(
-    net: &impl Net,
-    clock: &impl Clock,
-    alloc: Global,
-    listener: &mut ClientListener,
-    serving: ServeOptions,
-) -> io::Result<WireParts> {
-    let poll = poll_of(net, listener)?;
-    let watch = Watch::begin(clock, serving.pace)?;
-    match room_for(alloc, serving.places) {
-        Ok(room) => Ok(WireParts { poll, watch, room }),
-        Err(error) => Err(io::Error::from(error)),
+impl WireStart {
+    /// Connections of this listener are waited for, none yet. The error is that of the system, or a want of memory.
+    pub fn begin(
+        net: &impl Net,
+        clock: &impl Clock,
+        alloc: Global,
+        mut listener: ClientListener,
+        serving: ServeOptions,
+    ) -> io::Result<WireStart> {
+        let poll = poll_of(net, &mut listener)?;
+        let watch = Watch::begin(clock, serving.pace)?;
+        match room_for(alloc, serving.places) {
+            Ok(room) => Ok(WireStart {
+                poll,
+                watch,
+                room,
+                listener,
+                stops_with_input: serving.stops_with_input,
+            }),
+            Err(error) => Err(io::Error::from(error)),
+        }
     }
 }
 
@@ -125,39 +136,16 @@ fn spare_of<R: Files>(rt: &R) -> Option<R::File> {
 }
 
 impl<R: Files + AllocGlobal + Input + Clock + Eprint + Drop, E: Write + Drop> Wires<R, E> {
-    /// Connections of this listener, none yet, and these journals. `errors` is told once where a connection cannot be taken
-    /// since the system has no file or memory for it. The error is that of the system, or a want of memory.
-    pub fn open(
-        net: &impl Net,
-        rt: R,
-        mut listener: ClientListener,
-        journals: Journals<R>,
-        serving: ServeOptions,
-        errors: E,
-    ) -> io::Result<Wires<R, E>> {
-        match parts_of(net, &rt, rt.alloc(), &mut listener, serving) {
-            Ok(parts) => Ok(Wires::of(
-                rt,
-                listener,
-                journals,
-                errors,
-                parts,
-                serving.stops_with_input,
-            )),
-            Err(error) => Err(error),
-        }
-    }
-
-    // A loop over what the system gave.
-    fn of(
-        rt: R,
-        listener: ClientListener,
-        journals: Journals<R>,
-        errors: E,
-        parts: WireParts,
-        stops_with_input: bool,
-    ) -> Wires<R, E> {
-        let WireParts { poll, watch, room } = parts;
+    /// Connections that are waited for, and these journals. `errors` is told once where a connection cannot be taken since
+    /// the system has no file or memory for it.
+    pub fn open(rt: R, waiting: WireStart, journals: Journals<R>, errors: E) -> Wires<R, E> {
+        let WireStart {
+            poll,
+            watch,
+            room,
+            listener,
+            stops_with_input,
+        } = waiting;
         let WireRoom {
             places,
             events,
@@ -277,11 +265,25 @@ impl<R: Files + AllocGlobal + Input + Clock + Eprint + Drop, E: Write + Drop> Wi
         }
     }
 
+    // The fault of a journal that failed last.
+    fn fault(&self, journal: usize) -> Fault {
+        if self.journals.cause() == Cause::NoMemory {
+            return Fault::Memory;
+        }
+        Fault::Journal(journal)
+    }
+
     // There may be a file for who waits.
     fn retry(&mut self) {
         if self.is_short {
             self.may_take = true;
         }
+    }
+}
+
+impl<R: Files + AllocGlobal + Input + Eprint + Drop, E: Write> Caused for Wires<R, E> {
+    fn cause(&self) -> Cause {
+        self.journals.cause()
     }
 }
 
@@ -364,7 +366,7 @@ impl<R: Files + AllocGlobal + Input + Clock + Eprint + Drop, E: Write + Drop> Ou
         if self.journals.append(journal, lines) {
             Ok(())
         } else {
-            Err(Fault::Journal(journal))
+            Err(self.fault(journal))
         }
     }
 
@@ -372,17 +374,25 @@ impl<R: Files + AllocGlobal + Input + Clock + Eprint + Drop, E: Write + Drop> Ou
         if self.journals.sync(journal) {
             Ok(())
         } else {
-            Err(Fault::Journal(journal))
+            Err(self.fault(journal))
         }
     }
 
     fn change(&mut self, journal: usize, front: &[u8]) -> Result<bool, Fault> {
         self.spare = None;
-        let went = self.journals.change(journal, front);
+        let went = if self.ends {
+            self.journals.change_last(journal, front)
+        } else {
+            self.journals.change(journal, front)
+        };
         self.spare = spare_of(&self.rt);
         match went {
             Some(went) => Ok(went),
-            None => Err(Fault::Journal(journal)),
+            None => Err(self.fault(journal)),
         }
+    }
+
+    fn look<O: Visible>(&mut self, _object: &O) {
+        self.journals.go_on(self.watch.second());
     }
 }

@@ -1,7 +1,8 @@
 //! A reader that keeps what it gives.
 
+use cause_core::cause::{Cause, cause_of};
 use std::alloc::Global;
-use std::io::{self, ErrorKind, Read};
+use std::io::{self, Read};
 
 /// A reader that hands on what another one gives, and keeps a copy of its first bytes as long as there is memory for
 /// that, and why a read failed last.
@@ -10,7 +11,7 @@ pub struct CopyingReader<R> {
     inner: R,
     most: usize,
     copy: Option<Vec<u8>>,
-    fault: Option<ErrorKind>,
+    fault: Option<Cause>,
 }
 
 // A copy with these bytes behind it, as far as it has room for them, unless memory was refused.
@@ -48,7 +49,7 @@ impl<R: Read + Drop> CopyingReader<R> {
     }
 
     /// Why a read failed last.
-    pub fn fault(&self) -> Option<ErrorKind> {
+    pub fn fault(&self) -> Option<Cause> {
         self.fault
     }
 }
@@ -62,7 +63,7 @@ impl<R: Read> Read for CopyingReader<R> {
                 Ok(count)
             }
             Err(error) => {
-                self.fault = Some(error.kind());
+                self.fault = Some(cause_of(&error));
                 Err(error)
             }
         }

@@ -13,9 +13,13 @@
 //! One function writes it, whoever finds it.
 //!
 //! `fault::push_fault` tells where the fault of a source stands, what is wrong in a sentence, and what would help. Of
-//! holds that are not taken `rules::explain_held` tells it, and `pairs::explain_pairs` that for each `a; b` that could be
-//! held and is not. What is said stands in tables (`misplaced`, `names`, `paths`, `signs`, `rules`): a row has tests of
-//! the tokens around the fault (`seen`), a sentence and what helps, and the first row that fits is said (`rows`).
+//! holds that are not taken `rules::explain_held` tells it. What is said stands in tables (`misplaced`, `names`, `paths`,
+//! `signs`, `rules`): a row has tests of the tokens around the fault (`seen`), a sentence and what helps, and the first row
+//! that fits is said (`rows`).
+//!
+//! Of what is accepted `pairs::explain_pairs` tells for each `a; b` that could be held and is not what a client leaves that
+//! dies between, and by which words calls before a `;` (`trap`), and what ends a hold (`undone`), can be refused: one walk
+//! over a body (`refused`) with what it has shown so far (`shown_parts`).
 //!
 //! `explain::explain` gives the text for the fault of a source, and for each object that is refused: where it stands, what
 //! is wrong in a sentence, the line of the source with a caret under the place, and what would help. `stuck_explain` gives
@@ -51,15 +55,19 @@ mod paths;
 pub mod place;
 mod proposal;
 mod refusal;
+mod refused;
 mod rows;
 pub mod rules;
 pub mod said;
 mod seen;
 mod shown;
+mod shown_parts;
 mod signs;
 pub mod span;
 pub mod stuck_explain;
 pub mod tokens;
 mod touch;
+mod trap;
+mod undone;
 mod waiting;
 mod ways;

@@ -1,72 +1,142 @@
 //! What is said of each `a; b` of a path that could be held: what happens where a client dies between.
 
-use crate::finding::two;
-use crate::page::{Page, push_said};
+use crate::case::{Case, case_of, count_of as operations_of, name_of, path_tokens};
+use crate::diagnostic::{Allocated, Diagnostic, Piece, push_found};
+use crate::page::Page;
 use crate::said::{Message, say};
 use crate::span::{Span, span_of, text_at};
 use crate::tokens::{
-    begins, count_to, first_tokens, from_symbol, is_any_name, is_name, is_same_word, is_symbol,
-    name_of, section, tokens_from,
+    begins, count_of, is_any_name, is_symbol, name_of as word_of, section, tokens_from,
 };
+use crate::trap::{push_traps, semicolon_behind};
+use crate::undone::push_undone;
+use decl_core::hold::{Every, Hold, Rules};
+use decl_core::object::{Object, Operation, Param};
+use decl_read::held_read::{Held, read_held};
 use path_tree::lex::lex;
+use path_tree::node::OpId;
 use path_tree::token::{Symbol, Token};
 use std::alloc::{AllocError, Global};
+use value_core::kind::Elem;
 
-// The most objects of a source, and the most paths of an object.
-const MOST: usize = 16;
-
-// Whether the operation of this name stands in a hold whose tokens are these, from behind its first word on: it is held, or
-// ends it.
-fn is_in_hold(hold: &[Token], name: &[u8]) -> bool {
-    let mut is_next = true;
-    for token in hold {
-        if is_symbol(token, Symbol::Semicolon) {
-            return false;
-        }
-        if is_next && is_name(token, name) {
-            return true;
-        }
-        is_next = is_symbol(token, Symbol::Comma) || is_name(token, b"until");
-    }
-    false
+// An object, and what it says of clients that are gone.
+#[derive(Clone, Copy)]
+struct RuledCase<'a> {
+    case: Case<'a>,
+    rules: &'a Rules,
 }
 
-// Whether a hold of this object has the operation of this name.
-fn has_hold(object: &[Token], name: &[u8]) -> bool {
-    for (count, token) in object.iter().enumerate() {
-        let here = tokens_from(object, count + 1);
-        if is_name(token, b"hold")
-            && is_same_word(tokens_from(here, 1), b"until")
-            && is_in_hold(here, name)
-        {
-            return true;
-        }
-    }
-    false
+// Two operations that stand beside one another, as in `a; b`.
+#[derive(Clone, Copy)]
+struct TwoOperations {
+    first: OpId,
+    second: OpId,
+    // whether a hold of the first until the second was proposed
+    is_proposed: bool,
 }
 
-// Whether this object calls the operation of this name again and again.
-fn has_every(object: &[Token], name: &[u8]) -> bool {
-    for (count, token) in object.iter().enumerate() {
-        let here = tokens_from(object, count + 1);
-        if is_name(token, b"every")
-            && is_same_word(tokens_from(here, 1), b"call")
-            && is_same_word(tokens_from(here, 2), name)
-        {
+// Where a pair stands.
+#[derive(Clone, Copy)]
+struct PlacedPair {
+    pair: TwoOperations,
+    first: Span,
+    second: Span,
+}
+
+// ---- whether a hold could stand there ----
+
+// Whether a hold has an operation: it is held, or ends it.
+fn is_held(holds: &[Hold], op: OpId) -> bool {
+    for hold in holds {
+        if hold.op == op || hold.until.contains(&op) {
             return true;
         }
     }
     false
 }
 
-// Whether a hold of the first of two operations until the second one could stand behind the operations of this object: none
-// has one of them, and the second one is not called again and again.
-fn may_hold(object: &[Token], first: &[u8], second: &[u8]) -> bool {
-    !has_hold(object, first) && !has_hold(object, second) && !has_every(object, second)
+// Whether an operation is called again and again.
+fn is_called(everies: &[Every], op: OpId) -> bool {
+    for every in everies {
+        if every.op == op {
+            return true;
+        }
+    }
+    false
 }
 
-// Where the two names of a pair stand that begins here, where one does, and a hold of it could stand there.
-fn pair_at(object: &[Token], here: &[Token]) -> Option<(Span, Span)> {
+// Whether the first of two operations could be held until the second one: neither is in a hold, and the second one is not
+// called again and again.
+fn may_hold(rules: &Rules, first: OpId, second: OpId) -> bool {
+    !is_held(&rules.holds, first)
+        && !is_held(&rules.holds, second)
+        && !is_called(&rules.everies, second)
+}
+
+// Whether the last of some parameters has this number and this sort.
+fn is_last(params: &[Param], number: usize, kind: Elem) -> bool {
+    match params.get(number) {
+        Some(param) => param.kind == kind && params.len() == number.saturating_add(1),
+        None => false,
+    }
+}
+
+// Whether these are the parameters of what ends a hold: those of the held call, and behind them what it replied.
+fn takes_held(undo: &[Param], held: &[Param], reply: Option<Elem>) -> bool {
+    for (number, param) in held.iter().enumerate() {
+        match undo.get(number) {
+            Some(other) => if other.kind != param.kind {
+                return false;
+            },
+            None => return false,
+        }
+    }
+    match reply {
+        None => undo.len() == held.len(),
+        Some(kind) => is_last(undo, held.len(), kind),
+    }
+}
+
+// Whether one operation takes what ends a hold of another one, and replies nothing.
+fn may_undo(held: &Operation, undo: &Operation) -> bool {
+    undo.result.is_none()
+        && (undo.params.is_empty() || takes_held(&undo.params, &held.params, held.result))
+}
+
+// Whether the operations of these numbers fit so.
+fn fits(object: &Object, first: OpId, second: OpId) -> bool {
+    match (
+        object.operations.get(usize::from(first)),
+        object.operations.get(usize::from(second)),
+    ) {
+        (Some(held), Some(undo)) => may_undo(held, undo),
+        _ => false,
+    }
+}
+
+// Whether a hold of the first of two operations until the second one does what its client would have done: the second one is a
+// procedure that takes from no queue, and nothing stands behind it that would be left over in its place.
+fn is_advised(ruled: RuledCase<'_>, path: &[Token], at: usize, first: OpId, second: OpId) -> bool {
+    let body = section(ruled.case.tokens, Symbol::Entry, usize::from(second));
+    fits(ruled.case.object, first, second)
+        && count_of(body, Symbol::Take) == 0
+        && semicolon_behind(path, at.saturating_add(2)).is_none()
+}
+
+// ---- where pairs stand ----
+
+// The operation of this name.
+fn op_named(object: &Object, name: &[u8]) -> Option<OpId> {
+    for op in 0..operations_of(object) {
+        if name_of(object, op) == name {
+            return Some(op);
+        }
+    }
+    None
+}
+
+// Where the names stand of a pair that begins here, where one does.
+fn names_at(here: &[Token]) -> Option<(Span, Span)> {
     let [a, sign, b, behind @ ..] = here else {
         return None;
     };
@@ -74,7 +144,6 @@ fn pair_at(object: &[Token], here: &[Token]) -> Option<(Span, Span)> {
         && is_symbol(sign, Symbol::Semicolon)
         && is_any_name(b)
         && !begins(behind, Symbol::Colon)
-        && may_hold(object, name_of(here), name_of(tokens_from(here, 2)))
     {
         Some((span_of(a), span_of(b)))
     } else {
@@ -82,83 +151,150 @@ fn pair_at(object: &[Token], here: &[Token]) -> Option<(Span, Span)> {
     }
 }
 
-// What is said of a pair; `is_other` where a hold of it could not stand beside the one that is proposed above.
-fn said_of(is_other: bool) -> Message {
-    let help = if is_other {
-        "`hold % until $;` has it called then, in the place of the hold above: no operation stands in two"
-    } else {
-        "`hold % until $;` behind the operations has it called then"
-    };
-    say(
-        "who is gone between `%` and `$` never calls `$`, nor does anybody for it",
-        help,
-    )
+// The pair that begins at the token of this number of a path, where one does that could be held.
+fn pair_at(ruled: RuledCase<'_>, path: &[Token], at: usize) -> Option<PlacedPair> {
+    let here = tokens_from(path, at);
+    let (first_place, second_place) = names_at(here)?;
+    let first = op_named(ruled.case.object, word_of(here))?;
+    let second = op_named(ruled.case.object, word_of(tokens_from(here, 2)))?;
+    if !may_hold(ruled.rules, first, second) {
+        return None;
+    }
+    let is_proposed = is_advised(ruled, path, at, first, second);
+    Some(PlacedPair {
+        pair: TwoOperations {
+            first,
+            second,
+            is_proposed,
+        },
+        first: first_place,
+        second: second_place,
+    })
 }
 
-// Adds what is said of a pair whose names stand there.
-fn push_pair(
-    out: &mut Vec<u8>,
-    page: Page<'_>,
-    first: Span,
-    second: Span,
-    is_other: bool,
-) -> Result<(), AllocError> {
-    let words = two(text_at(page.source, first), text_at(page.source, second));
-    let span = Span {
-        start: first.start,
-        end: second.end,
-    };
-    push_said(out, page, span, said_of(is_other), words)
+// ---- what is said ----
+
+// Whether the two of a pair were told as one.
+fn is_told(told: &[TwoOperations], pair: TwoOperations) -> bool {
+    for other in told {
+        if other.first == pair.first && other.second == pair.second {
+            return true;
+        }
+    }
+    false
 }
 
-// Adds what is said of the pairs of one path. Of neighbours, as in `a; b; c`, each second one is told as another choice.
+// Whether a hold was proposed that has one of the two of a pair: theirs could not stand beside it.
+fn is_other(told: &[TwoOperations], pair: TwoOperations) -> bool {
+    for other in told {
+        if other.is_proposed
+            && (other.first == pair.first
+                || other.first == pair.second
+                || other.second == pair.first
+                || other.second == pair.second)
+        {
+            return true;
+        }
+    }
+    false
+}
+
+// What is said of a pair.
+fn said_of(is_proposed: bool, is_other: bool) -> Message {
+    match (is_proposed, is_other) {
+        (false, _) => say(
+            "who is gone between `%` and `$` never calls `$`: its `%` counts until another client does",
+            "",
+        ),
+        (true, false) => say(
+            "who is gone between `%` and `$` never calls `$`, nor does anybody for it",
+            "where one client calls both, `hold % until $;` behind the operations has it called then",
+        ),
+        (true, true) => say(
+            "who is gone between `%` and `$` never calls `$`, nor does anybody for it",
+            "where one client calls both, `hold % until $;` has it called then, in the place of the hold above: no operation stands in two",
+        ),
+    }
+}
+
+// What is found of a pair that stands there.
+fn found_of<'a>(source: &'a [u8], placed: PlacedPair, is_other: bool) -> Diagnostic<'a> {
+    let place = Span {
+        start: placed.first.start,
+        end: placed.second.end,
+    };
+    let said = said_of(placed.pair.is_proposed, is_other);
+    Diagnostic {
+        second: Piece::Bytes(text_at(source, placed.second)),
+        ..Diagnostic::at(Some(place), said, text_at(source, placed.first))
+    }
+}
+
+// Adds what is said of the pairs of one path, but for those that were told; these come to them.
 fn push_path(
     out: &mut Vec<u8>,
-    page: Page<'_>,
-    object: &[Token],
+    ruled: RuledCase<'_>,
     path: &[Token],
-) -> Result<(), AllocError> {
-    // Where the neighbour begins of the pair of which a hold was proposed last; no pair begins at 0.
-    let mut neighbour: usize = 0;
-    for count in 0..path.len() {
-        if let Some((first, second)) = pair_at(object, tokens_from(path, count)) {
-            let is_other = count == neighbour;
-            push_pair(out, page, first, second, is_other)?;
-            if !is_other {
-                neighbour = count.saturating_add(2);
+    told: &mut Vec<TwoOperations>,
+) -> Allocated<()> {
+    for at in 0..path.len() {
+        if let Some(placed) = pair_at(ruled, path, at) {
+            if !is_told(told, placed.pair) {
+                let is_other = is_other(told, placed.pair);
+                let found = found_of(ruled.case.page.source, placed, is_other);
+                push_found(out, ruled.case, Some(found))?;
+                told.push(placed.pair)?;
             }
         }
     }
     Ok(())
 }
 
-// Adds what is said of the pairs of one object.
-fn push_object(out: &mut Vec<u8>, page: Page<'_>, object: &[Token]) -> Result<(), AllocError> {
-    for number in 0..MOST {
-        let path = from_symbol(object, Symbol::Path, number);
-        let end = count_to(path, Symbol::End);
-        push_path(out, page, object, first_tokens(path, end))?;
+// Adds what is said of one object: of its pairs, of what stands before a `;`, and of its holds.
+fn push_object(out: &mut Vec<u8>, ruled: RuledCase<'_>) -> Allocated<()> {
+    let mut told = Vec::new(ruled.case.alloc);
+    for number in 0..ruled.case.object.paths.len() {
+        push_path(
+            out,
+            ruled,
+            path_tokens(ruled.case.tokens, number),
+            &mut told,
+        )?;
+    }
+    push_traps(out, ruled.case)?;
+    push_undone(out, ruled.case, ruled.rules)
+}
+
+// Adds what is said of the objects of a page.
+fn push_objects(alloc: Global, out: &mut Vec<u8>, page: Page<'_>, held: &Held) -> Allocated<()> {
+    for (number, object) in held.objects.iter().enumerate() {
+        if let Some(rules) = held.rules.get(number) {
+            let case = case_of(alloc, page, object, number);
+            push_object(out, RuledCase { case, rules })?;
+        }
     }
     Ok(())
 }
 
-/// What a person is told of an accepted source in this file who asks for more: of each `a; b` of a path what happens where a
-/// client dies between the two, where neither is in a hold already, and `b` is not called again and again: `hold a until b;`
-/// would be refused then. Of neighbours, as in `a; b; c`, each second one is told as another choice, since no operation
-/// stands in two holds. It is empty where there is none, and where the source has no tokens.
+/// What a person is told of an accepted source in this file who asks for more.
+///
+/// Of each `a; b` of a path what happens where a client dies between the two, where neither is in a hold already, and `b`
+/// is not called again and again. `hold a until b;` is proposed where `b` is a procedure that takes from no queue, could
+/// end such a hold, and has nothing behind it in the path; where the hold could not stand beside one that is proposed
+/// above, it is told as another choice. Two operations are told once. Then of each operation that stands before a `;`
+/// and can be refused, by which words; and so of the first operation behind `until` of each hold. It is empty where
+/// there is nothing to tell, and where the source is none of objects.
 ///
 /// The error is that memory was refused.
 pub fn explain_pairs(alloc: Global, file: &[u8], source: &[u8]) -> Result<Vec<u8>, AllocError> {
     let mut out = Vec::new(alloc);
-    if let Ok(tokens) = lex(alloc, source) {
+    if let (Ok(tokens), Ok(held)) = (lex(alloc, source), read_held(alloc, source)) {
         let page = Page {
             file,
             source,
             tokens: &tokens,
         };
-        for number in 0..MOST {
-            push_object(&mut out, page, section(&tokens, Symbol::Object, number))?;
-        }
+        push_objects(alloc, &mut out, page, &held)?;
     }
     Ok(out)
 }

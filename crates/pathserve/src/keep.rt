@@ -1,18 +1,22 @@
 //! `pathserve keep`: objects in memory, over journals in a folder.
 
-use crate::ending::{Ended, KeepEnd, serve_table};
+use crate::ending::{Ended, KeepEnd, serve_to_end};
 use answer_core::failure::ToolFailure;
+use answer_core::noting::NotingWriter;
+use answer_core::said::tell_unwritten;
 use command_line::past::Past;
 use command_line::request::Keeping;
 use command_line::watching::{Apart, Watching};
-use decl_core::hold::Rules;
 use device_core::dir_shelf::DirShelf;
 use keep_log::log::Log;
-use keep_tool::begin::{KeptObjects, begin_source};
+use keep_tool::begin::{KeptObjects, StartSource, begin_source};
+use keep_tool::belief::{Belief, belief_of};
 use keep_tool::needs::{KeepNeeds, needs_of, watching_of};
-use keep_tool::outside::{begin_outside, form_of, limits_of};
+use keep_tool::outside::{AllOutside, begin_outside, form_of, limits_of};
 use keep_tool::pasts::pasts_in;
+use keep_tool::sources::write_sources;
 use keep_tool::status::seconds_now;
+use mio_core::own::OwnFiles;
 use mio_core::stream::ClientListener;
 use std::io::{self, Write};
 use table_core::table::Table;
@@ -24,6 +28,35 @@ fn status_of(ended: &Result<Ended, ToolFailure>) -> u8 {
         Err(ToolFailure::Usage(_)) => 2,
         Err(ToolFailure::ReadFault | ToolFailure::WriteFault) => 3,
         Err(ToolFailure::Memory) => 4,
+    }
+}
+
+// Writes the texts of objects, and begins what is outside of them. Where that cannot be begun the texts are as before.
+fn begin_served<W: Write, E: Write, L: Write>(
+    rt: &HostRuntime,
+    names: &[String],
+    texts: &[Vec<u8>],
+    fronts: &[Vec<u8>],
+    asked: Keeping<'_>,
+    watching: Watching,
+    listener: ClientListener,
+    start: u64,
+    writer: &mut W,
+    error: &mut E,
+    log: &mut Log<HostRuntime, L>,
+) -> Result<AllOutside, ToolFailure> {
+    let sources = write_sources(rt, asked.folder, names, texts, error, log)?;
+    match begin_outside(
+        rt, names, fronts, asked, watching, listener, start, writer, log,
+    ) {
+        Ok(outside) => {
+            sources.put(rt);
+            Ok(outside)
+        }
+        Err(failure) => {
+            sources.take_back(rt);
+            Err(failure)
+        }
     }
 }
 
@@ -42,17 +75,18 @@ fn serve_kept<W: Write, E: Write, L: Write>(
     let KeptObjects {
         objects,
         names,
+        texts,
         fronts,
         custody,
     } = kept;
     let count = objects.len();
-    let mut shelf = DirShelf::new(*rt, asked.folder)?;
+    let mut shelf = DirShelf::new(OwnFiles::new(*rt), asked.folder)?;
     let table = Table::with_held(alloc, objects, custody, asked.at_once, 0)?;
     let start = seconds_now(rt);
-    let mut outside = begin_outside(
-        rt, &names, &fronts, asked, watching, listener, start, writer, log,
+    let mut outside = begin_served(
+        rt, &names, &texts, &fronts, asked, watching, listener, start, writer, error, log,
     )?;
-    let ended = serve_table(
+    let ended = serve_to_end(
         alloc,
         table,
         limits_of(asked, count),
@@ -62,25 +96,24 @@ fn serve_kept<W: Write, E: Write, L: Write>(
         error,
     );
     if watching.status > 0 {
-        outside.sink().remove();
+        outside.sink().end();
     }
     log.ended(status_of(&ended), seconds_now(rt).saturating_sub(start));
     ended
 }
 
-// Keeps the objects of a source: serves them to who connects at the listener until the server is to end, by these rules,
-// and says how that ended. At its end the parts of each are saved.
+// Keeps the objects of a source: serves them to who connects at the listener until the server is to end, and says how that
+// ended. At its end the parts of each are saved.
 //
-// A failure is `Usage` where a past is told of an object that has a journal, `ReadFault` where the folder could not be
-// read, `WriteFault` where a journal, a part or a line could not be written, or `Memory`. What was answered is on the
-// disk then.
+// A failure is `ReadFault` where the folder, or a file of it, could not be read, `WriteFault` where a journal, a part or a
+// line could not be written, or `Memory`. What was answered is on the disk then.
 fn keep_source<W: Write, E: Write>(
     rt: &HostRuntime,
-    source: &[u8],
-    rules: Vec<Rules>,
+    source: StartSource,
     asked: Keeping<'_>,
     watching: Watching,
     pasts: &[Past<'_>],
+    belief: &Belief<'_>,
     listener: ClientListener,
     writer: &mut W,
     error: &mut E,
@@ -88,7 +121,7 @@ fn keep_source<W: Write, E: Write>(
     let mut log = Log::new(rt.alloc(), form_of(watching.log), *rt, rt.stderr());
     let away = u64::from(watching.away);
     match begin_source(
-        rt, source, rules, asked, away, pasts, writer, error, &mut log,
+        rt, source, asked, away, pasts, belief, writer, error, &mut log,
     )? {
         Some(kept) => {
             let ended = serve_kept(rt, kept, asked, watching, listener, writer, error, &mut log)?;
@@ -106,27 +139,29 @@ pub(crate) fn run_keep(
 ) -> Result<KeepEnd, ToolFailure> {
     let pasts = pasts_in(rt.alloc(), words.words())?;
     let watching = watching_of(rt.alloc(), words)?;
+    let belief = belief_of(rt.alloc(), words)?;
     let Some(needs) = needs_of(rt, asked)? else {
         return Ok(KeepEnd::Refused);
     };
     let KeepNeeds {
         source,
-        rules,
         lock,
         ears,
         socket,
     } = needs;
+    let mut writer = NotingWriter::new(io::writer(rt));
     let ended = keep_source(
         rt,
-        &source,
-        rules,
+        source,
         asked,
         watching,
         &pasts,
+        &belief,
         ears,
-        &mut io::writer(rt),
+        &mut writer,
         &mut rt.stderr(),
     );
+    tell_unwritten(rt, writer.fault());
     if let Some(socket) = socket {
         socket.remove(rt);
     }

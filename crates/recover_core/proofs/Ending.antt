@@ -10,7 +10,7 @@ use Rattle.apply_core.specs.declared.reply.Reply.TheVariants.{Done, Refused, Fai
 use Rattle.word_core.specs.Events.{Called, began, ended, body_at}
 use Rattle.live_core.specs.Front.{Every, IsOperation}
 use Rattle.decl_core.specs.HoldForm.{HoldForm, reply_sorts}
-use Rattle.guest_core.specs.Held.{HeldCall, GivesBy, GivesOne, Fits, at_first, at_begin, at_end, begun, begun_by, held_data, hold_ended, hold_of_op, reply_data}
+use Rattle.guest_core.specs.Held.{HeldCall, GivesBy, GivesOne, Fits, at_first, at_begin, at_end, begun, begun_by, ended_so, held_data, hold_ended, hold_of_op, reply_data}
 use Rattle.front_read.specs.HeldLines.{IsHeldLine}
 use Rattle.recover_core.specs.HeldSo.{IsHeldBy}
 use Rattle.recover_core.specs.Laws.{HeldAreLines, IsEnding, LinesTellOne, Replies}
@@ -73,10 +73,10 @@ begun_lines o holds c (Refused word) (Some r) found is = tt
 begun_lines o holds c (Failed failure) (Some r) found is = tt
 
 pub held_are_lines : HeldAreLines
-held_are_lines o holds [] held endings at_first = tt
-held_are_lines o holds (began c ∷ past) held endings (at_begin are) = held_are_lines o holds past held endings are
-held_are_lines o holds (ended c reply ∷ past) held endings (at_end was left are gives) =
-    every_both (IsHeldLine o holds) left (begun holds c reply) (left_by (IsHeldLine o holds) (hold_ended holds c.operation) c was left gives (held_are_lines o holds past was endings.1 are)) (begun_lines o holds c reply (hold_of_op holds c.operation) refl endings.0)
+held_are_lines ends o holds [] held endings at_first = tt
+held_are_lines ends o holds (began c ∷ past) held endings (at_begin are) = held_are_lines ends o holds past held endings are
+held_are_lines ends o holds (ended c reply ∷ past) held endings (at_end was left are gives) =
+    every_both (IsHeldLine o holds) left (begun holds c reply) (left_by (IsHeldLine o holds) (ended_so ends reply (hold_ended holds c.operation)) c was left gives (held_are_lines ends o holds past was endings.1 are)) (begun_lines o holds c reply (hold_of_op holds c.operation) refl endings.0)
 
 pub lines_tell_one : LinesTellOne
 lines_tell_one o holds held other rest more named p q e f same = rows_once o holds held other rest more named p q e f same

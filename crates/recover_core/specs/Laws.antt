@@ -10,7 +10,8 @@ use Rattle.word_core.specs.TraceLaws.{HasNames}
 use Rattle.live_core.specs.Front.{Every, IsLong, IsOperation, IsSession}
 use Rattle.front_read.specs.Rows.{has_verb}
 use Rattle.decl_core.specs.HoldForm.{HoldForm}
-use Rattle.guest_core.specs.Held.{HeldCall, AreHeld}
+use Rattle.guest_core.specs.declared.hold_ends.HoldEnds.{HoldEnds}
+use Rattle.guest_core.specs.Held.{HeldCall, AreHeldBy}
 use Rattle.front_read.specs.HeldLines.{held_text, IsHeldLine}
 
 -- what an operation replies that was done: nothing, or a datum of its sort
@@ -39,8 +40,8 @@ AreEndings o (ended c reply ∷ past) = IsEnding o c reply × AreEndings o past
 
 -- What is held by what happened to calls of an object is told by lines that are read again.
 abbrev pub HeldAreLines : Type 0
-HeldAreLines = (o : ObjectForm) (holds : List HoldForm) (past : List Happened) (held : List HeldCall) →
-    AreEndings o past → AreHeld holds past held → Every (IsHeldLine o holds) held
+HeldAreLines = (ends : HoldEnds) (o : ObjectForm) (holds : List HoldForm) (past : List Happened) (held : List HeldCall) →
+    AreEndings o past → AreHeldBy ends holds past held → Every (IsHeldLine o holds) held
 
 -- Lines of what is held tell one thing, and it is known where they end.
 abbrev pub LinesTellOne : Type 0

@@ -13,3 +13,4 @@ pub mod Text
 pub mod Epochs
 pub mod Said
 pub mod Stray
+pub mod Changed

@@ -14,10 +14,11 @@
 //! oldest first, behind all others. `front_read::hold_lines` writes them, and `text` reads a front with them, and cuts
 //! them out of a journal, which is then read as that of an object without holds. `past` says what is held at the end: what happened
 //! since is told by the lines behind the front, and nothing else is stored. `laws` says that what is held can be told
-//! so, and in one way.
+//! so, and in one way. `changed` says in what an object is declared otherwise than before, for who tells of it.
 #![tactic(auto)]
 
 pub mod chain;
+pub mod changed;
 mod clients;
 pub mod epochs;
 pub mod laws;

@@ -7,7 +7,9 @@ use Rattle.session_text.specs.declared.line.ReplyLine.{ReplyLine}
 use Rattle.session_text.specs.Lines.{line_text}
 use Rattle.client_core.specs.State.{Peer, State, told_to, one_text, who_in}
 use Rattle.client_core.specs.Deeds.{Texts, Deed, Nothing, OnlyTold, Then}
-use Rattle.client_core.specs.Asked.{IsRefusal, IsRefused}
+use Rattle.client_core.specs.Refusals.{IsRefusal}
+use Rattle.client_core.specs.Refusals.IsHint.{none as no_hint}
+use Rattle.client_core.specs.Asked.{IsRefused}
 use Rattle.client_core.specs.Turns.{GoesOn}
 use Rattle.client_core.specs.Turns.GoesOn.{rests, does}
 use Rattle.table_core.specs.Brings.{Brings, Continues}
@@ -67,9 +69,13 @@ brings_behind P a b c old mid new quiet same brings =
     subst (λ (s : State). Brings P a s c new) same
     (record { said = brings.said; added = brings.added; tells = tells_then a b c [] brings.said [] brings.added quiet brings.tells; is = brings.is })
 
+-- it is refused, and no text for people is told
+pub plainly : (place : ℕ) (line : ReplyLine) (old new : State) (said added : Texts) → IsRefusal line → OnlyTold place (line_text line) old said added new → IsRefused place old said added new
+plainly place line old new said added is only = record { line = line; is = is; hint = []; hinted = no_hint refl; only = only }
+
 -- it is refused
 pub refuses : (a b : Post) (old new : State) (place : ℕ) (line : ReplyLine) → IsRefusal line → Brings (OnlyTold place (line_text line)) a old b new → Brings (IsRefused place) a old b new
-refuses a b old new place line is brings = brings_as (OnlyTold place (line_text line)) (IsRefused place) a b old new (λ said added only. (line, is, only)) brings
+refuses a b old new place line is brings = brings_as (OnlyTold place (line_text line)) (IsRefused place) a b old new (λ said added only. plainly place line old new said added is only) brings
 
 -- held lines are done behind others
 goes_then : (a b c : State) (said added more_said more_added : Texts) → GoesOn a said added b → GoesOn b more_said more_added c →

@@ -14,20 +14,21 @@ use Rattle.live_core.specs.Scene.{Scene}
 use Rattle.client_core.specs.Custody.{Custodies}
 use Rattle.client_core.specs.State.{Peer, State, opened_at, told_to, with_object}
 use Rattle.client_core.specs.Deeds.{Texts, OnlyTold}
-use Rattle.client_core.specs.Asked.{IsRefusal, Ends, LetsGo, AnswersCancel}
+use Rattle.client_core.specs.Refusals.{IsRefusal}
+use Rattle.client_core.specs.Asked.{Ends, LetsGo, AnswersCancel}
 use Rattle.client_core.specs.Turns.{NoneWaits, Withdraws}
 use Rattle.client_core.proofs.Doing.{ends_keeps}
 use Rattle.table_core.specs.Brings.{Brings}
 use Rattle.table_core.specs.Objects.{HasCancelled, NoneWaitsAt}
 use Rattle.table_core.specs.Parts.{Stays, HasLetGo, TellsCancelled, CancelsOne}
-use Rattle.table_core.proofs.Bringing.{brings_as}
+use Rattle.table_core.proofs.Bringing.{brings_as, plainly}
 use Rattle.table_core.proofs.Entering.{of, objects_are}
 use Rattle.table_core.proofs.Telling.{tells_none, tells_then}
 
 pub cancel_refused : (a b : Post) (old new : State) (place told : ℕ) (line : ReplyLine) → IsRefusal line → Brings (OnlyTold place (line_text line)) a old b new →
     Brings (AnswersCancel place told) a old b new
 cancel_refused a b old new place told line is brings =
-    brings_as (OnlyTold place (line_text line)) (AnswersCancel place told) a b old new (λ said added only. inr (inr (line, is, only))) brings
+    brings_as (OnlyTold place (line_text line)) (AnswersCancel place told) a b old new (λ said added only. inr (inr (plainly place line old new said added is only))) brings
 
 pub not_cancelled : (a b : Post) (old new : State) (place told : ℕ) (answer : Cancelled) → (answer ≡ answers.Cancelled → ⊥) →
     Brings (OnlyTold place (cancelled_line told (cancel_name answer))) a old b new → Brings (AnswersCancel place told) a old b new
@@ -67,7 +68,7 @@ one_refused a b c old mid new place at session told line is quiet same brings =
       said = brings.said;
       added = brings.added;
       tells = tells_then a b c [] brings.said [] brings.added quiet brings.tells;
-      is = inr (inr (line, is, brings.is));
+      is = inr (inr (plainly place line mid new brings.said brings.added is brings.is));
     })
 
 -- behind the memory that was taken

@@ -15,7 +15,8 @@ use Rattle.live_core.specs.Scene.{Scene, with_guests}
 use Rattle.client_core.specs.Custody.{Custodies, IsFreeOf}
 use Rattle.client_core.specs.State.{Peer, State, change, changed, nobody, opening, opened_at, peers_of, told_to}
 use Rattle.client_core.specs.Deeds.{Texts, OnlyTold}
-use Rattle.client_core.specs.Asked.{IsRefusal, IsRefused, OpensBare, Opens, HasNoSession, Goes, Quits}
+use Rattle.client_core.specs.Refusals.{IsRefusal}
+use Rattle.client_core.specs.Asked.{IsRefused, OpensBare, Opens, HasNoSession, Goes, Quits}
 use Rattle.table_core.specs.Brings.{Brings}
 use Rattle.table_core.specs.Objects.{IsNamed, HasEntered, LeavesAt}
 use Rattle.table_core.specs.Parts.{TellsOpened, Stays, HasCome, LeavesOf}

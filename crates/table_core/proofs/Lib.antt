@@ -1,6 +1,7 @@
 pub mod Bringing
 pub mod Cancelling
 pub mod Entering
+pub mod Hinting
 pub mod Placing
 pub mod Quiet
 pub mod Seating

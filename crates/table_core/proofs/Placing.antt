@@ -7,9 +7,9 @@ use Rattle.guest_core.specs.declared.answer.SubmitFault.{SubmitFault}
 use Rattle.guest_core.specs.declared.guests.Entered.{Entered}
 use Rattle.guest_core.specs.declared.guests.EnterFault.{EnterFault}
 use Rattle.guest_core.specs.declared.guests.EnterFault.TheVariants.{InUse, Full, Memory}
-use Rattle.guest_core.specs.declared.seats.SeatHolder.TheVariants.{Nameless}
+use Rattle.guest_core.specs.declared.seats.SeatHolder.TheVariants.{Named, Nameless}
 use Rattle.guest_core.specs.Entering.{Enters, Leaves}
-use Rattle.guest_core.specs.Guests.{Guests, with_seat}
+use Rattle.guest_core.specs.Guests.{Guests, HasNoName, with_seat}
 use Rattle.guest_core.specs.Seats.{IsLeastFree}
 use Rattle.live_core.specs.declared.live.Taken.{Taken}
 use Rattle.live_core.specs.Calls.{Calls, Cancels, CancelsSome}
@@ -20,6 +20,7 @@ use Rattle.live_core.specs.HostedSteps.{Comes}
 use Rattle.live_core.specs.HostedLines.{entered_lines}
 use Rattle.live_core.specs.Lines.{all_lines}
 use Rattle.decl_core.specs.ObjectMap.{object_of}
+use Rattle.client_core.specs.Turns.{HasNameAt}
 use Rattle.table_core.specs.Objects.{EntersAt, SeatsAt, LeavesAt, CallsAt, CancelsAt}
 
 -- the object at a place
@@ -78,3 +79,8 @@ cancelled scenes at session old new (Some told) before line there none c =
     record { object = old; there = there; after = new; cancels = subst (λ (l : List ℕ). Cancels old session told l line new) none c; left = refl }
 cancelled scenes at session old new None before line there none c =
     (set_same scenes at old new there c.0, λ object is. subst (λ (o : Scene). Every (λ (d : Called). d.session ≢ session) o.hall.waiting) (same_Some old object (sym there ∙ is)) c.2)
+
+-- no client that has a name has this session of it
+pub no_name : (scenes : List Scene) (at session : ℕ) (object : Scene) → slice_get scenes at ≡ Some object → HasNoName object.guests session → HasNameAt scenes at session → ⊥
+no_name scenes at session object here none (scene, there, (p, g, is)) =
+    none p (subst (λ (s : Scene). slice_get s.guests.seats session ≡ Some (Named p)) (same_Some scene object (sym there ∙ here)) is.seat)

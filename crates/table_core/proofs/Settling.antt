@@ -26,7 +26,7 @@ use Rattle.client_core.specs.Custody.IsOwed.{again}
 use Rattle.client_core.specs.Moves.{Begins, BeginsHeld, FrontsHeld}
 use Rattle.client_core.specs.State.{State, opened_at, peers_of}
 use Rattle.client_core.specs.Deeds.{Texts, Deed, OnlyTold}
-use Rattle.client_core.specs.Asked.{AllEnd, Follows, IsRefusal}
+use Rattle.client_core.specs.Asked.{AllEnd, Follows, IsRefused}
 use Rattle.client_core.specs.Gone.{CallsFor, NoneHas, Settles}
 use Rattle.client_core.specs.Gone.Settles.{rests, goes_on, calls, seats, frees}
 use Rattle.client_core.specs.Turns.{GoesOn}
@@ -246,10 +246,8 @@ asks_it a b old new place opened operation arguments may brings =
 pub unheld_told : (a b : Post) (old new : State) (place : ℕ) → Brings (OnlyTold place not_held_text) a old b new → Brings (TellsUnheld place) a old b new
 unheld_told a b old new place brings = brings_as (OnlyTold place not_held_text) (TellsUnheld place) a b old new (λ said added is. inl is) brings
 
-pub unheld_refused : (a b : Post) (old new : State) (place : ℕ) (line : ReplyLine) → IsRefusal line → Brings (OnlyTold place (line_text line)) a old b new →
-    Brings (TellsUnheld place) a old b new
-unheld_refused a b old new place line is brings =
-    brings_as (OnlyTold place (line_text line)) (TellsUnheld place) a b old new (λ said added only. inr (line, is, only)) brings
+pub unheld_refused : (a b : Post) (old new : State) (place : ℕ) → Brings (IsRefused place) a old b new → Brings (TellsUnheld place) a old b new
+unheld_refused a b old new place brings = brings_as (IsRefused place) (TellsUnheld place) a b old new (λ said added is. inr is) brings
 
 -- whether a session may make a call
 pub may_ask : (s : State) (opened : OpenObject) (operation : Option ℕ) (o : ℕ) (arguments : List Datum) → operation ≡ Some o →

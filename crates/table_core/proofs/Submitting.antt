@@ -23,13 +23,14 @@ use Rattle.live_core.specs.Scene.{Scene, told_of, with_guests}
 use Rattle.client_core.specs.Custody.{Custodies}
 use Rattle.client_core.specs.State.{Peer, State, change, changed, counted, opening, waiting, opened_at, peers_of, session_by, told_to}
 use Rattle.client_core.specs.Deeds.{Texts, OnlyTold}
-use Rattle.client_core.specs.Asked.{IsRefusal, IsRefused, Sits, Waits, Ends, AllEnd, AnswersCall, keyed_text}
+use Rattle.client_core.specs.Refusals.{IsRefusal}
+use Rattle.client_core.specs.Asked.{IsRefused, Sits, Waits, Ends, AllEnd, AnswersCall, keyed_text}
 use Rattle.client_core.proofs.Doing.{ends_keeps, all_end_keeps}
 use Rattle.table_core.specs.Brings.{Brings}
 use Rattle.table_core.specs.Objects.{HasOperation, SeatsAt, HasCalled}
 use Rattle.table_core.specs.Parts.{Stays, HasMade, TellsTaken, TellsAll, SubmitsOr, MakesCall, AsksCall, UnderKey}
 use Rattle.table_core.specs.Seen.{state_of}
-use Rattle.table_core.proofs.Bringing.{brings_as}
+use Rattle.table_core.proofs.Bringing.{brings_as, plainly}
 use Rattle.table_core.proofs.Entering.{of, peers_are, objects_are}
 use Rattle.table_core.proofs.Telling.{tells_none, tells_then}
 
@@ -37,7 +38,7 @@ use Rattle.table_core.proofs.Telling.{tells_none, tells_then}
 pub call_refused : (a b : Post) (old new : State) (place : ℕ) (key : Option ℕ) (name : List ℕ) (arguments : List Datum) (line : ReplyLine) → IsRefusal line →
     Brings (OnlyTold place (line_text line)) a old b new → Brings (AnswersCall place key name arguments) a old b new
 call_refused a b old new place key name arguments line is brings =
-    brings_as (OnlyTold place (line_text line)) (AnswersCall place key name arguments) a b old new (λ said added only. inr (inr (inl (line, is, only)))) brings
+    brings_as (OnlyTold place (line_text line)) (AnswersCall place key name arguments) a b old new (λ said added only. inr (inr (inl (plainly place line old new said added is only)))) brings
 
 refuses_one : (old new : State) (said added : Texts) (place : ℕ) (key : Option ℕ) (name : List ℕ) (arguments : List Datum) (opened : OpenObject) →
     opened_at old place ≡ Some opened → (seat : OpenObject) (mid : State) → Sits place old opened seat mid → IsRefused place mid said added new →
@@ -147,7 +148,7 @@ call_keyed a b old new place key operation name arguments opened by has brings =
 pub key_refused : (a b : Post) (old new : State) (place key : ℕ) (opened : OpenObject) (operation : Option ℕ) (arguments : List Datum) (line : ReplyLine) → IsRefusal line →
     Brings (OnlyTold place (line_text line)) a old b new → Brings (UnderKey place opened key operation arguments) a old b new
 key_refused a b old new place key opened operation arguments line is brings =
-    brings_as (OnlyTold place (line_text line)) (UnderKey place opened key operation arguments) a b old new (λ said added only. inr (inr (line, is, only))) brings
+    brings_as (OnlyTold place (line_text line)) (UnderKey place opened key operation arguments) a b old new (λ said added only. inr (inr (plainly place line old new said added is only))) brings
 
 says_of : (objects : List Scene) (opened : OpenObject) (key : ℕ) (session : Option ℕ) (operation : Option ℕ) (arguments : List Datum) (keyed said : KeyState) →
     session ≡ session_by opened →
@@ -174,14 +175,14 @@ key_old a b old new place key opened session operation arguments keyed same says
     (λ said added only. inr (inl (keyed, says_of old.objects opened key session operation arguments keyed keyed same says refl, other, only))) brings
 
 -- behind a session that got its number
-pub makes_refused : (a b c : Post) (old mid new : State) (place : ℕ) (opened seat : OpenObject) (operation : Option ℕ) (arguments : List Datum) (line : ReplyLine) →
-    IsRefusal line → Tells a b [] [] → Sits place old opened seat mid → Brings (OnlyTold place (line_text line)) b mid c new →
+pub makes_refused : (a b c : Post) (old mid new : State) (place : ℕ) (opened seat : OpenObject) (operation : Option ℕ) (arguments : List Datum) →
+    Tells a b [] [] → Sits place old opened seat mid → Brings (IsRefused place) b mid c new →
     Brings (MakesCall place opened operation arguments) a old c new
-makes_refused a b c old mid new place opened seat operation arguments line is quiet sits brings = record {
+makes_refused a b c old mid new place opened seat operation arguments quiet sits brings = record {
   said = brings.said;
   added = brings.added;
   tells = tells_then a b c [] brings.said [] brings.added quiet brings.tells;
-  is = inr (record { seat = seat; mid = mid; sits = sits; refused = (line, is, brings.is) });
+  is = inr (record { seat = seat; mid = mid; sits = sits; refused = brings.is });
 }
 
 submits_as : (old mid new : State) (said added : Texts) (place : ℕ) (opened seat : OpenObject) (operation : Option ℕ) (asked : ℕ) (arguments : List Datum) →
@@ -251,7 +252,7 @@ submit_refused a b c old mid new place seat operation arguments line is stays br
       said = brings.said;
       added = brings.added;
       tells = tells_then a b c [] brings.said [] brings.added stays.tells brings.tells;
-      is = inr (line, is, brings.is);
+      is = inr (plainly place line mid new brings.said brings.added is brings.is);
     })
 
 none_there : (x : Scene) → None ≡ Some x → ⊥

@@ -1,7 +1,8 @@
 -- Turns.
-use Rattle.std.proofs.Common.{◌≡◌, ap, sym, subst, refl, arith, ℕ, zero, suc, ◌+◌, inl, inr, List, [], ◌∷◌, ◌++◌, append_assoc, append-nil, true≢false, not}
+use Rattle.std.proofs.Common.{◌≡◌, ◌∙◌, ap, sym, subst, refl, arith, ℕ, zero, suc, ◌+◌, inl, inr, List, [], ◌∷◌, ◌++◌, append_assoc, append-nil, true≢false, not}
 use Rattle.std.specs.Prelude.{Bool, true, false, Option, Some, None, Result, Ok, Err, IfOk}
 use Rattle.std.specs.declared.alloc.AllocError.{AllocError}
+use Rattle.std.proofs.lemmas.Option.{same_Some}
 use Rattle.value_core.specs.Runs.{NoLineFeed}
 use Rattle.word_core.specs.Reads.{Reads}
 use Rattle.keep_loop.specs.Posts.{Tells, Does}
@@ -27,7 +28,7 @@ use Rattle.client_core.specs.State.{State, change, comer, holding, held_at, open
 use Rattle.client_core.specs.Deeds.{Texts, Deed, Nothing, OnlyTold, Then}
 use Rattle.client_core.specs.Asked.{AnswersCancel, AnswersInside, Heeds, Goes}
 use Rattle.client_core.specs.Gone.{Settles}
-use Rattle.client_core.specs.Turns.{IsIdle, HearsLine, HearsLast, HearsAt, TakesLine, GoesOn, EndsAsk, EndsHeld, Withdraws, WithdrawsAt, Leaves, LeavesIf, Comes, IfHere, AllLeave, Notes, place_of}
+use Rattle.client_core.specs.Turns.{IsIdle, HearsLine, HearsLast, HearsAt, TakesLine, GoesOn, EndsAsk, EndsHeld, Withdraws, WithdrawsAt, Leaves, LeavesIf, AsksAgain, HasNameAt, EndsFor, EndsForIf, Comes, IfHere, AllLeave, Notes, place_of}
 use Rattle.client_core.specs.Turns.HearsLine.{does, cancels, sees, puts_off, holds, refuses}
 use Rattle.client_core.specs.Turns.GoesOn.{rests, does as does_more}
 use Rattle.client_core.specs.Turns.EndsHeld.{all, quits, goes_on}
@@ -35,7 +36,7 @@ use Rattle.table_core.specs.Brings.{Brings, Continues, EndsSome}
 use Rattle.table_core.specs.Moves.{Gives}
 use Rattle.table_core.specs.Seen.{seen, state_of}
 use Rattle.table_core.specs.declared.table.Table.{Table}
-use Rattle.table_core.proofs.Bringing.{brings_as, brings_none, brings_then, continues_by}
+use Rattle.table_core.proofs.Bringing.{plainly, brings_as, brings_none, brings_then, continues_by}
 use Rattle.table_core.proofs.Entering.{peers_are}
 use Rattle.table_core.proofs.Telling.{tells_none, tells_then}
 
@@ -87,7 +88,7 @@ pub line_off_refused : (custody : Custodies) (a b : Post) (objects : List Scene)
     Brings (HearsLine place text is_whole) a (state_of custody objects old) b new
 line_off_refused custody a b objects old mid new place text is_whole inside idle ask same brings =
     brings_as (OnlyTold place (line_text (lines.Unsubmitted faults.Memory))) (HearsLine place text is_whole) a b (state_of custody objects old) new
-    (λ said added is. does idle (Ok (asks.Inside inside)) ask (inr (lines.Unsubmitted faults.Memory, tt, is)))
+    (λ said added is. does idle (Ok (asks.Inside inside)) ask (inr (plainly place (lines.Unsubmitted faults.Memory) (state_of custody objects old) new said added tt is)))
     (subst (λ (s : State). Brings (OnlyTold place (line_text (lines.Unsubmitted faults.Memory))) a s b new) (peers_are custody objects mid (peers_of old) same) brings)
 
 -- the next held line is done
@@ -197,13 +198,34 @@ pub one_leaves : (a b : Post) (old new : State) (place who : ℕ) → Some who �
 one_leaves a b old new place who here brings =
     brings_as (Leaves place) (LeavesIf place) a b old new (λ said added is. inl (who, sym here, is)) brings
 
--- all leave
+-- it does not ask again
+pub not_again : (s : State) (place : ℕ) (opened : OpenObject) → Some opened ≡ opened_at s place → (opened.waits ≡ true → HasNameAt s.objects opened.object opened.session → ⊥) → AsksAgain s place → ⊥
+not_again s place opened is none (o, by, waits, has) =
+    let same : o ≡ opened = same_Some o opened (sym by ∙ sym is) in
+    none (subst (λ (x : OpenObject). x.waits ≡ true) same waits) (subst (λ (x : OpenObject). HasNameAt s.objects x.object x.session) same has)
+
+-- one that asks again goes without a word
+pub ends_again : (a : Post) (old new : State) (place : ℕ) → AsksAgain old place → Goes place old [] [] new → Brings (EndsFor place) a old a new
+ends_again a old new place again goes = record { said = []; added = []; tells = tells_none a; is = inl (again, goes) }
+
+pub ends_other : (a b : Post) (old new : State) (place : ℕ) → (AsksAgain old place → ⊥) → Brings (Leaves place) a old b new → Brings (EndsFor place) a old b new
+ends_other a b old new place other brings = brings_as (Leaves place) (EndsFor place) a b old new (λ said added is. inr (other, is)) brings
+
+pub nobody_ends : (a : Post) (s : State) (place : ℕ) → None ≡ who_at s place → Brings (EndsForIf place) a s a s
+nobody_ends a s place none =
+    record { said = []; added = []; tells = tells_none a; is = inr (sym none, record { told = refl; lines = refl; left = refl }) }
+
+pub one_ends : (a b : Post) (old new : State) (place who : ℕ) → Some who ≡ who_at old place → Brings (EndsFor place) a old b new → Brings (EndsForIf place) a old b new
+one_ends a b old new place who here brings =
+    brings_as (EndsFor place) (EndsForIf place) a b old new (λ said added is. inl (who, sym here, is)) brings
+
+-- all end
 pub all_none : (a : Post) (s : State) → Brings (AllLeave zero) a s a s
 all_none a s = brings_none a s
 
-pub all_more : (a b c : Post) (old mid new : State) (n : ℕ) → Brings (AllLeave n) a old b mid → Brings (LeavesIf n) b mid c new → Brings (AllLeave (n + 1)) a old c new
+pub all_more : (a b c : Post) (old mid new : State) (n : ℕ) → Brings (AllLeave n) a old b mid → Brings (EndsForIf n) b mid c new → Brings (AllLeave (n + 1)) a old c new
 all_more a b c old mid new n before one =
-    subst (λ k. Brings (AllLeave k) a old c new) (let e : suc n ≡ n + 1 = omega arith in e) (brings_then (AllLeave n) (LeavesIf n) a b c old mid new before one)
+    subst (λ k. Brings (AllLeave k) a old c new) (let e : suc n ≡ n + 1 = omega arith in e) (brings_then (AllLeave n) (EndsForIf n) a b c old mid new before one)
 
 -- nobody is there
 pub not_here : (a : Post) (s : State) (who : ℕ) (deed : ℕ → Deed) → (who_at s (place_of s who) ≡ Some who → ⊥) → Brings (IfHere who deed) a s a s

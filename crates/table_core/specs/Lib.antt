@@ -1,4 +1,5 @@
 pub mod Brings
+pub mod Hints
 pub mod Looks
 pub mod Moves
 pub mod Objects

@@ -149,7 +149,7 @@ impl Table {
         ensures { OnOk result (Brings (TellsUnheld asker.place) post.old (seen self.old) post.new (seen self.new)) }
     {
         if !fits_at(&self.objects, asker.opened.object, operation, arguments) {
-            self.reject(asker.place, SubmitFault::BadArgs, post)?;
+            self.deny(asker.place, operation, SubmitFault::BadArgs, post)?;
             return Ok(());
         }
         self.tell_unheld(asker.place, post)?;
@@ -172,7 +172,8 @@ impl Table {
             → CountsTaken at taken.now self.old.tallies.objects.items self.new.tallies.objects.items) }
     {
         self.tallies.count(at, taken);
-        self.custody.ended(at, &self.objects, &taken.ran)?;
+        self.custody
+            .ended(at, &self.objects, self.second, &taken.ran)?;
         Ok(())
     }
 

@@ -8,7 +8,9 @@
 //! turn in which that is known (`gone`). `client_core` says what a turn gives.
 #![tactic(auto)]
 
+mod ending;
 mod gone;
+mod hints;
 mod looking;
 mod making;
 mod objects;

@@ -6,12 +6,10 @@ ghost use Rattle.client_core.specs.declared.ask.Sight.TheVariants as insides;
 ghost use Rattle.client_core.specs.People.{people_of};
 ghost use Rattle.inside_core.specs.Adds.{crowd_of};
 ghost use Rattle.client_core.specs.Asked.{AnswersInside};
-ghost use Rattle.client_core.specs.Custody.{holds_by, held_by};
-ghost use Rattle.client_core.specs.Views.{custodies_of};
 ghost use Rattle.client_core.specs.ToldInside.{IsWhy, IsWho, object_in};
 ghost use Rattle.client_core.specs.State.{opened_in, peers_of};
 ghost use Rattle.table_core.specs.Brings.{Brings};
-ghost use Rattle.table_core.specs.Looks.{LooksOf};
+ghost use Rattle.table_core.specs.Looks.{LooksOf, known_of};
 ghost use Rattle.table_core.specs.Parts.{Shows, ShowsText};
 ghost use Rattle.table_core.specs.Seen.{seen};
 
@@ -55,15 +53,11 @@ fn who_at(
     whom: Whom,
 ) -> Option<Result<Vec<u8>, AllocError>>
     ensures { IfSome result (λ r. IfOk r (λ text. (object : Scene) × (slice_get objects.now whom.at ≡ Some object)
-        × IsWho (crowd_of clients.now whom) object (holds_by (slice_get (custodies_of custody.now) whom.at))
-        (held_by (slice_get (custodies_of custody.now) whom.at)) whom.from text.items)) }
+        × IsWho (crowd_of clients.now whom) object (slice_get custody.now whom.at) whom.from text.items)) }
 {
     match objects.get(whom.at) {
         None => None,
-        Some(object) => {
-            let (holds, held) = custody.held_of(whom.at);
-            Some(who_of(alloc, clients, object, whom, holds, held))
-        }
+        Some(object) => Some(who_of(alloc, clients, object, whom, custody.at(whom.at))),
     }
 }
 
@@ -92,14 +86,14 @@ impl Table {
         Ok(())
     }
 
-    // The same: what is told of clients is what is known of those that are there, in this second.
+    // The same: what is told is what is known of clients that are there, and of what is held, in this second.
     pub(crate) fn look_inside(
         &mut self,
         place: usize,
         inside: Sight,
         post: &mut Post,
     ) -> Result<(), AllocError>
-        ensures { OnOk result (Brings (LooksOf (people_of self.old.clients) self.old.second place inside) post.old
+        ensures { OnOk result (Brings (LooksOf (people_of self.old.clients) (known_of self.old) place inside) post.old
             (seen self.old) post.new (seen self.new)) }
     {
         match inside {
@@ -119,7 +113,7 @@ impl Table {
     }
 
     fn look_why(&mut self, place: usize, told: u64, post: &mut Post) -> Result<(), AllocError>
-        ensures { OnOk result (Brings (LooksOf (people_of self.old.clients) self.old.second place (insides.Why told)) post.old
+        ensures { OnOk result (Brings (LooksOf (people_of self.old.clients) (known_of self.old) place (insides.Why told)) post.old
             (seen self.old) post.new (seen self.new)) }
     {
         let Some(opened) = opened_at(&self.clients, place) else {
@@ -139,7 +133,7 @@ impl Table {
     }
 
     fn look_who(&mut self, place: usize, from: u64, post: &mut Post) -> Result<(), AllocError>
-        ensures { OnOk result (Brings (LooksOf (people_of self.old.clients) self.old.second place (insides.Who from)) post.old
+        ensures { OnOk result (Brings (LooksOf (people_of self.old.clients) (known_of self.old) place (insides.Who from)) post.old
             (seen self.old) post.new (seen self.new)) }
     {
         let Some(opened) = opened_at(&self.clients, place) else {
@@ -170,7 +164,7 @@ impl Table {
     }
 
     fn look_list(&mut self, place: usize, post: &mut Post) -> Result<(), AllocError>
-        ensures { OnOk result (Brings (LooksOf (people_of self.old.clients) self.old.second place insides.List) post.old
+        ensures { OnOk result (Brings (LooksOf (people_of self.old.clients) (known_of self.old) place insides.List) post.old
             (seen self.old) post.new (seen self.new)) }
     {
         let at = object_of(&self.clients, place);

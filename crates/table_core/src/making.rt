@@ -189,7 +189,7 @@ impl Table {
     {
         match self.ready_for(asker, operation, &arguments, post) {
             Err(fault) => {
-                self.reject(asker.place, fault, post)?;
+                self.deny(asker.place, operation, fault, post)?;
                 Ok(())
             }
             Ok(ready) => {

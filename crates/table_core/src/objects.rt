@@ -1,12 +1,14 @@
 //! What is done with the object at a place. Where there is none, nothing is done.
 
-ghost use Rattle.std.specs.Prelude.{◌≡◌, [], ◌∷◌, Ok, Err, Some, true, false, IfOk, IfErr, IfSome, OnErr, slice_get, slice_set};
+ghost use Rattle.std.specs.Prelude.{◌≡◌, [], ◌∷◌, ℕ, Ok, Err, Some, true, false, IfOk, IfErr, IfSome, OnErr, slice_get, slice_set};
 ghost use Rattle.guest_core.specs.declared.answer.Cancelled.TheVariants as answers;
 ghost use Rattle.live_core.specs.declared.hosted.KeyState.TheVariants as keys;
 ghost use Rattle.live_core.specs.Keys.{Says, WaitsAs};
 ghost use Rattle.live_core.specs.Scene.{Scene, told_of};
 ghost use Rattle.live_core.specs.Fronts.{IsNextFront};
-ghost use Rattle.guest_core.specs.Guests.{SomebodyHas};
+ghost use Rattle.guest_core.specs.declared.guest.Guest.{Guest as AGuest};
+ghost use Rattle.guest_core.specs.Guests.{HasNoName, IsNamed as IsGuest, SomebodyHas};
+ghost use Rattle.client_core.specs.Turns.{HasNameAt};
 ghost use Rattle.client_core.specs.Moves.{Begins, IsFrontAt};
 ghost use Rattle.table_core.specs.Objects.{IsNamed, HasOperation, EntersAt, SeatsAt, LeavesAt, CallsAt, CancelsAt, IsKnownAt};
 
@@ -134,6 +136,28 @@ pub(crate) fn is_known_at(objects: &[Hosted], at: usize, session: u16) -> bool
     match objects.get(at) {
         None => false,
         Some(object) => is_known(object, session),
+    }
+}
+
+// Whether a session of an object is that of a client that has a name.
+fn is_of_name(object: &Hosted, session: u16) -> bool
+    ensures yes { result ≡ true → (p : ℕ) × (g : AGuest) × IsGuest object.now.guests session p g }
+    ensures no { result ≡ false → HasNoName object.now.guests session }
+{
+    match object.guests().guest(session) {
+        Some(_) => true,
+        None => false,
+    }
+}
+
+/// Whether a session of the object at a place is that of a client that has a name.
+pub(crate) fn has_name_at(objects: &[Hosted], at: usize, session: u16) -> bool
+    ensures yes { result ≡ true → HasNameAt objects.now at session }
+    ensures no { result ≡ false → HasNameAt objects.now at session → ⊥ }
+{
+    match objects.get(at) {
+        None => false,
+        Some(object) => is_of_name(object, session),
     }
 }
 
@@ -374,6 +398,25 @@ pub(crate) fn begin_at(
     match objects.get_mut(at) {
         None => Ok(false),
         Some(object) => object.begin_next(front),
+    }
+}
+
+/// Time goes by, a second or less: epochs that could not begin are tried again each second.
+pub(crate) fn tell_time(objects: &mut Vec<Hosted>, is_second: bool)
+    ensures { objects.new.items ≡ objects.old.items }
+{
+    for place in 0..objects.len() {
+        tell_time_at(objects, place, is_second);
+    }
+}
+
+// The same, of the object at a place.
+fn tell_time_at(objects: &mut Vec<Hosted>, place: usize, is_second: bool)
+    ensures { objects.new.items ≡ objects.old.items }
+{
+    match objects.get_mut(place) {
+        None => {}
+        Some(object) => object.tell_time(is_second),
     }
 }
 

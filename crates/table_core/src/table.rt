@@ -5,7 +5,8 @@ ghost use Rattle.live_core.specs.Scene.{Scene};
 ghost use Rattle.keep_loop.specs.Posts.{Tells};
 ghost use Rattle.session_text.specs.declared.line.ReplyLine.TheVariants as lines;
 ghost use Rattle.session_text.specs.Lines.{line_text, opened_text};
-ghost use Rattle.client_core.specs.Asked.{IsRefusal, OpensBare, Opens, Goes, Quits};
+ghost use Rattle.client_core.specs.Refusals.{IsRefusal};
+ghost use Rattle.client_core.specs.Asked.{OpensBare, Opens, Goes, Quits};
 ghost use Rattle.client_core.specs.Deeds.{OnlyTold};
 ghost use Rattle.table_core.specs.Brings.{Brings};
 ghost use Rattle.table_core.specs.Objects.{IsNamed};
@@ -197,7 +198,7 @@ impl Table {
         ensures { OnOk result (Brings (Opens place name.now client) post.old (seen self.old) post.new (seen self.new)) }
     {
         let Some(at) = object_for(&self.objects, name) else {
-            self.refuse(place, LineRefusal::NoObject, post)?;
+            self.deny_object(place, post)?;
             return Ok(());
         };
         match client {

@@ -13,18 +13,19 @@ ghost use Rattle.client_core.specs.Deeds.{Then};
 ghost use Rattle.client_core.specs.State.{State, opened_at, peers_of};
 ghost use Rattle.client_core.specs.Turns.{IsIdle, HearsLine, HearsLast, HearsAt, GoesOn, EndsAsk, EndsHeld, WithdrawsAt, Leaves};
 ghost use Rattle.client_core.specs.Gone.{Settles};
-ghost use Rattle.client_core.specs.Turns.{LeavesIf, AllLeave, IfHere, Notes, Comes, place_of};
+ghost use Rattle.client_core.specs.Turns.{LeavesIf, HasNameAt, AsksAgain, EndsFor, EndsForIf, AllLeave, IfHere, Notes, Comes, place_of};
 ghost use Rattle.client_core.specs.declared.ask.Ask.TheVariants as asks;
 ghost use Rattle.table_core.specs.Brings.{Brings, Continues, EndsSome};
 ghost use Rattle.table_core.specs.Seen.{seen};
 
-use crate::objects::{next_front, put_off_at};
+use crate::objects::{has_name_at, next_front, put_off_at, tell_time};
 use crate::peers::{
     come, count, goes_on, hold, must_hold, next, opened_at, place_of, stall, take, taken_by, wake,
     who_at,
 };
 use crate::table::{MOST_OWED, Table};
 use client_core::ask::{Ask, Sight, ask_of, cancel_of, inside_of};
+use client_core::client::OpenObject;
 use guest_core::answer::SubmitFault;
 use inside_core::look::write_look;
 use keep_loop::{LineEnd, Note, Post, Served, Visible};
@@ -379,30 +380,66 @@ impl Table {
         }
     }
 
-    // All connections leave.
+    // All connections end, in order.
     #[tactic(auto, using(crate::proofs::Turning::all_none, crate::proofs::Turning::all_more))]
     fn end(&mut self, post: &mut Post) -> Result<(), AllocError>
         ensures { OnOk result (Brings (AllLeave (length (peers_of self.old.clients))) post.old (seen self.old) post.new
             (seen self.new)) }
     {
         for place in 0..count(&self.clients) {
-            self.leave_if_here(place, post)?;
+            self.end_if_here(place, post)?;
         }
         Ok(())
     }
 
-    // The one at a place leaves, where one is there.
-    #[tactic(auto, using(crate::proofs::Turning::nobody_leaves, crate::proofs::Turning::one_leaves))]
-    fn leave_if_here(&mut self, place: usize, post: &mut Post) -> Result<(), AllocError>
-        ensures { OnOk result (Brings (LeavesIf place) post.old (seen self.old) post.new (seen self.new)) }
+    // The one at a place ends, where one is there.
+    #[tactic(auto, using(crate::proofs::Turning::nobody_ends, crate::proofs::Turning::one_ends))]
+    fn end_if_here(&mut self, place: usize, post: &mut Post) -> Result<(), AllocError>
+        ensures { OnOk result (Brings (EndsForIf place) post.old (seen self.old) post.new (seen self.new)) }
     {
         match who_at(&self.clients, place) {
             None => Ok(()),
             Some(_) => {
-                self.leave(place, post)?;
+                self.end_for(place, post)?;
                 Ok(())
             }
         }
+    }
+
+    // The one at a place ends. Where a call of it waits that it asks for again behind a start, it goes without a word, and
+    // the call waits still.
+    #[tactic(auto, using(crate::proofs::Turning::ends_again, crate::proofs::Turning::ends_other))]
+    fn end_for(&mut self, place: usize, post: &mut Post) -> Result<(), AllocError>
+        ensures { OnOk result (Brings (EndsFor place) post.old (seen self.old) post.new (seen self.new)) }
+    {
+        if self.asks_again(place) {
+            self.go(place)?;
+            return Ok(());
+        }
+        self.leave(place, post)?;
+        Ok(())
+    }
+
+    // Whether a call of the one at a place waits, and its client has a name.
+    fn asks_again(&self, place: usize) -> bool
+        ensures yes { result ≡ true → AsksAgain (seen self.now) place }
+        ensures no { result ≡ false → AsksAgain (seen self.now) place → ⊥ }
+    {
+        match opened_at(&self.clients, place) {
+            None => false,
+            Some(opened) => self.waits_by_name(opened),
+        }
+    }
+
+    // Whether a call waits of one that has opened this, and its client has a name.
+    fn waits_by_name(&self, opened: OpenObject) -> bool
+        ensures yes { result ≡ true → (opened.waits ≡ true) × HasNameAt self.now.objects.items opened.object opened.session }
+        ensures no { result ≡ false → opened.waits ≡ true → HasNameAt self.now.objects.items opened.object opened.session → ⊥ }
+    {
+        if opened.waits {
+            return has_name_at(&self.objects, opened.object, opened.session);
+        }
+        false
     }
 
     // Hears a line of a connection.
@@ -544,6 +581,7 @@ impl Table {
         ensures { seen self.new ≡ seen self.old }
     {
         self.look_held(second);
+        tell_time(&mut self.objects, second > self.second);
         self.second = second;
         wake(&mut self.clients);
     }

@@ -16,6 +16,7 @@ use Rattle.world_core.specs.Scene.{Scene}
 use Rattle.word_core.specs.Said.{Said, a_call, a_keyed_call, a_do, a_drop, a_resume}
 use Rattle.word_core.specs.Answers.{refused_line, dropped_line}
 use Rattle.world_core.specs.Does.{Does}
+use Rattle.guest_core.specs.declared.hold_ends.HoldEnds.TheVariants.{ByDone}
 use Rattle.guest_core.specs.Held.{HeldCall, Gives, MayUndo, begun}
 use Rattle.guest_core.specs.Places.{IsNewest}
 use Rattle.guest_core.specs.Undo.{IsUndoOf}
@@ -96,7 +97,7 @@ pub data Acts (holds : List HoldForm) (old : Ward) : Said → List ℕ → Scene
 abbrev pub IsNoted : List HoldForm → List AcceptedCall → TraceEvent → List HeldCall → List HeldCall → Type 0
 IsNoted holds calls (Start n) old new = new ≡ old
 IsNoted holds calls (End n reply) old new =
-    (left : List HeldCall) × Gives holds (called_of n (call_at calls n)) old left
+    (left : List HeldCall) × Gives ByDone holds (called_of n (call_at calls n)) reply old left
     × (new ≡ left ++ begun holds (called_of n (call_at calls n)) reply)
 
 -- what is held after these events, one after the other

@@ -4,6 +4,7 @@ ghost use Rattle.std.specs.Prelude.{◌≡◌, ◌++◌, List, OnOk, Some, drop}
 ghost use Rattle.board_core.specs.declared.event.TraceEvent.TheVariants.{End};
 ghost use Rattle.board_core.specs.Sound.{IsNumbered, event_number};
 ghost use Rattle.desk_core.specs.Told.{called_of};
+ghost use Rattle.guest_core.specs.declared.hold_ends.HoldEnds.TheVariants.{ByDone as DoneAlone};
 ghost use Rattle.guest_core.specs.Held.{HeldCall, Gives, begun};
 ghost use Rattle.decl_core.specs.HoldMap.{holds_of};
 ghost use Rattle.world_core.specs.HoldDoes.{AreNoted, IsNoted};
@@ -14,6 +15,7 @@ use board_core::event::TraceEvent;
 use decl_core::hold::Hold;
 use desk_core::desk::Desk;
 use guest_core::held::{EndedCall, Holds};
+use guest_core::hold_ends::HoldEnds;
 use page_core::call::Call;
 use std::alloc::{AllocError, Global};
 
@@ -44,7 +46,7 @@ fn end_call(
     reply: &Reply,
     holds: &mut Holds,
 ) -> Result<(), AllocError>
-    ensures { OnOk result ((left : List HeldCall) × Gives (holds_of rules.now) (called_of number (Some call.now)) holds.old left
+    ensures { OnOk result ((left : List HeldCall) × Gives DoneAlone (holds_of rules.now) (called_of number (Some call.now)) reply.now holds.old left
         × (holds.new ≡ left ++ begun (holds_of rules.now) (called_of number (Some call.now)) reply.now)) }
 {
     let arguments = call.args().list(alloc)?;
@@ -54,7 +56,7 @@ fn end_call(
         operation: call.op(),
         arguments: &arguments,
     };
-    holds.end(alloc, rules, ended, reply)
+    holds.end(alloc, HoldEnds::ByDone, rules, ended, reply)
 }
 
 // What is held after one event.

@@ -2,4 +2,4 @@ use Rattle.history_law.proofs.Cut.{crashed}
 use Rattle.history_law.proofs.crash_laws.crash_leaves_legal.Goals as goal
 
 pub returns : goal.returns
-returns c = crashed c.recovered_are_lines.ensures
+returns c = crashed

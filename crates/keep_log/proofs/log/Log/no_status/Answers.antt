@@ -3,6 +3,6 @@ use Rattle.keep_log.proofs.Telling.{told_line}
 use Rattle.keep_log.proofs.log.Log.no_status.Goals as goal
 
 pub returns : goal.returns
-returns g c = told_line c.args.self.now.form c.in-Some.form c.moment_at-moment.result (λ form moment. lacks form moment c.args.path.now) c.push_no_status-made.result
+returns g c = told_line c.args.self.now.form c.in-Some.form c.moment_at-moment.result (λ form moment. lacks form moment c.args.path.now c.args.cause) c.push_no_status-made.result
     c.clear.new.self.items c.push_no_status-made.new.out.items (g.E.Write.contents c.args.self.now.errors) (g.E.Write.contents c.tell.new.self.errors)
     c.in-Some.is c.clear.ensures.items c.push_no_status-made.ensures c.tell.ensures.made c.tell.ensures.none

@@ -1,9 +1,9 @@
 use Rattle.std.proofs.Common.{◌≡◌, ℕ, ◌+◌, List, [], ◌++◌, drop, sym, ◌∙◌, ap, subst}
 use Rattle.std.proofs.lemmas.List.{append-nil, drop_all}
-use Rattle.keep_loop.specs.Journal.{recovered, IsBetween}
+use Rattle.keep_loop.specs.Taken.{TellsBetween}
 use Rattle.keep_loop.specs.Run.{AreSteps, HoldsAtLeast, added, added_by}
 use Rattle.keep_loop.proofs.Moments.{started}
-use Rattle.keep_loop.proofs.KeptLines.{between_more, leaves_between}
+use Rattle.keep_loop.proofs.KeptTold.{between_told, now_tells}
 use Rattle.keep_loop.proofs.Runs.{SoFar, next_is, so_far_first, so_far_next, step_leaves}
 use Rattle.keep_loop.proofs.journal.Journal.run.Goals as goal
 
@@ -16,9 +16,10 @@ loop-step-init g c =
       steps = c.requires.lines;
       so_far = λ stored text h.
           let s = c.requires.in_order.stands h.file h.known in
+          let k = c.requires.in_order.checks h.file h.known in
           so_far_first D.seen D.moment D.left_since j stored text (added c.args.steps.now) h
-          (started D.moment D.left_since j.device (λ f. IsBetween stored (text ++ added c.args.steps.now) (recovered f))
-          (λ f left. between_more _ _ _ _ (leaves_between h.file _ j.stored j.size j.room s stored text h.lines_are h.stored_are f (g.met.D.Device.only_now j.device f left))));
+          (started D.moment D.left_since j.device (λ f. TellsBetween stored (text ++ added c.args.steps.now) f)
+          (λ f left. between_told _ _ _ _ (now_tells h.file _ j.stored j.size (j.room + j.checks) j.crc s k stored text h.lines_are h.stored_are f (g.met.D.Device.only_now j.device f left))));
     }
 
 pub returns-in_err-make-clause-any_moment : goal.returns-in_err-make-clause-any_moment

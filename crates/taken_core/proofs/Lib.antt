@@ -1,0 +1,6 @@
+pub mod Answered
+pub mod Counts
+pub mod Formats
+pub mod Lost
+pub mod Places
+pub mod Taking
