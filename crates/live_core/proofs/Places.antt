@@ -9,7 +9,7 @@ use Rattle.path_tree.specs.Satisfies.{MayStart}
 use Rattle.word_core.specs.Events.{Called}
 use Rattle.live_core.specs.Hall.{Every, EachPair}
 use Rattle.live_core.specs.Bodies.{IsFirstAt}
-use Rattle.live_core.specs.Waiters.{MayOf, IsHeadAt, IsPlaceFrom, IsReadyAt, AreFrom, AreNoted, AreByNumber}
+use Rattle.live_core.specs.Waiters.{MayOf, IsHeadAt, IsPlaceFrom, IsReadyAt, AreFrom, AreSessionsNoted, AreByNumber}
 use Rattle.live_core.proofs.Listing.{every_get, every_map, every_both, every_snoc, get_set, get_within, cut_at, pairs_without, every_without}
 
 pub there : {X : Type 0} (xs : List X) (k : ℕ) (x : X) → k < length xs → x ≡ get_or xs k x → slice_get xs k ≡ Some x
@@ -119,8 +119,8 @@ noted_by numbers c d was other n at = elim (get_set numbers c.session c.number d
 pub noted_here : (numbers : List ℕ) (c : Called) (n : ℕ) → slice_get (slice_set numbers c.session c.number) c.session ≡ Some n → n ≡ c.number
 noted_here numbers c n at = elim (get_set numbers c.session c.number c.session n at) [ inl h ↦ sym h.1 | inr h ↦ absurd (h.0 refl) ]
 
-pub noted_more : (numbers : List ℕ) (waiting : List Called) (c : Called) → AreNoted numbers waiting → Every (λ (d : Called). d.session ≢ c.session) waiting →
-    AreNoted (slice_set numbers c.session c.number) (waiting ++ c ∷ [])
+pub noted_more : (numbers : List ℕ) (waiting : List Called) (c : Called) → AreSessionsNoted numbers waiting → Every (λ (d : Called). d.session ≢ c.session) waiting →
+    AreSessionsNoted (slice_set numbers c.session c.number) (waiting ++ c ∷ [])
 noted_more numbers waiting c noted free =
     every_snoc (λ (d : Called). (n : ℕ) → slice_get (slice_set numbers c.session c.number) d.session ≡ Some n → n ≡ d.number) waiting c
     (every_both (λ (d : Called). (n : ℕ) → slice_get numbers d.session ≡ Some n → n ≡ d.number) (λ (d : Called). d.session ≢ c.session)
@@ -128,13 +128,13 @@ noted_more numbers waiting c noted free =
     (noted_here numbers c)
 
 -- no call of a session whose number is that of none, or of another one's call
-pub none_of_session : (numbers : List ℕ) (waiting : List Called) (session n : ℕ) → AreNoted numbers waiting → slice_get numbers session ≡ Some n → Every (λ (c : Called). c.number ≢ n) waiting →
+pub none_of_session : (numbers : List ℕ) (waiting : List Called) (session n : ℕ) → AreSessionsNoted numbers waiting → slice_get numbers session ≡ Some n → Every (λ (c : Called). c.number ≢ n) waiting →
     Every (λ (c : Called). c.session ≢ session) waiting
 none_of_session numbers waiting session n noted at none =
     every_both (λ (d : Called). (m : ℕ) → slice_get numbers d.session ≡ Some m → m ≡ d.number) (λ (d : Called). d.number ≢ n) (λ (d : Called). d.session ≢ session)
     (λ d was other same. other (sym (was n (ap (slice_get numbers) same ∙ at)))) waiting noted none
 
-pub none_but : (numbers : List ℕ) (waiting : List Called) (session n k : ℕ) (c : Called) → AreByNumber waiting → AreNoted numbers waiting → slice_get numbers session ≡ Some n →
+pub none_but : (numbers : List ℕ) (waiting : List Called) (session n k : ℕ) (c : Called) → AreByNumber waiting → AreSessionsNoted numbers waiting → slice_get numbers session ≡ Some n →
     slice_get waiting k ≡ Some c → c.number ≡ n → c.session ≢ session → Every (λ (d : Called). d.session ≢ session) waiting
 none_but numbers waiting session n k c pairs noted at here number other = all_of (λ (d : Called). d.session ≢ session) waiting (λ j d there same.
     let its : n ≡ d.number = every_get (λ (x : Called). (m : ℕ) → slice_get numbers x.session ≡ Some m → m ≡ x.number) waiting j d noted there n (ap (slice_get numbers) same ∙ at) in

@@ -36,8 +36,8 @@ abbrev pub AreFrom : List ℕ → List Called → Type 0
 AreFrom firsts waiting = Every (λ (c : Called). slice_index firsts c.operation ≤ c.number) waiting
 
 -- of each session a number is noted, and its waiting call has no other one
-abbrev pub AreNoted : List ℕ → List Called → Type 0
-AreNoted numbers waiting = Every (λ (c : Called). (n : ℕ) → slice_get numbers c.session ≡ Some n → n ≡ c.number) waiting
+abbrev pub AreSessionsNoted : List ℕ → List Called → Type 0
+AreSessionsNoted numbers waiting = Every (λ (c : Called). (n : ℕ) → slice_get numbers c.session ≡ Some n → n ≡ c.number) waiting
 
 abbrev pub AreByNumber : List Called → Type 0
 AreByNumber waiting = EachPair (λ (c d : Called). c.number < d.number) waiting
@@ -52,4 +52,4 @@ pub record AreWaiters (w : Inside) : Type 0 where
   pub in_order : AreByNumber w.rows.items
   pub one_each : AreOfOthers w.rows.items
   pub firsts : AreFrom w.firsts w.rows.items
-  pub noted : AreNoted w.numbers.items w.rows.items
+  pub noted : AreSessionsNoted w.numbers.items w.rows.items

@@ -10,7 +10,7 @@ ghost use Rattle.word_core.specs.Events.{Called};
 ghost use Rattle.live_core.specs.Hall.{Every};
 ghost use Rattle.live_core.specs.Bodies.{IsFirstAt, IsNumberedAt, IsOfSessionAt};
 ghost use Rattle.live_core.specs.Epochs.{numbered_from};
-ghost use Rattle.live_core.specs.Waiters.{AreFrom, AreByNumber, AreNoted, AreOfOthers};
+ghost use Rattle.live_core.specs.Waiters.{AreFrom, AreByNumber, AreSessionsNoted, AreOfOthers};
 
 use crate::call::LiveCall;
 use crate::waiting::{first_ready, head_of, place_for, place_of, renumber};
@@ -117,7 +117,7 @@ fn raise(firsts: &mut [u32], rows: &[LiveCall], operation: OpId)
 fn note_all(firsts: &mut [u32], numbers: &mut [u32], rows: &[LiveCall])
     requires { AreOfOthers rows.now }
     ensures firsts { AreFrom firsts.new rows.now }
-    ensures noted { AreNoted numbers.new rows.now }
+    ensures noted { AreSessionsNoted numbers.new rows.now }
     ensures each { length numbers.new ≡ length numbers.old }
 {
     for place in 0..rows.len() {

@@ -3,7 +3,7 @@ use Rattle.std.proofs.lemmas.List.{with_items_is}
 use Rattle.std.specs.Prelude.{slice_set}
 use Rattle.word_core.specs.Events.{Called}
 use Rattle.live_core.specs.Hall.{Every}
-use Rattle.live_core.specs.Waiters.{AreFrom, AreByNumber, AreNoted, AreOfOthers}
+use Rattle.live_core.specs.Waiters.{AreFrom, AreByNumber, AreSessionsNoted, AreOfOthers}
 use Rattle.live_core.proofs.Listing.{pairs_snoc}
 use Rattle.live_core.proofs.Places.{from_more, noted_more}
 use Rattle.live_core.proofs.waiters.Waiters.add.Goals as goal
@@ -20,6 +20,6 @@ invariant_of-self-2 c =
       in_order = subst AreByNumber (sym items) (pairs_snoc (λ (x y : Called). x.number < y.number) rows call c.self.invariant.in_order below);
       one_each = subst AreOfOthers (sym items) (pairs_snoc (λ (x y : Called). x.session ≢ y.session) rows call c.self.invariant.one_each free);
       firsts = subst (AreFrom c.tell.new.firsts) (sym items) (from_more c.self.inside.firsts c.tell.new.firsts rows call c.self.invariant.firsts c.tell.ensures.lower c.tell.ensures.here);
-      noted = subst (λ ns. AreNoted ns c.push_reserved.new.self.items) (sym (with_items_is c.self.inside.numbers c.tell.new.numbers (omega (arith, ap length numbers, length-set c.self.inside.numbers.items call.session call.number))))
-          (subst (AreNoted c.tell.new.numbers) (sym items) (subst (λ ns. AreNoted ns (rows ++ call ∷ [])) (sym numbers) (noted_more c.self.inside.numbers.items rows call c.self.invariant.noted free)));
+      noted = subst (λ ns. AreSessionsNoted ns c.push_reserved.new.self.items) (sym (with_items_is c.self.inside.numbers c.tell.new.numbers (omega (arith, ap length numbers, length-set c.self.inside.numbers.items call.session call.number))))
+          (subst (AreSessionsNoted c.tell.new.numbers) (sym items) (subst (λ ns. AreSessionsNoted ns (rows ++ call ∷ [])) (sym numbers) (noted_more c.self.inside.numbers.items rows call c.self.invariant.noted free)));
     }
