@@ -6,9 +6,9 @@ Of each row both serve in turn, in so many rounds (5) of so many seconds (1), ov
 `cell`, `put`, beside SET with `appendonly`, and a kept buffer, half `put` and half `get`, beside RPUSH and LPOP. It prints the
 medians of calls a second, of the time in which half of the calls and 99 of 100 are answered, in microseconds, and of
 the processor time of the server a call; and how much more calls the kept one answers, by the medians, with the least and the
-most of a round. Then `get` beside `serve`; how much memory an idle connection takes; how many calls 10,000
-connections at once make; and how many that come one after the other. Only rows are measured whose title has WORD. All of it
-runs at a raised priority where it may (`/proc/self/autogroup`), but not with --calm. The program is the one that ./pathserve
+most of a round. Then `get` beside `serve`; `get` beside 9,000 calls that wait at its object, and LLEN beside 9,000 BLPOPs,
+each with and without those; how much memory an idle connection takes; how many calls 10,000 connections at once make; and how
+many that come one after the other. Only rows are measured whose title has WORD. All of it runs at a raised priority where it may (`/proc/self/autogroup`), but not with --calm. The program is the one that ./pathserve
 runs, or FILE. The folders are made where TMPDIR says, which is the disk that is measured; it needs `cc` and
 `redis-server`. The load runs on the same machine. It is no part of the gate.
 """
@@ -17,6 +17,7 @@ import contextlib
 import os
 import pathlib
 import resource
+import socket
 import statistics
 import subprocess
 import tempfile
@@ -37,9 +38,18 @@ BUFFER = """object buffer;
   entry function get : integer; begin get := first(items); take(items) end;
 end;
 """
+GATE = """object gate;
+  path 1:(open; pass) end;
+  path 1:(open, pass, [get]) end;
+  var v : array [1] of integer;
+  entry procedure open; begin v[0] := 1 end;
+  entry procedure pass; begin v[0] := 0 end;
+  entry function get : integer; begin get := v[0] end;
+end;
+"""
 # Calls a second, the microseconds in which half and 99 of 100 are answered, and those of the server for a call.
 Figures = tuple[float, int, int, float]
-MANY = 10_000
+MANY, WAITING = 10_000, 9_000
 PUT = ("open cell", "call put #", "SET v #")
 GET = ("open cell", "call get", "GET v")
 BOTH = ("open buffer", "call put #|call get", "RPUSH q #|LPOP q")
@@ -67,7 +77,7 @@ def kept(binary: object, sync: str, most: int, way: str = "keep") -> Iterator[Se
     """A server of the objects that are measured."""
     with folder() as where:
         (where / "place").mkdir()
-        (where / "objects").write_text(keys.CELL + BUFFER, encoding="ascii")
+        (where / "objects").write_text(keys.CELL + BUFFER + GATE, encoding="ascii")
         more = ["--sync", sync, "--at-once", most] if way == "keep" else ["--sessions", most]
         with Server(way, where / "objects", where / "place", *more, by=[binary], errors=where / "said") as it:
             yield it
@@ -144,6 +154,35 @@ def beside_serve(options: argparse.Namespace) -> None:
     rounds(options, "get, --sync 1000, 16", names, lambda: measure("1000", "keep"), lambda: measure("", "serve"))
 
 
+@contextlib.contextmanager
+def held(port: int, count: int, request: bytes, answer: bytes) -> Iterator[None]:
+    """So many connections that each have sent a request, and were answered this: they wait meanwhile."""
+    with contextlib.ExitStack() as stack:
+        for _ in range(count):
+            it = stack.enter_context(socket.create_connection(("127.0.0.1", port)))
+            it.sendall(request)
+            said = b""
+            while answer not in said:
+                said += it.recv(4096)
+        yield
+
+
+def beside_waiting(options: argparse.Namespace) -> None:
+    def one(count: int) -> Figures:
+        with kept(options.program, "1000", MANY) as it, held(it.port, count, b"open gate\ncall pass\n", b"accepted"):
+            return load(options, it, 1, options.seconds, 50, 2, "call get", "open gate")
+
+    def two(count: int) -> Figures:
+        # (a request before it is answered, and the one that waits is not)
+        with redis("1000") as it, held(it.port, count, b"PING\r\nBLPOP none 0\r\n", b"PONG"):
+            return load(options, it, 1, options.seconds, 50, 0, "LLEN q")
+
+    title, names = f"get, 50 ahead, {WAITING:,} wait", ("kept", "Redis")
+    rounds(options, title, names, lambda: one(WAITING), lambda: two(WAITING))
+    rounds(options, f"{title}, beside none", (f"{WAITING:,}", "none"), lambda: one(WAITING), lambda: one(0))
+    rounds(options, f"LLEN, 50 ahead, {WAITING:,} wait, beside none", (f"{WAITING:,}", "none"), lambda: two(WAITING), lambda: two(0))
+
+
 def in_a_row(options: argparse.Namespace) -> None:
     for sync in ("1000", "always"):
 
@@ -204,6 +243,7 @@ def main() -> None:
         for row in ROWS:
             compare(options, *row)
         beside_serve(options)
+        beside_waiting(options)
         in_a_row(options)
         idle(options)
     print(f"load {os.getloadavg()[0]:.1f}", flush=True)
