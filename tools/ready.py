@@ -122,14 +122,18 @@ def copy_sources(to: pathlib.Path, program: str = PROGRAM) -> None:
     shutil.copyfile(TOP / "HANDLES", to / "HANDLES")
 
 
+def roomy_lanes() -> int:
+    """How many crates a machine has the memory to prove at once; 0: as many as `rt ci` reckons memory for."""
+    memory = os.sysconf("SC_PAGE_SIZE") * os.sysconf("SC_PHYS_PAGES")
+    return 0 if memory < ROOMY else min(LANES, len(os.sched_getaffinity(0)))
+
+
 def lanes(folder: pathlib.Path) -> int:
     """How many crates are proved at once ahead of the dear ones; 0 where a machine has too little memory for it, the kit in
     this folder keeps nothing of what it proves, so that a second run would prove all once more, or it takes no names of
     crates, as at a gate (CI)."""
-    memory = os.sysconf("SC_PAGE_SIZE") * os.sysconf("SC_PHYS_PAGES")
-    if memory < ROOMY or "class Kept" not in (text_of(folder / "bin" / "rt") or "") or os.environ.get("CI") == "true":
-        return 0
-    return min(LANES, len(os.sched_getaffinity(0)))
+    keeps = "class Kept" in (text_of(folder / "bin" / "rt") or "")
+    return roomy_lanes() if keeps and os.environ.get("CI") != "true" else 0
 
 
 def ahead(lines: Mapping[str, str]) -> list[str]:

@@ -147,6 +147,9 @@ class Run:
         self.begun = time.monotonic()
         # A tool in Python would else keep what it prints to itself until it ends.
         env = {**os.environ, "PYTHONUNBUFFERED": "1"}
+        if self.part is PROVE and ready.roomy_lanes():
+            # (`rt ci` reckons two to three times the memory that a proof takes)
+            env.setdefault("RT_JOBS", str(ready.roomy_lanes()))
         null, same = subprocess.DEVNULL, subprocess.STDOUT
         try:
             # (what a terminal sends comes to this tool alone, which hands it on)
