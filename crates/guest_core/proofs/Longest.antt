@@ -59,13 +59,13 @@ best_stays guests least now count u g a there own less best = (
 -- one client more, which is away longer than all before
 best_new : (guests : List Guest) (least now count place u : ℕ) (g : Guest) → slice_get guests count ≡ Some g → place ≡ count → MayForget least now g u
     → ((q t : ℕ) (h : Guest) → q < count → slice_get guests q ≡ Some h → MayForget least now h t → u ≤ t) → IsBest guests least now (count + 1) (Some (record { place = place; since = u }))
-best_new guests least now count place u g there at own least = (
+best_new guests least now count place u g there at own first = (
   (g, ap (slice_get guests) at ∙ there, own),
   λ q t h within is may. elim (cases_eq q count) [
     | inl same ↦
         let e : u ≡ t = same_since least now g u t own (subst (λ x. MayForget least now x t) (one_item guests count h g (subst (λ k. slice_get guests k ≡ Some h) same is) there) may) in
         omega (arith, e)
-    | inr other ↦ least q t h (omega (arith, within, other)) is may
+    | inr other ↦ first q t h (omega (arith, within, other)) is may
   ],
 )
 
