@@ -209,6 +209,13 @@ impl Keys {
         }
     }
 
+    // So many of the last calls are known from now on.
+    pub(crate) fn keep(&mut self, count: usize)
+        ensures { self.new ≡ record self.old { kept = take count self.old.kept } }
+    {
+        self.kept.truncate(count);
+    }
+
     /// The key of the next call.
     pub fn next(&self) -> u64
         ensures { result ≡ self.now.next }
