@@ -104,6 +104,7 @@ fn left_behind_last(
 }
 
 // Whether the calls with this number or a greater one, beside the last call of each client, weigh at most 8 MiB.
+#[tactic(auto, using(crate::proofs::Bounding::all_weighed, crate::proofs::Bounding::one_weighed, crate::proofs::Bounding::one_too_heavy))]
 fn has_room(alloc: Global, guests: &[Guest], least: u64) -> Result<bool, AllocError>
     ensures { IfOk result (λ yes. yes ≡ stays guests.now least) }
 {
@@ -119,8 +120,17 @@ fn has_room(alloc: Global, guests: &[Guest], least: u64) -> Result<bool, AllocEr
     Ok(true)
 }
 
+/// Whether all calls of clients that are known weigh so little that each of them is kept where an epoch begins. The error is
+/// that memory was refused.
+pub fn have_room(alloc: Global, guests: &[Guest]) -> Result<bool, AllocError>
+    ensures { IfOk result (λ yes. yes ≡ stays guests.now 0) }
+{
+    has_room(alloc, guests, 0)
+}
+
 /// The least number from which the calls of clients are kept, beside the last one of each, where an epoch begins. `None`: no
 /// other call is kept. The error is that memory was refused.
+#[tactic(auto, using(crate::proofs::Bounding::is_least, crate::proofs::Bounding::all_stay, crate::proofs::Bounding::none_stays))]
 pub fn least_kept(alloc: Global, guests: &[Guest]) -> Result<Option<u64>, AllocError>
     ensures { IfOk result (λ least. IsLeast (stays guests.now) least) }
 {

@@ -8,13 +8,13 @@ pub fn keys_stand_once()
 {}
 
 /// Along any steps the key of the next call of a name is the one behind all calls that were told since it is known, and
-/// the last 16 of them are kept.
+/// the last of them are kept: 16, but where an epoch began with fewer.
 pub fn keys_are_consecutive()
     ensures { KeysAreConsecutive }
 {}
 
-/// A repeat is answered exactly where one of the last 16 calls that were told has this key and asked for the same; and
-/// what is kept of it is what was told.
+/// A repeat is answered exactly where one of the last calls that were told, of which so many are kept, has this key and
+/// asked for the same; and what is kept of it is what was told.
 pub fn repeats_are_exact()
     ensures { RepeatsAreExact }
 {}
