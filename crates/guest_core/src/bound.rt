@@ -1,6 +1,6 @@
 //! Which calls of names an epoch begins with.
 
-ghost use Rattle.std.specs.Prelude.{◌≡◌, ◌≢◌, ◌+◌, ◌<◌, ◌≤◌, ◌↔◌, ℕ, Bool, take, length, drop, IsTrue, IfOk, MatchOption, Some, None, true, false, nat_lt};
+ghost use Rattle.std.specs.Prelude.{◌≡◌, ◌+◌, ◌<◌, ◌≤◌, ℕ, Bool, take, length, IfOk, MatchOption};
 ghost use Rattle.guest_core.specs.Bound.{datum_weight, data_weight, reply_weight, call_weight, weight_from, weight_behind, weight_of_guests};
 ghost use Rattle.guest_core.specs.Bound.{stays, first_that_stay, kept_by, IsLeast};
 
@@ -61,7 +61,10 @@ fn left_behind_call(
     let arguments = call.asked().arguments().list(alloc)?;
     match left_behind_data(&arguments, left) {
         None => Ok(None),
-        Some(left) => Ok(left.checked_sub(weight_of_reply(&call.reply()))),
+        Some(left) => {
+            let reply = call.reply();
+            Ok(left.checked_sub(weight_of_reply(&reply)))
+        }
     }
 }
 
