@@ -7,7 +7,7 @@ use Rattle.guest_core.specs.declared.guest.Guest.{Guest}
 use Rattle.guest_core.specs.declared.kept.RememberedCall.{RememberedCall}
 use Rattle.guest_core.specs.declared.seats.SeatHolder.TheVariants.{Named}
 use Rattle.guest_core.specs.Guests.{Guests, IsSound}
-use Rattle.guest_core.specs.Bound.{call_weight, weight_from, weight_behind, weight_of_guests, stays, first_that_stay, kept_by, guest_by, IsLeast}
+use Rattle.guest_core.specs.Bound.{call_weight, weight_from, weight_behind, weight_of_guests, stays, first_that_stay, kept_by, guest_by, IsLeast, bounded, BoundedHasRoom, RoomKeepsAll, NewestStay}
 use Rattle.guest_core.proofs.Finding.{Found, Known}
 
 -- items of a list of which each was changed
@@ -183,3 +183,97 @@ all_stay guests yes n = by (nat_lt n 0) refl
 
 pub none_stays : (guests : List Guest) → stays guests 18446744073709551615 ≡ false → IsLeast (stays guests) None
 none_stays guests no n few = sym (stays_down guests n 18446744073709551615 (omega (arith, few)) no)
+
+pub newest_stay : NewestStay
+newest_stay guests n m up is = sym (stays_up guests n m up is)
+
+-- Where all weigh at most 8 MiB each is kept.
+first_all : (stay : ℕ → Bool) (calls : List RememberedCall) → ((n : ℕ) → true ≡ stay n) → first_that_stay stay calls ≡ calls
+first_all stay [] all = refl
+first_all stay (c ∷ calls) all =
+    ap (λ (b : Bool). if b then c ∷ first_that_stay stay calls else []) (sym (all c.told)) ∙ ap (λ xs. c ∷ xs) (first_all stay calls all)
+
+kept_all : (stay : ℕ → Bool) (kept : List RememberedCall) → ((n : ℕ) → true ≡ stay n) → kept_by stay kept ≡ kept
+kept_all stay [] all = refl
+kept_all stay (c ∷ calls) all = ap (λ xs. c ∷ xs) (first_all stay calls all)
+
+guests_all : (stay : ℕ → Bool) (guests : List Guest) → ((n : ℕ) → true ≡ stay n) → map (guest_by stay) guests ≡ guests
+guests_all stay [] all = refl
+guests_all stay (g ∷ guests) all =
+    ap (λ (ks : List RememberedCall). record g { keys = record g.keys { kept = ks } } ∷ map (guest_by stay) guests) (kept_all stay g.keys.kept all)
+    ∙ ap (λ gs. g ∷ gs) (guests_all stay guests all)
+
+pub room_keeps_all : RoomKeepsAll
+room_keeps_all guests few = guests_all (stays guests) guests (λ n. stays_up guests 0 n (omega arith) (sym (light_enough (weight_of_guests 0 guests) few)))
+
+-- What is kept beside the last calls is nothing, or there is a number that stays from which on all weigh as much at least.
+abbrev FewFrom : (ℕ → Bool) → ℕ → (ℕ → ℕ) → Type 0
+FewFrom stay few weight = (few ≡ 0) ⊎ ((m : ℕ) × (stay m ≡ true) × (few ≤ weight m))
+
+weight_at : (n told w rest : ℕ) → n ≤ told → (if nat_lt told n then 0 else w) + rest ≡ w + rest
+weight_at n told w rest up = by (nat_lt told n) refl
+  where
+    by : (b : Bool) → nat_lt told n ≡ b → (if b then 0 else w) + rest ≡ w + rest
+    by true is = absurd (grind (arith, nat_tests, up, is))
+    by false is = refl
+
+-- a call more that stays
+few_more : (stay : ℕ → Bool) (c : RememberedCall) (calls : List RememberedCall) (few : ℕ) → stay c.told ≡ true → FewFrom stay few (λ n. weight_from n calls) → FewFrom stay (call_weight c + few) (λ n. weight_from n (c ∷ calls))
+few_more stay c calls few yes (inl none) =
+    let at = weight_at c.told c.told (call_weight c) (weight_from c.told calls) (omega arith) in
+    inr (c.told, yes, omega (arith, none, at))
+few_more stay c calls few yes (inr (m, is, less)) = by (nat_lt c.told m) refl
+  where
+    by : (b : Bool) → nat_lt c.told m ≡ b → FewFrom stay (call_weight c + few) (λ n. weight_from n (c ∷ calls))
+    by true under =
+        let up : c.told ≤ m = grind (arith, nat_tests, under) in
+        let at = weight_at c.told c.told (call_weight c) (weight_from c.told calls) (omega arith) in
+        let more = lighter_calls c.told m calls up in
+        inr (c.told, yes, omega (arith, less, at, more))
+    by false over =
+        let up : m ≤ c.told = grind (arith, nat_tests, over) in
+        let at = weight_at m c.told (call_weight c) (weight_from m calls) up in
+        inr (m, is, omega (arith, less, at))
+
+few_first : (stay : ℕ → Bool) (calls : List RememberedCall) → FewFrom stay (weight_from 0 (first_that_stay stay calls)) (λ n. weight_from n calls)
+few_first stay [] = inl refl
+few_first stay (c ∷ calls) = by (stay c.told) refl
+  where
+    by : (b : Bool) → stay c.told ≡ b → FewFrom stay (weight_from 0 (if b then c ∷ first_that_stay stay calls else [])) (λ n. weight_from n (c ∷ calls))
+    by false no = inl refl
+    by true yes =
+        subst (λ few. FewFrom stay few (λ n. weight_from n (c ∷ calls))) (sym (weight_at 0 c.told (call_weight c) (weight_from 0 (first_that_stay stay calls)) (omega arith)))
+        (few_more stay c calls (weight_from 0 (first_that_stay stay calls)) yes (few_first stay calls))
+
+few_behind : (stay : ℕ → Bool) (kept : List RememberedCall) → FewFrom stay (weight_behind 0 (kept_by stay kept)) (λ n. weight_behind n kept)
+few_behind stay [] = inl refl
+few_behind stay (c ∷ calls) = few_first stay calls
+
+-- the calls of one client and those of others
+few_both : (stay : ℕ → Bool) (g : Guest) (guests : List Guest) (one more : ℕ) → FewFrom stay one (λ n. weight_behind n g.keys.kept) → FewFrom stay more (λ n. weight_of_guests n guests) → FewFrom stay (one + more) (λ n. weight_of_guests n (g ∷ guests))
+few_both stay g guests one more (inl none) (inl nothing) = inl (omega (arith, none, nothing))
+few_both stay g guests one more (inl none) (inr (m, yes, less)) = inr (m, yes, omega (arith, none, less))
+few_both stay g guests one more (inr (m, yes, less)) (inl nothing) = inr (m, yes, omega (arith, nothing, less))
+few_both stay g guests one more (inr (m, yes, less)) (inr (n, is, fewer)) = by (nat_lt m n) refl
+  where
+    by : (b : Bool) → nat_lt m n ≡ b → FewFrom stay (one + more) (λ k. weight_of_guests k (g ∷ guests))
+    by true under =
+        let up : m ≤ n = grind (arith, nat_tests, under) in
+        let all = lighter m n guests up in
+        inr (m, yes, omega (arith, less, fewer, all))
+    by false over =
+        let up : n ≤ m = grind (arith, nat_tests, over) in
+        let own = lighter_behind n m g.keys.kept up in
+        inr (n, is, omega (arith, less, fewer, own))
+
+few_guests : (stay : ℕ → Bool) (guests : List Guest) → FewFrom stay (weight_of_guests 0 (map (guest_by stay) guests)) (λ n. weight_of_guests n guests)
+few_guests stay [] = inl refl
+few_guests stay (g ∷ guests) =
+    few_both stay g guests (weight_behind 0 (kept_by stay g.keys.kept)) (weight_of_guests 0 (map (guest_by stay) guests)) (few_behind stay g.keys.kept) (few_guests stay guests)
+
+pub bounded_has_room : BoundedHasRoom
+bounded_has_room guests = by (few_guests (stays guests) guests)
+  where
+    by : FewFrom (stays guests) (weight_of_guests 0 (bounded guests)) (λ n. weight_of_guests n guests) → weight_of_guests 0 (bounded guests) ≤ 8388608
+    by (inl none) = omega (arith, none)
+    by (inr (m, yes, less)) = let room = light (weight_of_guests m guests) yes in omega (arith, less, room)

@@ -1,6 +1,6 @@
 -- Which calls of names an epoch begins with.
-use Rattle.std.specs.Prelude.{◌≡◌, ℕ, ◌+◌, ◌<◌, List, [], ◌∷◌, length, map, nat_lt, if◌then◌else◌}
-use Rattle.std.specs.Prelude.{Bool, false, not, Option, Some, None}
+use Rattle.std.specs.Prelude.{◌≡◌, ℕ, ◌+◌, ◌<◌, ◌≤◌, List, [], ◌∷◌, length, map, nat_lt, if◌then◌else◌}
+use Rattle.std.specs.Prelude.{Bool, true, false, not, Option, Some, None}
 use Rattle.value_core.specs.declared.datum.Datum.{Datum}
 use Rattle.value_core.specs.declared.datum.Datum.TheVariants.{Integer, Text}
 use Rattle.apply_core.specs.declared.reply.Reply.{Reply}
@@ -75,3 +75,15 @@ bounded_in v = record v { guests = bounded v.guests }
 abbrev pub IsLeast : (ℕ → Bool) → Option ℕ → Type 0
 IsLeast stay None = (n : ℕ) → n < 18446744073709551616 → stay n ≡ false
 IsLeast stay (Some least) = (n : ℕ) → stay n ≡ not (nat_lt n least)
+
+-- So beside the last call of each client they weigh at most 8 MiB;
+abbrev pub BoundedHasRoom : Type 0
+BoundedHasRoom = (guests : List Guest) → weight_of_guests 0 (bounded guests) ≤ 8388608
+
+-- where all of them do, each is kept;
+abbrev pub RoomKeepsAll : Type 0
+RoomKeepsAll = (guests : List Guest) → weight_of_guests 0 guests ≤ 8388608 → bounded guests ≡ guests
+
+-- and a greater number stays where a number does.
+abbrev pub NewestStay : Type 0
+NewestStay = (guests : List Guest) (n m : ℕ) → n ≤ m → stays guests n ≡ true → stays guests m ≡ true

@@ -1,5 +1,6 @@
 //! Laws of clients and keys, over the definitions alone.
 
+ghost use Rattle.guest_core.specs.Bound.{BoundedHasRoom, RoomKeepsAll, NewestStay};
 ghost use Rattle.guest_core.specs.Steps.{KeysStandOnce, KeysAreConsecutive, RepeatsAreExact};
 
 /// A key is that of at most one call among those that are kept of a name.
@@ -17,4 +18,19 @@ pub fn keys_are_consecutive()
 /// asked for the same; and what is kept of it is what was told.
 pub fn repeats_are_exact()
     ensures { RepeatsAreExact }
+{}
+
+/// The calls with which an epoch begins weigh at most 8 MiB beside the last one of each client.
+pub fn bounded_has_room()
+    ensures { BoundedHasRoom }
+{}
+
+/// Where all calls weigh so little each is kept.
+pub fn room_keeps_all()
+    ensures { RoomKeepsAll }
+{}
+
+/// A call that is newer than one whose number stays has a number that stays: the oldest go first.
+pub fn newest_stay()
+    ensures { NewestStay }
 {}
