@@ -17,7 +17,7 @@ use Rattle.guest_core.specs.Guests.{Guests, IsAt, IsNamed, IsSound, IsUnknown, H
 use Rattle.guest_core.specs.Keys.{Keys, Asks, Ends, remembered, fresh_keys}
 use Rattle.guest_core.specs.Entering.{Enters, Admits, Leaves, GetsName, ComesNew}
 use Rattle.guest_core.specs.Steps.{Step, entered, admitted, seated, left, asked, withdrew, ended, bounds, renews, Does, Told, Stands, StandsSo, Tells, comes, named as gets_name, forgotten, ends, bounded_to, nothing, begins, goes, nothing_yet, further, KeysAreConsecutive, with_one_more}
-use Rattle.guest_core.specs.Bound.{bounded_in, guest_by, kept_by, stays}
+use Rattle.guest_core.specs.Bound.{bounded_guests, guest_by, kept_by, stays}
 use Rattle.guest_core.proofs.Bounding.{get_mapped, mapped_get, kept_taken}
 use Rattle.guest_core.proofs.Items.{get_more, get_set, get_front, get_last, get_here, get_there, one_item}
 use Rattle.guest_core.proofs.Finding.{which}
@@ -299,7 +299,7 @@ ending old new name session told p reply false g keys t by does is sound stands 
     keys_change old new name session p g keys (ended session told reply false) t by is (λ _. (ap (λ (k : Keys). k.next) does.1, ap (λ (k : Keys). k.kept) does.1)) stands
 
 -- an epoch begins with fewer of the calls of names
-bounding : (old new : Guests) (name : List ℕ) (t : Option Told) → new ≡ bounded_in old → StandsSo old name t → Goes old new name bounds t
+bounding : (old new : Guests) (name : List ℕ) (t : Option Told) → new ≡ bounded_guests old → StandsSo old name t → Goes old new name bounds t
 bounding old new name None is unknown = (
   None,
   nothing,

@@ -68,8 +68,8 @@ guest_by stay g = record g { keys = record g.keys { kept = kept_by stay g.keys.k
 abbrev pub bounded : List Guest → List Guest
 bounded guests = map (guest_by (stays guests)) guests
 
-abbrev pub bounded_in : Guests → Guests
-bounded_in v = record v { guests = bounded v.guests }
+abbrev pub bounded_guests : Guests → Guests
+bounded_guests v = record v { guests = bounded v.guests }
 
 -- this is the least number that stays; where there is none, no number of 64 bits does
 abbrev pub IsLeast : (ℕ → Bool) → Option ℕ → Type 0

@@ -11,7 +11,7 @@ use Rattle.guest_core.specs.declared.kept.RememberedCall.{RememberedCall}
 use Rattle.guest_core.specs.declared.keys.AskFault.{AskFault}
 use Rattle.guest_core.specs.declared.keys.Judged.TheVariants.{Repeat}
 use Rattle.guest_core.specs.declared.seats.SeatHolder.TheVariants.{Nameless}
-use Rattle.guest_core.specs.Bound.{bounded_in, kept_by, stays}
+use Rattle.guest_core.specs.Bound.{bounded_guests, kept_by, stays}
 use Rattle.guest_core.specs.Entering.{Enters, Admits, Leaves}
 use Rattle.guest_core.specs.Guests.{Guests, IsAt, IsNamed, IsSound, IsUnknown, HasNoName, with_keys, with_seat}
 use Rattle.guest_core.specs.Keys.{Keys, HasKey, Judges, Asks, Ends, withdrawn}
@@ -48,7 +48,7 @@ Does old (left session now so) new = Leaves old session now so new
 Does old (asked session a answer) new = AtName old session (λ keys after. Asks keys a answer after) new
 Does old (withdrew session) new = AtName old session (λ keys after. after ≡ withdrawn keys) new
 Does old (ended session told reply so) new = AtName old session (λ keys after. Ends keys told reply so after) new
-Does old bounds new = new ≡ bounded_in old
+Does old bounds new = new ≡ bounded_guests old
 Does old renews new = new ≡ record old { seats = map renewed old.seats }
 
 -- what was told of the calls of a name since it is known: the key of the first one, and the calls, the newest first; and how

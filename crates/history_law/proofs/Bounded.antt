@@ -6,7 +6,7 @@ use Rattle.live_core.specs.Front.{Every}
 use Rattle.live_core.specs.Fronts.{client_of}
 use Rattle.guest_core.specs.declared.guest.Guest.{Guest}
 use Rattle.guest_core.specs.declared.kept.RememberedCall.{RememberedCall}
-use Rattle.guest_core.specs.Bound.{kept_by, guest_by, bounded_in, stays}
+use Rattle.guest_core.specs.Bound.{kept_by, guest_by, bounded_guests, stays}
 use Rattle.guest_core.specs.Guests.{Guests, IsNamed, IsSound}
 use Rattle.guest_core.proofs.Bounding.{get_mapped, mapped_get, kept_taken, sound_by}
 use Rattle.history_law.specs.Asked.{ClientHas}
@@ -32,7 +32,7 @@ every_by_guest P Q stay [] on all = tt
 every_by_guest P Q stay (g ∷ gs) on all = (on g all.0, every_by_guest P Q stay gs on all.1)
 
 -- they have their seats
-pub seated_bounded : (v : Guests) → AreSeated v → AreSeated (bounded_in v)
+pub seated_bounded : (v : Guests) → AreSeated v → AreSeated (bounded_guests v)
 seated_bounded v seated = record { sound = sound_by (stays v.guests) v seated.sound; nobody = seated.nobody; few = seated.few }
 
 -- and they had them before
@@ -72,11 +72,11 @@ keys_keep_by o stay g keep =
       asked = keep.asked;
     }
 
-pub keep_bounded : (o : ObjectForm) (v : Guests) → GuestsKeep o v → GuestsKeep o (bounded_in v)
+pub keep_bounded : (o : ObjectForm) (v : Guests) → GuestsKeep o v → GuestsKeep o (bounded_guests v)
 keep_bounded o v all = every_by_guest (λ (g : Guest). KeysKeep o g.keys) (λ (g : Guest). KeysKeep o g.keys) (stays v.guests) v.guests (keys_keep_by o (stays v.guests)) all
 
 -- what is so of a client but for its calls is so still
-pub has_bounded : (Is : Guest → Type 0) (v : Guests) (s : ℕ) → ((g : Guest) → Is g → Is (guest_by (stays v.guests) g)) → ClientHas Is v s → ClientHas Is (bounded_in v) s
+pub has_bounded : (Is : Guest → Type 0) (v : Guests) (s : ℕ) → ((g : Guest) → Is g → Is (guest_by (stays v.guests) g)) → ClientHas Is v s → ClientHas Is (bounded_guests v) s
 has_bounded Is v s on (inl is) = inl is
 has_bounded Is v s on (inr (p, g, is, ok)) =
     inr (p, guest_by (stays v.guests) g, record { seat = is.seat; there = get_mapped (guest_by (stays v.guests)) v.guests p g is.there }, on g ok)

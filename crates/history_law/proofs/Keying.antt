@@ -7,7 +7,7 @@ use Rattle.decl_core.specs.ObjectMap.{object_of}
 use Rattle.live_core.specs.Front.{Opening}
 use Rattle.guest_core.specs.Guests.{Guests, IsSound}
 use Rattle.guest_core.specs.declared.guest.Guest.{Guest}
-use Rattle.guest_core.specs.Bound.{bounded, bounded_in, stays}
+use Rattle.guest_core.specs.Bound.{bounded, bounded_guests, stays}
 use Rattle.live_core.specs.declared.front.NamedClient.{NamedClient}
 use Rattle.history_law.proofs.Bounded.{clients_by, sound_before}
 use Rattle.guest_core.proofs.Bounding.{sound_by}
@@ -91,7 +91,7 @@ module _ (old new : Table) (j : ℕ) (f : Opening) (h : Scene) (told : List KeyE
             events = epoch_began (map client_of h.guests.guests) ∷ told;
             names = inl (at, record { front = held.fronts.front; told = told_so; begun = next }, refl);
             keys = epoch_keeps_keys f told h.guests held.begins.after.guests keys (ap (λ (v : Guests). v.guests) next.followed.guests)
-                (subst (λ (v : Guests). IsSound v) (sym next.followed.guests) (sound_renewed (bounded_in h.guests) (sound_by (stays h.guests.guests) h.guests keys.sound)));
+                (subst (λ (v : Guests). IsSound v) (sym next.followed.guests) (sound_renewed (bounded_guests h.guests) (sound_by (stays h.guests.guests) h.guests keys.sound)));
           }
 
   keeps : (asked : Asked) (said added : Texts) (account : Account) → Gives old asked said added new → SaysIn (seen old) asked said added account (seen new) → Keeps old new j f asked added account h told

@@ -7,7 +7,7 @@ use Rattle.live_core.specs.declared.call.Limits.{Limits}
 use Rattle.live_core.specs.Answers.{IsSetUp}
 use Rattle.live_core.specs.Epochs.{told_behind}
 use Rattle.live_core.specs.Hall.{IsHeld}
-use Rattle.guest_core.specs.Bound.{bounded_in}
+use Rattle.guest_core.specs.Bound.{bounded_guests}
 use Rattle.guest_core.specs.Seats.{renewed}
 use Rattle.live_core.specs.declared.start.EndedEpoch.{EndedEpoch}
 use Rattle.live_core.specs.Scene.{Scene}
@@ -24,7 +24,7 @@ pub record BeginsAgain (object : Object) (ended : EndedEpoch) (source : ℕ) (li
   pub set_up : IsSetUp object limits past s.hall
   pub waiting : s.hall.waiting ≡ []
   pub given : s.given ≡ 0
-  pub guests : s.guests ≡ record (bounded_in ended.guests) { seats = map renewed ended.guests.seats }
+  pub guests : s.guests ≡ record (bounded_guests ended.guests) { seats = map renewed ended.guests.seats }
   pub carried : s.carried ≡ []
   pub base : s.base ≡ min (min (ended.base + ended.greatest) (2 ^ 64 - 1) + 65536) (2 ^ 64 - 1)
   pub epoch : s.epoch ≡ min (ended.epoch + 1) (2 ^ 64 - 1)

@@ -6,7 +6,7 @@ ghost use Rattle.decl_core.specs.ObjectMap.{object_of};
 ghost use Rattle.word_core.specs.Words.{bare, line_of};
 ghost use Rattle.word_core.specs.Events.{Called};
 ghost use Rattle.live_core.specs.Text.{carried_words, client_words, kept_words, carried_text, clients_text, kept_text};
-ghost use Rattle.guest_core.specs.Bound.{bounded, bounded_in, guest_by, stays, IsLeast};
+ghost use Rattle.guest_core.specs.Bound.{bounded, bounded_guests, guest_by, stays, IsLeast};
 ghost use Rattle.guest_core.specs.Seats.{renewed};
 ghost use Rattle.live_core.specs.Fronts.{carried_as, carried_from, client_of, kept_as, kept_below, kept_of};
 ghost use Rattle.live_core.specs.Fronts.{TellsCalls, TellsPast, TellsRuns, TellsFront, IsPastOf, AddsFirst, IsNextBehind, IsNextFront};
@@ -501,7 +501,7 @@ impl Hosted {
     )
         requires { IsLeast (stays self.old.guests.guests) least }
         ensures { self.new ≡ record self.old {
-          guests = record (bounded_in self.old.guests) { seats = map renewed self.old.guests.seats };
+          guests = record (bounded_guests self.old.guests) { seats = map renewed self.old.guests.seats };
           past = past.items;
           carried = carried.items;
           base = base;
