@@ -154,7 +154,7 @@ was_first v x c clients mine own calls known same from is = record {
   there = known.by.there;
   same_name = known.named ∙ from.same_name;
   same_next = known.next ∙ sym from.next_is;
-  few = known.before + 1;
+  few = length calls;
   same_kept = known.kept_is ∙ same_calls c mine calls same ∙ ap kept_from (sym is) ∙ sym from.kept_is;
   client = c;
   among = record { place = 0; there = refl; is_named = from.same_name };

@@ -119,16 +119,9 @@ fn push_kept_of(
     // Called for its contract alone: it is a name.
     guest.name().as_bytes();
     let keys = guest.keys();
-    let kept = keys.kept();
-    let count = count_kept(kept, least);
-    push_kept_below(
-        alloc,
-        out,
-        object,
-        guest.session(),
-        keys.next(),
-        &kept[..count],
-    )?;
+    let count = count_kept(keys.kept(), least);
+    let (kept, _) = keys.kept().split_at(count);
+    push_kept_below(alloc, out, object, guest.session(), keys.next(), kept)?;
     Ok(())
 }
 

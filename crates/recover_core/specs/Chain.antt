@@ -42,16 +42,16 @@ AreLinesFor client (k ∷ calls) kept =
     (others : List RememberedCall) × (last : RememberedCall) × (kept ≡ others ++ last ∷ []) × IsLineFor client (length others) k last
     × AreLinesFor client calls others
 
--- The client of this line was known, with this session and this next key. These of its calls are kept: its last one and so
--- many before it; all of them where the calls of all clients that were known have room.
+-- The client of this line was known, with this session and this next key. These of its calls are kept: the newest, and the
+-- last one among them; all of them where the calls of all clients that were known have room.
 pub record IsKnown (v : Guests) (c : NamedClient) (kept : List RememberedCall) : Type 0 where
   pub place : ℕ
   pub guest : Guest
   pub by : IsNamed v c.session place guest
   pub named : guest.name ≡ c.name
   pub next : guest.keys.next ≡ c.keys + 1
-  pub before : ℕ
-  pub kept_is : take (before + 1) guest.keys.kept ≡ kept
+  pub kept_is : take (length kept) guest.keys.kept ≡ kept
+  pub last : kept ≡ [] → guest.keys.kept ≡ []
   pub all : stays v.guests 0 ≡ true → guest.keys.kept ≡ kept
 
 -- so were all clients, each with its kept lines, which stand in the order of the clients

@@ -1,6 +1,6 @@
 //! Whether an epoch may follow another one.
 
-ghost use Rattle.std.specs.Prelude.{◌≡◌, [], ◌+◌, ◌≤◌, ◌∷◌, ◌↔◌, length, take, ℕ, true, IsTrue, IfOk, IfSome, MatchOption};
+ghost use Rattle.std.specs.Prelude.{◌≡◌, [], ◌+◌, ◌≤◌, ◌∷◌, ◌↔◌, length, take, true, IsTrue, IfOk, IfSome, MatchOption};
 ghost use Rattle.guest_core.specs.Bound.{stays};
 ghost use Rattle.decl_core.specs.ObjectMap.{object_of};
 ghost use Rattle.live_core.specs.Front.{opening_of};
@@ -172,19 +172,25 @@ fn is_none(kept: &[RememberedCall]) -> bool
     kept.is_empty()
 }
 
-// The last of these calls, of which a front has so many. `None`: it lacks the last one, or has more; or it has not all,
+// The newest of these calls, of which a front has so many. `None`: it lacks the last one, or has more; or it has not all,
 // where it has to.
+#[tactic(auto, using(crate::proofs::Chaining::all_are_newest, crate::proofs::Chaining::first_are_newest, crate::proofs::Chaining::last_is_first))]
 fn newest(kept: &[RememberedCall], count: usize, has_all: bool) -> Option<&[RememberedCall]>
-    ensures last { IfSome result (λ few. (n : ℕ) × (take (n + 1) kept.now ≡ few.now)) }
+    ensures newest { IfSome result (λ few. take (length few.now) kept.now ≡ few.now) }
+    ensures last { IfSome result (λ few. few.now ≡ [] → kept.now ≡ []) }
     ensures all { IfSome result (λ few. has_all ≡ true → kept.now ≡ few.now) }
 {
-    if count > kept.len() || (has_all && count < kept.len()) {
+    if count == kept.len() {
+        return Some(kept);
+    }
+    if has_all {
         return None;
     }
-    if count == 0 && !kept.is_empty() {
+    if count == 0 || count > kept.len() {
         return None;
     }
-    Some(&kept[..count])
+    let (few, _) = kept.split_at(count);
+    Some(few)
 }
 
 // Whether a client was known before, with its session and key; then these of its calls are kept, of which a front has so
