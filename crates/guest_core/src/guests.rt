@@ -5,6 +5,7 @@ ghost use Rattle.std.specs.Prelude.{slice_get, length, OnOk, OnErr, true, false}
 ghost use Rattle.guest_core.specs.declared.guest.Guest.{Guest as AGuest};
 ghost use Rattle.guest_core.specs.declared.keys.Judged.TheVariants.{BadKey as IsBadKey};
 ghost use Rattle.guest_core.specs.declared.seats.SeatHolder.TheVariants.{Free as AFree, Nameless as ANameless};
+ghost use Rattle.guest_core.specs.Bound.{bounded_guests, stays, IsLeast};
 ghost use Rattle.guest_core.specs.Entering.{Enters, Admits, Leaves};
 ghost use Rattle.guest_core.specs.Guests.{IsNamed, HasNoName, IsAt, IsUnknown, SomebodyHas, with_keys, with_seat};
 ghost use Rattle.guest_core.specs.Guests.{with_guest, with_other, guest_of};
@@ -458,6 +459,17 @@ impl Guests {
         ensures { self.new ≡ record self.old { seats = map renewed self.old.seats } }
     {
         self.seats.renew();
+    }
+
+    /// An epoch begins: of each client its last call is known, and those before it from this number on ([`least_kept`]). It
+    /// takes no memory.
+    ///
+    /// [`least_kept`]: crate::bound::least_kept
+    pub fn keep(&mut self, least: Option<u64>)
+        requires { IsLeast (stays self.old.guests) least }
+        ensures { self.new ≡ bounded_guests self.old }
+    {
+        self.roll.keep(least);
     }
 
     /// The clients that have names, in the order of their places.

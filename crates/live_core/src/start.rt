@@ -7,6 +7,7 @@ use crate::call::Limits;
 use crate::hosted::{Hosted, HostedStart};
 use crate::live::Live;
 use decl_core::object::Object;
+use guest_core::bound::least_kept;
 use guest_core::guests::Guests;
 use path_count::counters::Counters;
 use path_count::finder::short_past;
@@ -37,8 +38,8 @@ pub struct EndedEpoch {
     pub guests: Guests,
 }
 
-/// Begins the next epoch of an object that was served before: nothing waits, and the first number that is told is
-/// greater than each that was. `source` is what the declaration of the object gives.
+/// Begins the next epoch of an object that was served before: nothing waits, the calls of names are known with which an
+/// epoch begins, and the first number that is told is greater than each that was. `source` is what the declaration of the object gives.
 ///
 /// `None`: no short past was found that leaves what the paths have counted, or a value is not of its part's kind. The
 /// error is that memory was refused.
@@ -68,6 +69,8 @@ pub fn begin_again(
     let Some(live) = found else {
         return Ok(None);
     };
+    let least = least_kept(alloc, guests.guests())?;
+    guests.keep(least);
     guests.renew();
     let begun = HostedStart {
         live,

@@ -1,11 +1,12 @@
 -- When an epoch may follow another one.
-use Rattle.std.specs.Prelude.{◌≡◌, ◌≢◌, ℕ, ◌+◌, ◌≤◌, List, [], ◌∷◌, ◌++◌, length}
+use Rattle.std.specs.Prelude.{◌≡◌, ◌≢◌, ℕ, ◌+◌, ◌≤◌, List, [], ◌∷◌, ◌++◌, length, take, true}
 use Rattle.decl_core.specs.ObjectForm.{ObjectForm}
 use Rattle.path_count.specs.Found.{LeavesSame}
 use Rattle.live_core.specs.declared.front.NamedClient.{NamedClient}
 use Rattle.live_core.specs.declared.front.KeptCall.{KeptCall}
 use Rattle.live_core.specs.Front.{Opening}
 use Rattle.live_core.specs.Past.{events_in}
+use Rattle.guest_core.specs.Bound.{stays}
 use Rattle.guest_core.specs.declared.guest.Guest.{Guest}
 use Rattle.guest_core.specs.declared.kept.RememberedCall.{RememberedCall}
 use Rattle.guest_core.specs.Guests.{Guests, IsNamed}
@@ -41,14 +42,17 @@ AreLinesFor client (k ∷ calls) kept =
     (others : List RememberedCall) × (last : RememberedCall) × (kept ≡ others ++ last ∷ []) × IsLineFor client (length others) k last
     × AreLinesFor client calls others
 
--- the client of this line was known, with this session and this next key; these of its calls are kept
+-- The client of this line was known, with this session and this next key. These of its calls are kept: the newest, and the
+-- last one among them; all of them where the calls of all clients that were known have room.
 pub record IsKnown (v : Guests) (c : NamedClient) (kept : List RememberedCall) : Type 0 where
   pub place : ℕ
   pub guest : Guest
   pub by : IsNamed v c.session place guest
   pub named : guest.name ≡ c.name
   pub next : guest.keys.next ≡ c.keys + 1
-  pub kept_is : guest.keys.kept ≡ kept
+  pub kept_is : take (length kept) guest.keys.kept ≡ kept
+  pub last : kept ≡ [] → guest.keys.kept ≡ []
+  pub all : stays v.guests 0 ≡ true → guest.keys.kept ≡ kept
 
 -- so were all clients, each with its kept lines, which stand in the order of the clients
 abbrev pub AreKnown : Guests → List NamedClient → List KeptCall → Type 0
