@@ -8,4 +8,5 @@
 mod checked;
 mod format;
 pub mod recover;
+pub mod room;
 pub mod taken;
