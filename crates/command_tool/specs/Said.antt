@@ -1,8 +1,6 @@
 -- What is said of the objects of a folder.
-use Rattle.std.specs.Prelude.{◌≡◌, ◌≢◌, ◌⊎◌, ℕ, Bool, true, false, ◌&&◌, List, [], ◌∷◌, ◌++◌, length, codes, decimal}
+use Rattle.std.specs.Prelude.{◌≡◌, ◌⊎◌, ℕ, Bool, true, false, ◌&&◌, List, [], ◌∷◌, ◌++◌, codes, decimal}
 use Rattle.decl_core.specs.ObjectForm.{ObjectForm}
-use Rattle.taken_core.specs.Room.{LacksRoom}
-use Rattle.taken_core.specs.declared.taken.TakenFile.{TakenFile}
 use Rattle.taken_core.specs.declared.taken.TakeFault.{TakeFault}
 use Rattle.taken_core.specs.declared.taken.TakeFault.TheVariants.{Line, Format, Behind}
 use Rattle.recover_core.specs.Epochs.{AreEpochs}
@@ -28,17 +26,6 @@ untaken_words file fault = codes " " ++ (file ++ why_words fault)
 -- a file was cut off behind this line
 abbrev pub cut_words : List ℕ → ℕ → List ℕ
 cut_words file line = codes " " ++ (file ++ (codes " line " ++ (decimal line ++ codes ": the file ends behind it\n")))
-
--- behind its front a journal has room for so many bytes of lines
-abbrev pub most_lines : ℕ
-most_lines = 8388608
-
--- The file of an epoch that was taken was cut off: it checks itself, and ends before its room does. That of an epoch which
--- has ended may have just its lines, and no room.
-pub record IsCutOff (file : List ℕ) (found : TakenFile) (has_ended : Bool) : Type 0 where
-  pub checks : found.format ≢ 1
-  pub lacks : LacksRoom file most_lines
-  pub more : (has_ended ≡ true) × (found.size ≡ length file) → ⊥
 
 -- behind that of another one: it has no journal, or why a file of it is not taken, or that it was cut off, or one of its
 -- epochs is refused

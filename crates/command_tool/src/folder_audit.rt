@@ -1,9 +1,8 @@
 //! The epochs of objects, from the files of a folder.
 
-ghost use Rattle.std.specs.Prelude.{◌≡◌, ◌++◌, List, ℕ, true, length, IfOk, MatchOption};
+ghost use Rattle.std.specs.Prelude.{◌≡◌, ◌++◌, List, ℕ, IfOk, MatchOption};
 ghost use Rattle.decl_core.specs.ObjectMap.{object_of, objects_of};
-ghost use Rattle.taken_core.specs.TakeFile.{Tests};
-ghost use Rattle.command_tool.specs.Said.{Adds, AddsAll, GoesOn, Hears, AreTold, IsCutOff, TellsFault};
+ghost use Rattle.command_tool.specs.Said.{Adds, AddsAll, GoesOn, Hears, AreTold, TellsFault};
 
 use crate::files::{FolderFault, bytes_of, first_of, journal_of, trace_of};
 use crate::untaken::{push_cut, push_untaken};
@@ -19,7 +18,7 @@ use recover_core::text::{HeldFront, cut_held, read_held};
 use std::alloc::{AllocError, Global};
 use std::rt::Files;
 use std::str;
-use taken_core::room::lacks_room;
+use taken_core::room::is_cut_off;
 use taken_core::taken::{TakenFile, line_in_file, take_file};
 use value_core::reply::push_number;
 
@@ -175,35 +174,6 @@ fn hear_text(
     }
 }
 
-// Whether the file of an epoch that has ended has the bytes of its lines, and no room.
-fn is_bare(file: &[u8], found: &TakenFile, has_ended: bool) -> bool
-    ensures { Tests result ((has_ended ≡ true) × (found.now.size ≡ length file.now)) }
-{
-    if !has_ended {
-        return false;
-    }
-    if found.size == file.len() {
-        return true;
-    }
-    false
-}
-
-// Whether the file of an epoch, which is taken, was cut off.
-fn is_cut_off(file: &[u8], found: &TakenFile, has_ended: bool) -> bool
-    ensures { Tests result (IsCutOff file.now found.now has_ended) }
-{
-    if found.format == 1 {
-        return false;
-    }
-    if is_bare(file, found, has_ended) {
-        return false;
-    }
-    if lacks_room(file, MOST_LINES) {
-        return true;
-    }
-    false
-}
-
 // The file of an epoch, taken. `None`: it is not taken, or was cut off, and that is said.
 fn taken(
     alloc: Global,
@@ -217,7 +187,7 @@ fn taken(
 {
     match take_file(alloc, file, false)? {
         Ok(found) => {
-            if is_cut_off(file, &found, has_ended) {
+            if is_cut_off(file, &found, has_ended, MOST_LINES) {
                 let (lines, _) = parts_at(file, found.size);
                 push_cut(&mut said.lines, name.as_bytes(), line_ends(lines))?;
                 return Ok(None);

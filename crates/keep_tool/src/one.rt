@@ -30,7 +30,7 @@ use mio_core::traces::epoch_of;
 use recover_core::changed::source_in;
 use recover_core::recover::RecoverFault;
 use std::io::Write;
-use taken_core::room::lacks_room;
+use taken_core::room::is_cut_off;
 use taken_core::taken::{TakeFault, TakenFile, take_file};
 
 /// So many names an object knows before a new one takes the place of another.
@@ -128,7 +128,7 @@ fn begin_whole<L: Write>(
 ) -> Result<Begun, ToolFailure>
     ensures { IfErr result IsFault }
 {
-    if taken.format == 1 || !lacks_room(&bytes, ROOM) {
+    if !is_cut_off(&bytes, &taken, false, ROOM) {
         return begin_taken(place, object, name, text, rules, &taken, &bytes, None, log);
     }
     let line = count_lines(bytes.get(..taken.size).unwrap_or(&bytes));

@@ -1,13 +1,12 @@
--- How many bytes a front has, and whether a file has the room behind it.
-use Rattle.std.proofs.Common.{◌≡◌, ◌⊎◌, inl, inr, refl, ℕ, ◌+◌, ◌-◌, ◌*◌, ◌<◌, ◌≤◌, List, [], ◌∷◌, length, sym, ◌∙◌, ap, subst, arith, length-append}
+-- How many bytes a front has.
+use Rattle.std.proofs.Common.{◌≡◌, ◌⊎◌, inl, inr, refl, ℕ, ◌+◌, ◌-◌, ◌≤◌, List, [], ◌∷◌, length, sym, ◌∙◌, ap, arith, length-append}
 use Rattle.std.specs.Prelude.{true, false, cond}
-use Rattle.keep_loop.specs.Journal.{recovered}
 use Rattle.keep_loop.specs.Texts.{NoLineFeed}
 use Rattle.keep_loop.specs.Taken.{CutFirst, cut, onto, is_front_line}
 use Rattle.keep_loop.proofs.Lines.{bool_cases}
 use Rattle.keep_loop.proofs.Texts.{cut_on, IsOne}
 use Rattle.keep_loop.proofs.Taking.{quiet_of}
-use Rattle.taken_core.specs.Room.{front_size, check_room, LacksRoom}
+use Rattle.taken_core.specs.Room.{front_size}
 
 line_on : (line : List ℕ) (lines : List (List ℕ)) → is_front_line line ≡ false → front_size (line ∷ lines) ≡ length line + front_size lines
 line_on line lines is = ap (λ b. length line + cond b 0 (front_size lines)) is
@@ -51,12 +50,6 @@ size_more text rest line more c other few is =
     let size : length rest ≡ length line + length more = ap length c.is ∙ length-append line more in
     (omega (arith, size, few), omega (arith, here, size, few, is))
 
-pub less_left : (text rest line more : List ℕ) → CutFirst rest line more → length rest ≤ length text → length more ≤ length text
-less_left text rest line more c few = omega (arith, few, ap length c.is ∙ length-append line more)
-
-pub shorter_rest : (rest line more : List ℕ) → CutFirst rest line more → length more < length rest
-shorter_rest rest line more c = let some = c.some in omega (arith, some, ap length c.is ∙ length-append line more)
-
 -- up to the line that ends it, and where none does up to the end
 pub size_found : (text rest line more : List ℕ) → CutFirst rest line more → is_front_line line ≡ true → length rest ≤ length text → front_size (cut text) ≡ (length text - length rest) + front_size (cut rest) →
     length text - length more ≡ front_size (cut text)
@@ -67,28 +60,3 @@ size_found text rest line more c last few is =
 
 pub size_all : (text rest : List ℕ) → NoLineFeed rest → length rest ≤ length text → front_size (cut text) ≡ (length text - length rest) + front_size (cut rest) → length text ≡ front_size (cut text)
 size_all text rest none few is = omega (arith, rest_size rest none, few, is)
-
--- the room of a file behind its front
-room_numbers : (size front room checks : ℕ) → front ≤ size → size - front < room → size < (front + room) + checks
-room_numbers size front room checks few less = omega (arith, few, less)
-
-checks_numbers : (size front room checks : ℕ) → front ≤ size → (size - front) - room < checks → room ≤ size - front → size < (front + room) + checks
-checks_numbers size front room checks few less more = omega (arith, few, less, more)
-
-all_numbers : (size front room checks : ℕ) → front ≤ size → checks ≤ (size - front) - room → room ≤ size - front → size < (front + room) + checks → ⊥
-all_numbers size front room checks few less more lacks = omega (arith, few, less, more, lacks)
-
-pub lacks_lines : (file text : List ℕ) (front room : ℕ) → front ≡ front_size (cut text) → text ≡ recovered file → front ≤ length file → length file - front < room → LacksRoom file room
-lacks_lines file text front room is same few less =
-    let size : front ≡ front_size (cut (recovered file)) = is ∙ ap (λ (l : List ℕ). front_size (cut l)) same in
-    subst (λ n. length file < (n + room) + check_room) size (room_numbers (length file) front room check_room few less)
-
-pub lacks_checks : (file text : List ℕ) (front room : ℕ) → front ≡ front_size (cut text) → text ≡ recovered file → front ≤ length file → room ≤ length file - front → (length file - front) - room < check_room → LacksRoom file room
-lacks_checks file text front room is same few more less =
-    let size : front ≡ front_size (cut (recovered file)) = is ∙ ap (λ (l : List ℕ). front_size (cut l)) same in
-    subst (λ n. length file < (n + room) + check_room) size (checks_numbers (length file) front room check_room few less more)
-
-pub lacks_none : (file text : List ℕ) (front room : ℕ) → front ≡ front_size (cut text) → text ≡ recovered file → front ≤ length file → room ≤ length file - front → check_room ≤ (length file - front) - room → LacksRoom file room → ⊥
-lacks_none file text front room is same few more less lacks =
-    let size : front ≡ front_size (cut (recovered file)) = is ∙ ap (λ (l : List ℕ). front_size (cut l)) same in
-    all_numbers (length file) front room check_room few less more (subst (λ n. length file < (n + room) + check_room) (sym size) lacks)
