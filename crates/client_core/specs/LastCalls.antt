@@ -4,11 +4,14 @@ use Rattle.std.specs.Prelude.{take, length, map, flat_map, codes, decimal, slice
 use Rattle.std.specs.List.Sorted.{IsPermutation, IsNonDecreasingBy}
 use Rattle.path_tree.specs.Path.{Path}
 use Rattle.apply_core.specs.declared.reply.Reply.{Reply}
-use Rattle.apply_core.specs.declared.reply.Reply.TheVariants.{Done, Refused, Failed}
+use Rattle.apply_core.specs.declared.reply.Reply.TheVariants as replies
 use Rattle.decl_core.specs.ObjectForm.{ObjectForm}
 use Rattle.word_core.specs.Text.{failure_word}
 use Rattle.word_core.specs.Words.{Word, bare, line_of}
 use Rattle.word_core.specs.Data.{session_word}
+use Rattle.client_core.specs.declared.last.LastCall.{LastCall}
+use Rattle.client_core.specs.declared.last.LastEnd.{LastEnd}
+use Rattle.client_core.specs.declared.last.LastEnd.TheVariants as ends
 use Rattle.live_core.specs.declared.call.Ran.{Ran}
 use Rattle.live_core.specs.Scene.{Scene, told_of}
 use Rattle.stuck_core.specs.declared.reason.Lack.{Lack}
@@ -17,18 +20,11 @@ use Rattle.stuck_core.specs.Lacks.{Why}
 use Rattle.stuck_core.specs.Waits.{Place, waits}
 use Rattle.stuck_core.specs.Why.{name_word, path_line, why_line}
 
--- A call that ended: the number that was told of it, its session, its operation, and the words that tell how it ended.
-pub record LastCall : Type 0 where
-  pub number : ℕ
-  pub session : ℕ
-  pub operation : ℕ
-  pub how : List (List ℕ)
-
--- `done`, `refused WORD` or `failed WORD`; of the word by which a body refuses all letters, of which there are at most 16
-abbrev pub how_words : Reply → List (List ℕ)
-how_words (Done value) = codes "done" ∷ []
-how_words (Refused word) = codes "refused" ∷ take 16 word ∷ []
-how_words (Failed failure) = codes "failed" ∷ failure_word failure ∷ []
+-- how a call ended that replied this; of the word by which a body refuses all letters, of which there are at most 16
+abbrev pub last_end : Reply → LastEnd
+last_end (replies.Done value) = ends.Done
+last_end (replies.Refused word) = ends.Refused (take 16 word)
+last_end (replies.Failed failure) = ends.Failed failure
 
 -- a call of an object that ran
 abbrev pub last_call : Scene → Ran → LastCall
@@ -36,7 +32,7 @@ last_call object r = record {
   number = told_of object r.call.number;
   session = r.call.session;
   operation = r.call.operation;
-  how = how_words r.reply;
+  end = last_end r.reply;
 }
 
 -- a row of an operation, in which this call stands before those that were there: it has as many places as before
@@ -112,9 +108,15 @@ AreNodes o rows whys nodes = ⊥
 abbrev pub open_words : ObjectForm → LastCall → List Word
 open_words o c = bare (codes "open") ∷ bare (decimal c.number) ∷ session_word c.session ∷ name_word o c.operation ∷ []
 
--- `.. done`, `.. refused WORD` or `.. failed WORD`
+-- `done`, `refused WORD` or `failed WORD`
+abbrev pub end_words : LastEnd → List Word
+end_words ends.Done = bare (codes "done") ∷ []
+end_words (ends.Refused word) = bare (codes "refused") ∷ bare word ∷ []
+end_words (ends.Failed failure) = bare (codes "failed") ∷ bare (failure_word failure) ∷ []
+
+-- `open N sS OP done`, `.. refused WORD` or `.. failed WORD`
 abbrev pub open_line : ObjectForm → LastCall → List ℕ
-open_line o c = line_of (open_words o c ++ map bare c.how)
+open_line o c = line_of (open_words o c ++ end_words c.end)
 
 -- the line of a node, and the lines below it
 abbrev pub node_lines : ObjectForm → Why × List LastCall → List ℕ

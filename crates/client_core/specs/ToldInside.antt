@@ -11,7 +11,8 @@ use Rattle.client_core.specs.declared.ask.Sight.{Sight}
 use Rattle.client_core.specs.declared.ask.Sight.TheVariants as insides
 use Rattle.client_core.specs.declared.client.OpenObject.{OpenObject}
 use Rattle.client_core.specs.People.{Person, name_in, since_in, called_in}
-use Rattle.client_core.specs.LastCalls.{LastCall, AreNodes, open_text, rows_in}
+use Rattle.client_core.specs.declared.last.LastCall.{LastCall}
+use Rattle.client_core.specs.LastCalls.{AreNodes, open_text, rows_in}
 use Rattle.stuck_core.specs.Lacks.{Why}
 use Rattle.stuck_core.specs.Tells.{Tells}
 use Rattle.stuck_core.specs.declared.why.CallStatus.{CallStatus as CallState}

@@ -35,7 +35,7 @@ use Rattle.client_core.specs.Refusals.{refusal_text}
 use Rattle.client_core.specs.Asked.{IsRefused, OpensBare, OpensAs, Opens, Ends, AllEnd, Submits, IsUnheld, GetsNumber, Sits, Calls, Repeats, RepeatsUnder, IsTurnedAway, AnswersCall, LetsGo, AnswersCancel, AnswersInside, LeavesObject, Goes, Quits, Acts, Heeds, keyed_text}
 use Rattle.client_core.specs.Custody.{not_held_text}
 use Rattle.client_core.specs.Gone.{CallsFor, SeatsOne, Frees}
-use Rattle.client_core.specs.LastCalls.{LastCall}
+use Rattle.client_core.specs.declared.last.LastCall.{LastCall}
 use Rattle.client_core.specs.ToldInside.{Sees, IsWhy, state_by, form_at, object_in}
 use Rattle.client_core.proofs.Doing.{ends_keeps, all_end_keeps, follows_keeps}
 use Rattle.history_law.specs.Said.{Account, AllWent, SaysNoReply, IsTrue, Says}

@@ -5,7 +5,7 @@ use Rattle.decl_core.specs.ObjectMap.{object_of}
 use Rattle.live_core.specs.Scene.{Scene, is_given}
 use Rattle.client_core.specs.declared.ask.Sight.{Sight}
 use Rattle.client_core.specs.declared.ask.Sight.TheVariants as insides
-use Rattle.client_core.specs.LastCalls.{LastCall}
+use Rattle.client_core.specs.declared.last.LastCall.{LastCall}
 use Rattle.client_core.specs.ToldInside.{Sees, IsWhy, state_by, form_at, object_in}
 use Rattle.client_core.specs.State.{opened_at}
 use Rattle.history_law.specs.Said.{SaysNoReply}

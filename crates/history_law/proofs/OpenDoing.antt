@@ -42,7 +42,7 @@ use Rattle.client_core.specs.Custody.{not_held_text}
 use Rattle.client_core.specs.Deeds.{Texts, OnlyTold}
 use Rattle.client_core.specs.Held.{is_some}
 use Rattle.client_core.specs.State.{Peer, State, one_text, opened_at, opened_in, opening, session_by, told_to, who_in, waits_at, who_at, with_object}
-use Rattle.client_core.specs.LastCalls.{LastCall}
+use Rattle.client_core.specs.declared.last.LastCall.{LastCall}
 use Rattle.client_core.specs.ToldInside.{IsWhy, state_by}
 use Rattle.history_law.specs.Said.{Account}
 use Rattle.history_law.specs.Asked.{ClientHas, IsHere}

@@ -40,7 +40,7 @@ use Rattle.client_core.specs.Asked.{OpensBare, OpensAs, Opens, GetsNumber, Sits,
 use Rattle.client_core.specs.Custody.{not_held_text}
 use Rattle.client_core.specs.Deeds.{Texts, OnlyTold}
 use Rattle.client_core.specs.Gone.{SeatsOne, Frees}
-use Rattle.client_core.specs.LastCalls.{LastCall}
+use Rattle.client_core.specs.declared.last.LastCall.{LastCall}
 use Rattle.client_core.specs.ToldInside.{IsWhy, state_by, form_at, object_in}
 use Rattle.client_core.specs.State.{Peer, State, change, changed, counted, nobody, opened_at, opened_in, opening, session_by, told_to, who_at, who_in}
 use Rattle.history_law.proofs.Going.{at_one, both}

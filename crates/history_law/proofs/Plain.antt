@@ -7,7 +7,8 @@ use Rattle.decl_core.specs.ObjectForm.{ObjectForm}
 use Rattle.stuck_core.specs.Lacks.{Why}
 use Rattle.stuck_core.specs.declared.why.CallStatus.{CallStatus}
 use Rattle.stuck_core.specs.Why.{state_line}
-use Rattle.client_core.specs.LastCalls.{LastCall, open_text}
+use Rattle.client_core.specs.declared.last.LastCall.{LastCall}
+use Rattle.client_core.specs.LastCalls.{open_text}
 use Rattle.stuck_core.specs.Who.{Sitting, Refused as Waits}
 use Rattle.stuck_core.specs.List.{list_text}
 use Rattle.word_core.specs.Answers.{kept_line, cancelled_line, finished_line}

@@ -11,17 +11,14 @@ use Rattle.stuck_core.specs.declared.reason.Reason.{Reason}
 use Rattle.stuck_core.specs.Lacks.{Why}
 use Rattle.stuck_core.specs.ReasonViews.{why_of, whys_of}
 use Rattle.stuck_core.specs.Why.{path_line, why_line}
-use Rattle.client_core.specs.LastCalls.{LastCall, AreBelow, AreNodes, all_below, node_lines, open_line, open_text}
+use Rattle.client_core.specs.declared.last.LastCall.{LastCall}
+use Rattle.client_core.specs.LastCalls.{AreBelow, AreNodes, all_below, node_lines, open_line, open_text}
 use Rattle.inside_core.specs.LastRows.{no_calls, AddsNodes, AddsWhole}
 use Rattle.inside_core.proofs.Adding.{flat_map-append, added_then}
 
 row_more : {X : Type 0} (n : ℕ) (x : X) → replicate n x ++ x ∷ [] ≡ replicate (n + 1) x
 row_more zero x = refl
 row_more (suc n) x = let e : suc (n + 1) ≡ suc n + 1 = omega arith in ap (λ xs. x ∷ xs) (row_more n x) ∙ ap (λ k. replicate k x) e
-
--- one place more in which no call stands
-pub nones_row : (n : ℕ) (before after : List (Option LastCall)) → before ≡ replicate n None → after ≡ before ++ None ∷ [] → after ≡ replicate (n + 1) None
-nones_row n before after was is = is ∙ ap (λ l. l ++ None ∷ []) was ∙ row_more n None
 
 -- one row more of them
 pub nones_rows : (n : ℕ) (row : List (Option LastCall)) (before after : List (List (Option LastCall))) → row ≡ replicate 16 None → before ≡ no_calls n →

@@ -1,5 +1,5 @@
 -- The last calls that ended, as they are kept.
-use Rattle.std.specs.Prelude.{◌≡◌, ℕ, List, [], ◌∷◌, ◌++◌, ◌==◌, if◌then◌else◌, Option, None, take, flat_map, replicate, slice_get, codes}
+use Rattle.std.specs.Prelude.{◌≡◌, ℕ, List, ◌++◌, ◌==◌, if◌then◌else◌, Option, None, flat_map, replicate, slice_get}
 use Rattle.decl_core.specs.ObjectForm.{ObjectForm}
 use Rattle.decl_core.specs.ObjectMap.{object_of}
 use Rattle.decl_core.specs.declared.object.Object.{Object}
@@ -8,21 +8,8 @@ use Rattle.stuck_core.specs.ReasonViews.{whys_of}
 use Rattle.stuck_core.specs.Lacks.{Why}
 use Rattle.live_core.specs.declared.call.Ran.{Ran}
 use Rattle.live_core.specs.Scene.{Scene}
-use Rattle.word_core.specs.Text.{failure_word}
-use Rattle.client_core.specs.LastCalls.{LastCall, AreNodes, all_below, node_lines, open_text, rows_in, with_ran}
-use Rattle.inside_core.specs.declared.last_calls.Letters.{Letters}
-use Rattle.inside_core.specs.declared.last_calls.LastEnd.{LastEnd}
-use Rattle.inside_core.specs.declared.last_calls.LastEnd.TheVariants.{Done, Refused, Failed}
-
--- the letters are the front of their row
-abbrev pub letters_of : Letters → List ℕ
-letters_of l = take l.len l.row
-
--- how a call ended
-abbrev pub end_words : LastEnd → List (List ℕ)
-end_words Done = codes "done" ∷ []
-end_words (Refused letters) = codes "refused" ∷ letters_of letters ∷ []
-end_words (Failed failure) = codes "failed" ∷ failure_word failure ∷ []
+use Rattle.client_core.specs.declared.last.LastCall.{LastCall}
+use Rattle.client_core.specs.LastCalls.{AreNodes, all_below, node_lines, open_text, rows_in, with_ran}
 
 -- so many operations of which no call ended
 abbrev pub no_calls : ℕ → List (List (Option LastCall))

@@ -10,13 +10,15 @@ ghost use Rattle.stuck_core.specs.Places.{places_of};
 ghost use Rattle.stuck_core.specs.ReasonViews.{why_of, whys_of};
 ghost use Rattle.stuck_core.specs.Why.{name_word, needs_words, path_line, why_line};
 ghost use Rattle.stuck_core.specs.declared.reason.Lack.TheVariants as lacks;
-ghost use Rattle.client_core.specs.LastCalls.{LastCall, AreBelow, AreNewest, calls_in, filling, fills, is_at, open_line, row_fills};
+ghost use Rattle.client_core.specs.declared.last.LastCall.{LastCall};
+ghost use Rattle.client_core.specs.LastCalls.{AreBelow, AreNewest, calls_in, filling, fills, is_at, open_line, row_fills};
 ghost use Rattle.inside_core.specs.LastRows.{AddsNodes, AddsWhole};
 ghost use Rattle.live_core.specs.Hall.{Every};
 ghost use Rattle.live_core.specs.Scene.{is_given, told_of};
 ghost use Rattle.client_core.specs.ToldInside.{AreWhys, SaysState, SaysWhy, IsWhy, state_by};
 
-use crate::last_calls::{LastOfOperation, LastRow};
+use crate::last_calls::{LastOfOperation, push_last};
+use client_core::last::LastCall;
 use decl_core::object::Object;
 use live_core::call::LiveCall;
 use live_core::hosted::Hosted;
@@ -111,7 +113,7 @@ fn fills(
 }
 
 // Adds the calls that stand in a row.
-fn push_calls(calls: &mut Vec<LastRow>, row: &[Option<LastRow>]) -> Result<(), AllocError>
+fn push_calls(calls: &mut Vec<LastCall>, row: &[Option<LastCall>]) -> Result<(), AllocError>
     ensures { OnOk result (calls.new.items ≡ calls.old.items ++ calls_in row.now) }
 {
     match row {
@@ -129,24 +131,24 @@ fn row_fills(
     alloc: Global,
     path: Option<&PathTree>,
     node: usize,
-    row: &[Option<LastRow>],
+    row: &[Option<LastCall>],
 ) -> Result<bool, AllocError>
     ensures { IfOk result (λ is. is ≡ row_fills (option_map (λ p. p.now) path.entry) node row.now) }
 {
     match row {
         [] => Ok(false),
         [None, ..] => Ok(false),
-        [Some(call), ..] => fills(alloc, path, node, call.operation()),
+        [Some(call), ..] => fills(alloc, path, node, call.operation),
     }
 }
 
 // Adds the calls of a row, where a node of a path is full of them.
 fn push_row(
     alloc: Global,
-    calls: &mut Vec<LastRow>,
+    calls: &mut Vec<LastCall>,
     path: Option<&PathTree>,
     node: usize,
-    row: &[Option<LastRow>],
+    row: &[Option<LastCall>],
 ) -> Result<(), AllocError>
     ensures { OnOk result (calls.new.items ≡ calls.old.items
         ++ (if row_fills (option_map (λ p. p.now) path.entry) node row.now then calls_in row.now else [])) }
@@ -160,7 +162,7 @@ fn push_row(
 // Adds the calls of all rows of which a node of a path is full.
 fn push_filling(
     alloc: Global,
-    calls: &mut Vec<LastRow>,
+    calls: &mut Vec<LastCall>,
     path: Option<&PathTree>,
     node: usize,
     rows: &[LastOfOperation],
@@ -178,15 +180,15 @@ fn push_filling(
 }
 
 // Puts calls by their numbers, the greatest first.
-fn sort(all: &mut [LastRow])
+fn sort(all: &mut [LastCall])
     ensures same { IsPermutation all.old all.new }
     ensures falling { IsNonDecreasingBy (λ (c : LastCall). 2 ^ 64 - 1 - c.number) all.new }
 {
-    all.sort_unstable_by_key(|call| u64::MAX - call.number());
+    all.sort_unstable_by_key(|call| u64::MAX - call.number);
 }
 
 // The first 16 of them.
-fn newest(all: &[LastRow]) -> &[LastRow]
+fn newest(all: &[LastCall]) -> &[LastCall]
     ensures { result.now ≡ take 16 all.now }
 {
     if all.len() <= MOST_OPEN {
@@ -196,7 +198,7 @@ fn newest(all: &[LastRow]) -> &[LastRow]
 }
 
 // A copy of these.
-fn copied(alloc: Global, calls: &[LastRow]) -> Result<Vec<LastRow>, AllocError>
+fn copied(alloc: Global, calls: &[LastCall]) -> Result<Vec<LastCall>, AllocError>
     ensures { IfOk result (λ copies. copies.items ≡ calls.now) }
 {
     let copies = calls.to_vec(alloc)?;
@@ -204,7 +206,7 @@ fn copied(alloc: Global, calls: &[LastRow]) -> Result<Vec<LastRow>, AllocError>
 }
 
 // The newest 16 of calls.
-fn newest_of(alloc: Global, all: &mut [LastRow]) -> Result<Vec<LastRow>, AllocError>
+fn newest_of(alloc: Global, all: &mut [LastCall]) -> Result<Vec<LastCall>, AllocError>
     ensures { IfOk result (λ calls. AreNewest all.old calls.items) }
 {
     sort(all);
@@ -227,7 +229,7 @@ fn full_of(
     rows: &[LastOfOperation],
     path: usize,
     node: usize,
-) -> Result<Vec<LastRow>, AllocError>
+) -> Result<Vec<LastCall>, AllocError>
     ensures { IfOk result (λ calls. AreBelow (object_of object.now) rows.now path node lacks.Full calls.items) }
 {
     let mut all = Vec::new(alloc);
@@ -243,7 +245,7 @@ fn below(
     object: &Object,
     rows: &[LastOfOperation],
     reason: &Reason,
-) -> Result<Vec<LastRow>, AllocError>
+) -> Result<Vec<LastCall>, AllocError>
     ensures { IfOk result (λ calls. AreBelow (object_of object.now) rows.now reason.now.path reason.now.node
         reason.now.lack calls.items) }
 {
@@ -304,20 +306,20 @@ fn push_path(out: &mut Vec<u8>, object: &Object, reason: &Reason) -> Result<(), 
 }
 
 // Adds the lines of calls.
-fn push_open(out: &mut Vec<u8>, object: &Object, calls: &[LastRow]) -> Result<(), AllocError>
+fn push_open(out: &mut Vec<u8>, object: &Object, calls: &[LastCall]) -> Result<(), AllocError>
     ensures { OnOk result (out.new.items ≡ out.old.items ++ flat_map (open_line (object_of object.now)) calls.now) }
 {
     match calls {
         [] => Ok(()),
         [first, more @ ..] => {
-            first.push(out, object)?;
+            push_last(out, object, *first)?;
             push_open(out, object, more)
         }
     }
 }
 
 // Notes calls that are told.
-fn note_told(told: &mut Vec<LastRow>, calls: &[LastRow]) -> Result<(), AllocError>
+fn note_told(told: &mut Vec<LastCall>, calls: &[LastCall]) -> Result<(), AllocError>
     ensures { OnOk result (told.new.items ≡ told.old.items ++ calls.now) }
 {
     told.extend_from_slice(calls)?;
@@ -328,7 +330,7 @@ fn note_told(told: &mut Vec<LastRow>, calls: &[LastRow]) -> Result<(), AllocErro
 fn push_node(
     alloc: Global,
     out: &mut Vec<u8>,
-    told: &mut Vec<LastRow>,
+    told: &mut Vec<LastCall>,
     object: &Object,
     rows: &[LastOfOperation],
     reason: &Reason,
@@ -347,7 +349,7 @@ fn push_node(
 fn push_nodes(
     alloc: Global,
     out: &mut Vec<u8>,
-    told: &mut Vec<LastRow>,
+    told: &mut Vec<LastCall>,
     object: &Object,
     rows: &[LastOfOperation],
     reasons: &[Reason],
@@ -381,7 +383,7 @@ fn push_waiting(out: &mut Vec<u8>, number: u64, lines: u64) -> Result<(), AllocE
 }
 
 // How many lines these are.
-fn lines_of(reasons: &[Reason], calls: &[LastRow]) -> u64
+fn lines_of(reasons: &[Reason], calls: &[LastCall]) -> u64
     ensures { result ≡ length reasons.now + length calls.now }
 {
     reasons.len() as u64 + calls.len() as u64

@@ -17,7 +17,8 @@ use Rattle.client_core.specs.State.{State, opened_at}
 use Rattle.client_core.specs.Deeds.{Texts, OnlyTold}
 use Rattle.client_core.specs.Refusals.{IsRefusal}
 use Rattle.client_core.specs.Asked.{IsRefused, AnswersInside}
-use Rattle.client_core.specs.LastCalls.{LastCall, rows_in}
+use Rattle.client_core.specs.declared.last.LastCall.{LastCall}
+use Rattle.client_core.specs.LastCalls.{rows_in}
 use Rattle.client_core.specs.ToldInside.{Crowd, Known, IsWhy, IsWho, IsList, object_in}
 use Rattle.table_core.specs.Brings.{Brings}
 use Rattle.table_core.specs.Looks.{LooksOf}

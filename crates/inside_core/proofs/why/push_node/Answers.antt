@@ -2,7 +2,8 @@ use Rattle.std.proofs.Common.{◌∙◌, ap, List, ◌++◌}
 use Rattle.std.specs.Prelude.{flat_map}
 use Rattle.decl_core.specs.ObjectMap.{object_of}
 use Rattle.stuck_core.specs.ReasonViews.{why_of}
-use Rattle.client_core.specs.LastCalls.{LastCall, open_line}
+use Rattle.client_core.specs.declared.last.LastCall.{LastCall}
+use Rattle.client_core.specs.LastCalls.{open_line}
 use Rattle.inside_core.proofs.LastOnes.{one_node}
 use Rattle.inside_core.proofs.why.push_node.Goals as goal
 

@@ -1,6 +1,6 @@
 use Rattle.std.proofs.Common.{◌∙◌, ◌+◌, ap, List, ◌++◌, length}
 use Rattle.stuck_core.specs.Why.{why_line}
-use Rattle.client_core.specs.LastCalls.{LastCall}
+use Rattle.client_core.specs.declared.last.LastCall.{LastCall}
 use Rattle.inside_core.proofs.LastOnes.{told_whole}
 use Rattle.inside_core.proofs.why.push_reasons.Goals as goal
 

@@ -1,6 +1,7 @@
 use Rattle.std.proofs.Common.{List, subst}
 use Rattle.std.specs.Prelude.{IfOk, Option, slice_get}
-use Rattle.client_core.specs.LastCalls.{LastCall, rows_in}
+use Rattle.client_core.specs.declared.last.LastCall.{LastCall}
+use Rattle.client_core.specs.LastCalls.{rows_in}
 use Rattle.client_core.specs.ToldInside.{IsWhy}
 use Rattle.table_core.proofs.Placing.{at_place}
 use Rattle.table_core.proofs.Showing.{why_there}
