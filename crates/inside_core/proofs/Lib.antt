@@ -8,3 +8,4 @@ mod Looking
 mod Counting
 mod StatusAdding
 mod Awaiting
+mod Growing
