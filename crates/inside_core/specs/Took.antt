@@ -21,4 +21,4 @@ bucket_more nanos b = if nat_le nanos b.nanos then record b { count = next b.cou
 pub record TookMore (nanos : ℕ) (old new : Durations) : Type 0 where
   pub buckets : new.buckets.items ≡ map (bucket_more nanos) old.buckets.items
   pub count : new.count ≡ next old.count
-  pub nanos : new.nanos ≡ min (old.nanos + nanos) (2 ^ 64 - 1)
+  pub total : new.nanos ≡ min (old.nanos + nanos) (2 ^ 64 - 1)

@@ -214,12 +214,12 @@ impl NoCounts {
 }
 
 // Adds how many lines were answered by a word.
-fn push_word(out: &mut Vec<u8>, counts: NoCounts, word: NoWord) -> Result<(), AllocError>
-    ensures { OnOk result (out.new.items ≡ out.old.items ++ no_word_line counts word) }
+fn push_word(out: &mut Vec<u8>, counts: NoCounts, word: &NoWord) -> Result<(), AllocError>
+    ensures { OnOk result (out.new.items ≡ out.old.items ++ no_word_line counts word.now) }
 {
     out.extend_from_slice(b"pathserve_not_taken_total")?;
-    push_label(out, b"{word=\"", name_of_word(word))?;
-    push_sample(out, b"} ", counts.of(word))
+    push_label(out, b"{word=\"", name_of_word(*word))?;
+    push_sample(out, b"} ", counts.of(*word))
 }
 
 // The same of each of these words.
@@ -229,7 +229,7 @@ fn push_words(out: &mut Vec<u8>, counts: NoCounts, words: &[NoWord]) -> Result<(
     match words {
         [] => Ok(()),
         [first, more @ ..] => {
-            push_word(out, counts, *first)?;
+            push_word(out, counts, first)?;
             push_words(out, counts, more)
         }
     }
