@@ -53,23 +53,23 @@ no_counts = record {
 }
 
 -- how many were answered by a word
-abbrev pub count_of : NoWord → NoCounts → ℕ
-count_of words.BadLine n = n.bad_line
-count_of words.LineTooLong n = n.line_too_long
-count_of words.NotOpen n = n.not_open
-count_of words.Opened n = n.opened
-count_of words.NoObject n = n.no_object
-count_of words.InUse n = n.in_use
-count_of words.Full n = n.full
-count_of words.Gone n = n.gone
-count_of words.UnknownOp n = n.unknown_op
-count_of words.BadArgs n = n.bad_args
-count_of words.SessionBusy n = n.session_busy
-count_of words.HistoryFull n = n.history_full
-count_of words.Memory n = n.memory
-count_of words.BadKey n = n.bad_key
-count_of words.KeyReused n = n.key_reused
-count_of words.NotHeld n = n.not_held
+abbrev pub no_count : NoWord → NoCounts → ℕ
+no_count words.BadLine n = n.bad_line
+no_count words.LineTooLong n = n.line_too_long
+no_count words.NotOpen n = n.not_open
+no_count words.Opened n = n.opened
+no_count words.NoObject n = n.no_object
+no_count words.InUse n = n.in_use
+no_count words.Full n = n.full
+no_count words.Gone n = n.gone
+no_count words.UnknownOp n = n.unknown_op
+no_count words.BadArgs n = n.bad_args
+no_count words.SessionBusy n = n.session_busy
+no_count words.HistoryFull n = n.history_full
+no_count words.Memory n = n.memory
+no_count words.BadKey n = n.bad_key
+no_count words.KeyReused n = n.key_reused
+no_count words.NotHeld n = n.not_held
 
 -- one more was answered by this word, and by each other one as many as before
 abbrev pub one_no : NoWord → NoCounts → NoCounts
@@ -93,7 +93,7 @@ one_no words.NotHeld n = record n { not_held = next n.not_held }
 -- the metric of these counts: a line for each word
 abbrev pub no_word_line : NoCounts → NoWord → List ℕ
 no_word_line n word =
-    codes "pathserve_not_taken_total" ++ label_text (codes "{word=\"") (word_name word) ++ sample_text (codes "} ") (count_of word n)
+    codes "pathserve_not_taken_total" ++ label_text (codes "{word=\"") (word_name word) ++ sample_text (codes "} ") (no_count word n)
 
 abbrev pub no_words_text : NoCounts → List ℕ
 no_words_text n =

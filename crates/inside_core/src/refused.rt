@@ -1,7 +1,7 @@
 //! How many lines were answered by `no`, by the word behind it.
 
 ghost use Rattle.std.specs.Prelude.{◌≡◌, ◌++◌, flat_map, OnOk};
-ghost use Rattle.inside_core.specs.Words.{all_words, count_of, no_counts, no_word_line, no_words_text, one_no, word_name};
+ghost use Rattle.inside_core.specs.Words.{all_words, no_count, no_counts, no_word_line, no_words_text, one_no, word_name};
 
 use crate::metric::{MetricKind, push_head, push_label, push_sample};
 use std::alloc::AllocError;
@@ -190,7 +190,7 @@ impl NoCounts {
 
     // How many were answered by this word.
     fn of(self, word: NoWord) -> u64
-        ensures { result ≡ count_of word self }
+        ensures { result ≡ no_count word self }
     {
         match word {
             NoWord::BadLine => self.bad_line,

@@ -302,8 +302,8 @@ impl Post {
         self.time
     }
 
-    /// It is this time. The loop says so; it is for tests of what is served.
-    pub fn set_time(&mut self, time: u64)
+    // It is this time.
+    pub(crate) fn set_time(&mut self, time: u64)
         ensures tells { Tells self.old self.new [] [] }
         ensures time { self.new.time ≡ time }
     {

@@ -14,9 +14,9 @@ use Rattle.word_core.specs.Answers.{refused_line}
 use Rattle.client_core.specs.Refusals.{IsRefusal}
 use Rattle.inside_core.specs.Words.{word_name}
 use Rattle.inside_core.specs.declared.refused.NoWord.{NoWord}
-use Rattle.table_core.specs.Said.{fault_word, keyed_word, no_word, refusal_word}
+use Rattle.table_core.specs.Said.{word_of_fault, word_of_keyed, no_word, word_of_no}
 
-pub refusal_same : (r : LineRefusal) → refusal_name r ≡ word_name (refusal_word r)
+pub refusal_same : (r : LineRefusal) → refusal_name r ≡ word_name (word_of_no r)
 refusal_same refusals.BadLine = refl
 refusal_same refusals.LineTooLong = refl
 refusal_same refusals.NotOpen = refl
@@ -26,7 +26,7 @@ refusal_same refusals.InUse = refl
 refusal_same refusals.Full = refl
 refusal_same refusals.Gone = refl
 
-pub fault_same : (f : SubmitFault) → fault_name f ≡ word_name (fault_word f)
+pub fault_same : (f : SubmitFault) → fault_name f ≡ word_name (word_of_fault f)
 fault_same faults.Gone = refl
 fault_same faults.UnknownOp = refl
 fault_same faults.BadArgs = refl
@@ -35,7 +35,7 @@ fault_same faults.Full = refl
 fault_same faults.HistoryFull = refl
 fault_same faults.Memory = refl
 
-pub keyed_same : (f : KeyedFault) → keyed_name f ≡ word_name (keyed_word f)
+pub keyed_same : (f : KeyedFault) → keyed_name f ≡ word_name (word_of_keyed f)
 keyed_same keyed.Gone = refl
 keyed_same keyed.BadKey = refl
 keyed_same keyed.KeyReused = refl

@@ -13,36 +13,36 @@ use Rattle.inside_core.specs.declared.refused.NoWord.{NoWord}
 use Rattle.inside_core.specs.declared.refused.NoWord.TheVariants as words
 use Rattle.inside_core.specs.Words.{one_no}
 
-abbrev pub refusal_word : LineRefusal → NoWord
-refusal_word refusals.BadLine = words.BadLine
-refusal_word refusals.LineTooLong = words.LineTooLong
-refusal_word refusals.NotOpen = words.NotOpen
-refusal_word refusals.Opened = words.Opened
-refusal_word refusals.NoObject = words.NoObject
-refusal_word refusals.InUse = words.InUse
-refusal_word refusals.Full = words.Full
-refusal_word refusals.Gone = words.Gone
+abbrev pub word_of_no : LineRefusal → NoWord
+word_of_no refusals.BadLine = words.BadLine
+word_of_no refusals.LineTooLong = words.LineTooLong
+word_of_no refusals.NotOpen = words.NotOpen
+word_of_no refusals.Opened = words.Opened
+word_of_no refusals.NoObject = words.NoObject
+word_of_no refusals.InUse = words.InUse
+word_of_no refusals.Full = words.Full
+word_of_no refusals.Gone = words.Gone
 
-abbrev pub fault_word : SubmitFault → NoWord
-fault_word faults.Gone = words.Gone
-fault_word faults.UnknownOp = words.UnknownOp
-fault_word faults.BadArgs = words.BadArgs
-fault_word faults.SessionBusy = words.SessionBusy
-fault_word faults.Full = words.Full
-fault_word faults.HistoryFull = words.HistoryFull
-fault_word faults.Memory = words.Memory
+abbrev pub word_of_fault : SubmitFault → NoWord
+word_of_fault faults.Gone = words.Gone
+word_of_fault faults.UnknownOp = words.UnknownOp
+word_of_fault faults.BadArgs = words.BadArgs
+word_of_fault faults.SessionBusy = words.SessionBusy
+word_of_fault faults.Full = words.Full
+word_of_fault faults.HistoryFull = words.HistoryFull
+word_of_fault faults.Memory = words.Memory
 
-abbrev pub keyed_word : KeyedFault → NoWord
-keyed_word keyed.Gone = words.Gone
-keyed_word keyed.BadKey = words.BadKey
-keyed_word keyed.KeyReused = words.KeyReused
-keyed_word (keyed.Submit fault) = fault_word fault
+abbrev pub word_of_keyed : KeyedFault → NoWord
+word_of_keyed keyed.Gone = words.Gone
+word_of_keyed keyed.BadKey = words.BadKey
+word_of_keyed keyed.KeyReused = words.KeyReused
+word_of_keyed (keyed.Submit fault) = word_of_fault fault
 
 -- the word of a line, where it is a refusal
 abbrev pub no_word : ReplyLine → Option NoWord
-no_word (lines.Refused refusal) = Some (refusal_word refusal)
-no_word (lines.Unsubmitted fault) = Some (fault_word fault)
-no_word (lines.Unkeyed fault) = Some (keyed_word fault)
+no_word (lines.Refused refusal) = Some (word_of_no refusal)
+no_word (lines.Unsubmitted fault) = Some (word_of_fault fault)
+no_word (lines.Unkeyed fault) = Some (word_of_keyed fault)
 no_word (lines.Accepted n) = None
 no_word (lines.Kept n state) = None
 no_word (lines.Withdrawn n) = None

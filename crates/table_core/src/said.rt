@@ -5,14 +5,14 @@ ghost use Rattle.word_core.specs.Answers.{refused_line};
 ghost use Rattle.session_text.specs.Lines.{line_text};
 ghost use Rattle.client_core.specs.Refusals.{IsRefusal};
 ghost use Rattle.inside_core.specs.Words.{word_name};
-ghost use Rattle.table_core.specs.Said.{fault_word, keyed_word, no_word, refusal_word, said_more};
+ghost use Rattle.table_core.specs.Said.{word_of_fault, word_of_keyed, no_word, word_of_no, said_more};
 
 use guest_core::answer::{KeyedFault, SubmitFault};
 use inside_core::refused::{NoCounts, NoWord};
 use session_text::line::{LineRefusal, ReplyLine};
 
-fn refusal_word(refusal: LineRefusal) -> NoWord
-    ensures { result ≡ refusal_word refusal }
+fn word_of_no(refusal: LineRefusal) -> NoWord
+    ensures { result ≡ word_of_no refusal }
 {
     match refusal {
         LineRefusal::BadLine => NoWord::BadLine,
@@ -26,8 +26,8 @@ fn refusal_word(refusal: LineRefusal) -> NoWord
     }
 }
 
-fn fault_word(fault: SubmitFault) -> NoWord
-    ensures { result ≡ fault_word fault }
+fn word_of_fault(fault: SubmitFault) -> NoWord
+    ensures { result ≡ word_of_fault fault }
 {
     match fault {
         SubmitFault::Gone => NoWord::Gone,
@@ -40,14 +40,14 @@ fn fault_word(fault: SubmitFault) -> NoWord
     }
 }
 
-fn keyed_word(fault: KeyedFault) -> NoWord
-    ensures { result ≡ keyed_word fault }
+fn word_of_keyed(fault: KeyedFault) -> NoWord
+    ensures { result ≡ word_of_keyed fault }
 {
     match fault {
         KeyedFault::Gone => NoWord::Gone,
         KeyedFault::BadKey => NoWord::BadKey,
         KeyedFault::KeyReused => NoWord::KeyReused,
-        KeyedFault::Submit(fault) => fault_word(fault),
+        KeyedFault::Submit(fault) => word_of_fault(fault),
     }
 }
 
@@ -59,9 +59,9 @@ fn no_word(line: ReplyLine) -> Option<NoWord>
     ensures none { IfNone result (IsRefusal line → ⊥) }
 {
     match line {
-        ReplyLine::Refused(refusal) => Some(refusal_word(refusal)),
-        ReplyLine::Unsubmitted(fault) => Some(fault_word(fault)),
-        ReplyLine::Unkeyed(fault) => Some(keyed_word(fault)),
+        ReplyLine::Refused(refusal) => Some(word_of_no(refusal)),
+        ReplyLine::Unsubmitted(fault) => Some(word_of_fault(fault)),
+        ReplyLine::Unkeyed(fault) => Some(word_of_keyed(fault)),
         ReplyLine::Accepted(_) => None,
         ReplyLine::Kept(_, _) => None,
         ReplyLine::Withdrawn(_) => None,
