@@ -69,6 +69,8 @@ HEADS = {
     "pathserve_waiting": ("gauge", "Calls that wait now."),
     "pathserve_wait_seconds": ("gauge", "For how long the call waits that waits longest."),
     "pathserve_node": ("gauge", "What a node of a path has counted: what is open of a bound or a burst, or the ends that a semicolon has left."),
+    "pathserve_not_taken_total": ("counter", "Lines that were answered by no since the start, by the word behind it."),
+    "pathserve_call_duration_seconds": ("histogram", "How long it took from the line that takes a call to the line that ends it."),
 }
 SERVER = {
     "pathserve_up": 1, "pathserve_status_seconds": 1795871045, "pathserve_start_seconds": 1795863845, "pathserve_every_seconds": 2, "pathserve_connections": 17,
@@ -86,6 +88,13 @@ CALLS = {
 # Up to these seconds so many syncs took, and so many in all, with their sum.
 BOUNDS = ("0.0001", "0.0005", "0.001", "0.005", "0.01", "0.05", "0.1", "0.5", "1", "5", "10", "+Inf")
 SYNCS, SUM = (0, 3, 40, 3000, 3900, 4020, 4021, 4021, 4021, 4021, 4021, 4021), "12.000345678"
+# The same of the calls of each object.
+TOOK = {"job_queue": ((11000, 11000, 11400, 11900, 11950, 11960, 11970, 11980, 11985, 11990, 11991, 11993), "212.040000000"), "cell": ((0,) * 12, "0.000000000")}
+# How many lines were refused, by the word: all that a server answers behind `no`, in this order.
+WORDS = {
+    "BadLine": 2, "LineTooLong": 0, "NotOpen": 0, "Opened": 0, "NoObject": 0, "InUse": 0, "Full": 0, "Gone": 0, "UnknownOp": 5, "BadArgs": 1007, "SessionBusy": 0,
+    "HistoryFull": 0, "Memory": 0, "BadKey": 0, "KeyReused": 0, "NotHeld": 1,
+}
 # What the nodes of paths count: of a path, a node, and of a `;` its number.
 NODES = {("job_queue", 2, 0, 0): 3, ("job_queue", 2, 1, 1): 12, ("cell", 1, 0, 0): 1}
 OF_NOW = ("running", "waiting", "wait_seconds")
@@ -94,6 +103,7 @@ LABEL = 'server="kept"'
 ENDS = ("done", "refused", "failed")
 TABLE = """since 2026-11-28 11:04:05 UTC (2 h), told 1 s ago
 17 connections of 1,000, 18,201 in all; 12.3 MB of memory
+lines that were refused: 2 BadLine, 5 UnknownOp, 1,007 BadArgs, 1 NotHeld
 
 object     operation   done  refused  failed  a second  runs  waits
 job_queue  submit     6,000        1       0               0      0
@@ -113,7 +123,9 @@ SPOILT = [
     (f"pathserve_connections{{{LABEL}}} 17\n", f"pathserve_connections{{{LABEL}}} 17\n# TYPE pathserve_connections gauge\n"), ("pathserve_waiting{", "pathserve_running{"),
     (f'pathserve_wait_seconds{{{LABEL},object="cell",operation="get"}} 0\n', f'pathserve_wait_seconds{{{LABEL},object="cell",operation="get"}} 0'),
     ("# TYPE pathserve_epoch gauge", "# TYPE pathserve_epoch histogram"), (',le="5"', ',ge="5"'), ("_seconds_sum{", "_seconds_mean{"), (f" {SUM}", " 12,0"),
-    ("# HELP pathserve_epoch The number of the epoch.", "# HELP pathserve_epoch"),
+    ("# HELP pathserve_epoch The number of the epoch.", "# HELP pathserve_epoch"), (',le="5"', ',le="five"'), (',le="5"', ',le="0.5"'), (',le="+Inf"', ',le="Inf9"'),
+    (',object="cell",le="5"} 0\n', ',object="cell",le="5"} 1\n'), (',object="job_queue",le="0.001"} 11400', ',object="job_queue",le="0.001"} 10999'),
+    (',object="job_queue"} 11993', ',object="job_queue"} 11992'), (f'_seconds_sum{{{LABEL},object="cell"}} 0.000000000\n', ""), (',object="cell",le="+Inf"} 0', ',object="cell",le="+Inf"} x'),
 ]
 # So many texts are drawn for promtool.
 DRAWN = 40
@@ -131,8 +143,12 @@ def text_of(time: int = SERVER["pathserve_status_seconds"], calls: Mapping[tuple
             turns = {it: f',turn="{it}"' if it else "" for it in range(9)}
             found += [f'{name}{{{LABEL},object="{it}",path="{path}",node="{node}"{turns[turn]}}} {count}' for (it, path, node, turn), count in NODES.items()]
         elif kind == "histogram":
-            found += [f'{name}_bucket{{{LABEL},le="{bound}"}} {count}' for bound, count in zip(BOUNDS, SYNCS)]
-            found += [f"{name}_sum{{{LABEL}}} {SUM}", f"{name}_count{{{LABEL}}} {SYNCS[-1]}"]
+            took = {LABEL: (SYNCS, SUM)} if short.startswith("sync") else {f'{LABEL},object="{it}"': row for it, row in TOOK.items()}
+            for labels, (counts, total) in took.items():
+                found += [f'{name}_bucket{{{labels},le="{bound}"}} {count}' for bound, count in zip(BOUNDS, counts)]
+                found += [f"{name}_sum{{{labels}}} {total}", f"{name}_count{{{labels}}} {counts[-1]}"]
+        elif short == "not_taken_total":
+            found += [f'{name}{{{LABEL},word="{word}"}} {count}' for word, count in WORDS.items()]
         elif short in OF_OBJECT:
             found += [f'{name}{{{LABEL},object="{it}"}} {values[OF_OBJECT.index(short)]}' for it, values in OBJECTS.items()]
         elif short == "calls_total":
@@ -450,12 +466,16 @@ def numbers_are_those_of_the_clients(folder: pathlib.Path) -> None:
             is_synced = begun - 2 <= seen.of("sync_seconds", object=name) <= seen.time
             holds(1 <= seen.of("syncs_total", object=name) <= 8 and is_synced, f"the syncs of {name}")
         syncs_took(seen)
+        check([seen.number("call_duration_seconds_count", object=it) for it in ("cell", "buffer")], [6, 2], "how many calls took so long")
+        # (a call that ends in the round of its line took no time)
+        check([seen.number("call_duration_seconds_bucket", object="cell", le=it) for it in BOUNDS], [6] * 12, "how long the calls of cell took")
         seen = shows(server, {"wait_seconds": 2}, at_least=True, object="buffer", operation="get")
         check(seen.of("wait_seconds", object="buffer", operation="put"), 0, "the wait of another operation")
         waiting[1].close()
         shows(server, {"waiting": 1}, object="buffer", operation="get")
         bob.calls("put 'b'")
         seen = shows(server, {"waiting": 0}, object="buffer", operation="get")
+        calls_took(seen)
         names = ["sessions", "cancelled_total"]
         check([seen.of(n, object="buffer") for n in names], [3, 2], "behind the waiting ones")
         check(seen.of("wait_seconds", object="buffer", operation="get"), 0, "the wait behind the waiting ones")
@@ -482,6 +502,40 @@ def syncs_took(seen: status.Status) -> None:
     holds(counts == sorted(counts) and counts[-2] >= most - 1, f"the counts are {counts}")
     took = seen.number("sync_duration_seconds_sum")
     holds(0 < took < 60 and re.search(r"_sum\{[^}]*\} \d+\.\d{9}\n", seen.text), f"they took {took} s")
+
+
+def calls_took(seen: status.Status) -> None:
+    """A call that waited for two seconds took two at least; the three others of its object ended in the round of their lines."""
+    counts = [seen.of("call_duration_seconds_bucket", object="buffer", le=it) for it in BOUNDS]
+    most, took = seen.of("call_duration_seconds_count", object="buffer"), seen.number("call_duration_seconds_sum", object="buffer")
+    check((most, counts[:9], counts[-1]), (4, [3] * 9, 4), "how long the calls of buffer took")
+    holds(1.9 < took < 60 and counts == sorted(counts), f"they took {took} s: {counts}")
+
+
+def what_is_refused_is_counted(folder: pathlib.Path) -> None:
+    """Each line that is answered by `no` is counted under its word, and no other one is; another start counts from nothing."""
+    server = Server(folder, SOURCE, "--status", "1")
+    server.start()
+    seen = shows(server, {"up": 1})
+    check({it: seen.of("not_taken_total", word=it) for (it,) in seen.labels("not_taken_total", "word")}, dict.fromkeys(WORDS, 0), "the words at first")
+    check(list(dict.fromkeys(it for (it,) in seen.labels("not_taken_total", "word"))), list(WORDS), "the order of the words")
+    said = {"call set 1": "NotOpen", "open cells": "NoObject", "nothing": "BadLine", "open cell as ann": None, "call gets": "UnknownOp", "call set 'a'": "BadArgs",
+            "call set": "BadArgs", "call #2 get": "BadKey", "call #1 set 1": None, "call #1 set 2": "KeyReused", "open cell": "Opened"}
+    with Talk(server) as one:
+        for line, word in said.items():
+            one.say(line)
+            told = one.hear()
+            if word is None and told.startswith("accepted"):
+                told = one.hear()
+            holds(told.startswith(f"no {word}") if word else not told.startswith("no "), f"{line}: {told}")
+    wanted = dict.fromkeys(WORDS, 0)
+    for word in said.values():
+        if word:
+            wanted[word] += 1
+    shows(server, {"connections": 0, "connections_total": 1})
+    seen = there(found_in(server))
+    check({it: seen.of("not_taken_total", word=it) for it in WORDS}, wanted, "the words")
+    server.end()
 
 
 def has_ended(server: Server) -> None:
@@ -928,7 +982,7 @@ def what_is_asked_of_prometheus(folder: pathlib.Path) -> None:
 
 INSIDE = (who_is_inside, no_server_holds_up_the_page, what_is_said_is_escaped, many_sessions, nodes_are_those_of_check, what_is_asked_of_prometheus,
           what_it_imports_is_released)
-SERVED = (numbers_are_those_of_the_clients, what_is_held_is_told, a_status_that_cannot_be_written, what_a_label_has_to_escape,
+SERVED = (numbers_are_those_of_the_clients, what_is_refused_is_counted, what_is_held_is_told, a_status_that_cannot_be_written, what_a_label_has_to_escape,
           a_status_on_a_full_disk, a_log_of_json, a_log_of_text, a_new_epoch)
 
 

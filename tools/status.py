@@ -93,6 +93,34 @@ def metric_of(name: str, kinds: Mapping[str, str]) -> str:
     return name
 
 
+def fault_of_histogram(buckets: list[tuple[str, int | float]], count: int | float | None, total: int | float | None) -> str | None:
+    """What is wrong with the numbers of a histogram, if anything: its buckets, by their bounds, as they stand, how many there
+    are in all, and their sum."""
+    bounds = [float(bound) if NUMBER.fullmatch(bound) else math.nan for bound, _ in buckets]
+    counts = [found for _, found in buckets]
+    if not all(one < next_one for one, next_one in zip([-math.inf, *bounds], bounds)):
+        return "has bounds that do not rise"
+    if not all(one <= next_one for one, next_one in zip([0, *counts], counts)):
+        return "counts less up to a higher bound"
+    if not bounds or bounds[-1] != math.inf or count != counts[-1] or total is None:
+        return "does not say how many there are in all, or their sum"
+    return None
+
+
+def histograms(seen: Mapping[tuple[str, Labels], int | float], kinds: Mapping[str, str]) -> None:
+    """Refuses a histogram of which the numbers are wrong."""
+    found: dict[tuple[str, Labels], list[tuple[str, int | float]]] = {}
+    for (name, labels), value in seen.items():
+        metric = metric_of(name, kinds)
+        if kinds[metric] == "histogram":
+            rows = found.setdefault((metric, frozenset(it for it in labels if it[0] != "le")), [])
+            rows += [(bound, value) for key, bound in labels if key == "le"]
+    for (metric, labels), buckets in found.items():
+        why = fault_of_histogram(buckets, seen.get((f"{metric}_count", labels)), seen.get((f"{metric}_sum", labels)))
+        if why:
+            raise Unread(f"{metric} {why}")
+
+
 def samples_of(text: str) -> dict[tuple[str, Labels], int | float]:
     """The numbers of a text in the format of Prometheus, by their names and labels. Of each metric there are one HELP and
     one TYPE before its samples, which stand behind each other, none of them twice."""
@@ -128,6 +156,7 @@ def samples_of(text: str) -> dict[tuple[str, Labels], int | float]:
             seen[key] = value
             closed.add(metric)
             last = metric
+    histograms(seen, kinds)
     return seen
 
 
@@ -227,6 +256,9 @@ def head(status: Status, now: float) -> Iterator[str]:
     yield f"since {since} ({lasting(max(status.time - start, 0))}), told {lasting(status.age(now))} ago"
     most, total = status.of("connections_limit"), status.of("connections_total")
     yield f"{counted(status.of('connections'))} connections of {counted(most)}, {counted(total)} in all; {sized(status.of('memory_bytes'))} of memory"
+    words = [(status.of("not_taken_total", word=it), it) for (it,) in status.labels("not_taken_total", "word")]
+    if refused := ", ".join(f"{counted(count)} {word}" for count, word in words if count):
+        yield f"lines that were refused: {refused}"
     if status.stands(now):
         yield "THE SERVER IS GONE, OR STANDS STILL"
 

@@ -9,3 +9,4 @@ mod Looking
 mod Counting
 mod StatusAdding
 mod Awaiting
+mod Growing

@@ -31,8 +31,12 @@ sum_line label name nanos =
 abbrev pub amount_line : List ℕ → List ℕ → ℕ → List ℕ
 amount_line label name count = name ++ codes "_count" ++ server_labels label ++ sample_text (codes "} ") count
 
+-- how long things took, each line with this label
+abbrev pub durations_lines : List ℕ → List ℕ → Durations → List ℕ
+durations_lines label name d =
+    flat_map (bucket_text label name) d.buckets.items ++ bucket_line label name (codes "+Inf") d.count ++ sum_line label name d.nanos
+    ++ amount_line label name d.count
+
 -- a metric of how long things took, with the label of the server
 abbrev pub durations_text : List ℕ → List ℕ → List ℕ → Durations → List ℕ
-durations_text label name about d =
-    head name Histogram about ++ flat_map (bucket_text label name) d.buckets.items ++ bucket_line label name (codes "+Inf") d.count
-    ++ sum_line label name d.nanos ++ amount_line label name d.count
+durations_text label name about d = head name Histogram about ++ durations_lines label name d

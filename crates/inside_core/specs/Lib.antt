@@ -9,3 +9,6 @@ pub mod Durations
 pub mod Counted
 pub mod Server
 pub mod Objects
+pub mod Words
+pub mod Took
+pub mod Called

@@ -12,6 +12,9 @@ use Rattle.inside_core.specs.declared.numbers.SeenObject.{SeenObject}
 use Rattle.inside_core.specs.declared.numbers.OperationTally.{OperationTally}
 use Rattle.inside_core.specs.Objects.{objects_text}
 use Rattle.inside_core.specs.Counted.{nodes_text}
+use Rattle.inside_core.specs.Words.{no_words_text}
+use Rattle.inside_core.specs.Called.{times_text}
+use Rattle.inside_core.specs.declared.answers.AnswerCounts.{AnswerCounts}
 use Rattle.inside_core.specs.Laws.{sum_of}
 use Rattle.inside_core.specs.Tallies.{ends_of, taken_of}
 use Rattle.inside_core.specs.declared.tallies.CallEnds.{CallEnds}
@@ -102,10 +105,14 @@ ShowsAll objects tallies clients custody now k [] = Unit {0}
 ShowsAll objects tallies clients custody now k (s ∷ all) =
     ShowsAt objects tallies clients custody now k s × ShowsAll objects tallies clients custody now (k + 1) all
 
--- a text tells of all these objects, in order, and what the nodes of their paths have counted
-pub record IsStatus (objects : List Scene) (tallies : List ObjectTally) (clients : ClientPlaces) (custody : Custodies) (now : ℕ)
-    (text : List ℕ) : Type 0 where
+-- what was answered to lines, and how long the calls of these objects took
+abbrev pub answers_text : List Scene → AnswerCounts → List ℕ
+answers_text objects answers = no_words_text answers.words ++ times_text objects answers.times.objects.items
+
+-- a text tells of all these objects, in order, what the nodes of their paths have counted, and what was answered
+pub record IsStatus (objects : List Scene) (tallies : List ObjectTally) (answers : AnswerCounts) (clients : ClientPlaces)
+    (custody : Custodies) (now : ℕ) (text : List ℕ) : Type 0 where
   pub all : List SeenObject
   pub shows : ShowsAll objects tallies clients custody now 0 all
   pub count : length all ≡ length objects
-  pub text_is : text ≡ objects_text all ++ nodes_text objects
+  pub text_is : text ≡ objects_text all ++ nodes_text objects ++ answers_text objects answers

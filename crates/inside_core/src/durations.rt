@@ -1,7 +1,7 @@
 //! How long things took, as a histogram.
 
 ghost use Rattle.std.specs.Prelude.{◌≡◌, ◌++◌, flat_map, OnOk};
-ghost use Rattle.inside_core.specs.Durations.{bucket_line, bucket_text, amount_line, durations_text, seconds_text, sum_line, last_three};
+ghost use Rattle.inside_core.specs.Durations.{bucket_line, bucket_text, amount_line, durations_lines, durations_text, seconds_text, sum_line, last_three};
 
 use crate::metric::{MetricKind, push_head, push_label, push_sample, push_server};
 use crate::numbers::{Bucket, Durations};
@@ -101,6 +101,21 @@ fn push_count(out: &mut Vec<u8>, label: &[u8], name: &[u8], count: u64) -> Resul
     push_sample(out, b"} ", count)
 }
 
+// Adds how long things took, each line with this label.
+pub(crate) fn push_lines(
+    out: &mut Vec<u8>,
+    label: &[u8],
+    name: &[u8],
+    durations: &Durations,
+) -> Result<(), AllocError>
+    ensures { OnOk result (out.new.items ≡ out.old.items ++ durations_lines label.now name.now durations.now) }
+{
+    push_buckets(out, label, name, &durations.buckets)?;
+    push_within(out, label, name, b"+Inf", durations.count)?;
+    push_sum(out, label, name, durations.nanos)?;
+    push_count(out, label, name, durations.count)
+}
+
 // Adds a metric of how long things took, with the label of the server.
 pub(crate) fn push_durations(
     out: &mut Vec<u8>,
@@ -112,8 +127,5 @@ pub(crate) fn push_durations(
     ensures { OnOk result (out.new.items ≡ out.old.items ++ durations_text label.now name.now about.now durations.now) }
 {
     push_head(out, name, MetricKind::Histogram, about)?;
-    push_buckets(out, label, name, &durations.buckets)?;
-    push_within(out, label, name, b"+Inf", durations.count)?;
-    push_sum(out, label, name, durations.nanos)?;
-    push_count(out, label, name, durations.count)
+    push_lines(out, label, name, durations)
 }

@@ -17,6 +17,8 @@
 //! shown to more people than the values.
 #![tactic(auto)]
 
+pub mod answers;
+pub mod called;
 mod counted;
 mod durations;
 mod held;
@@ -29,7 +31,9 @@ pub mod look;
 mod metric;
 pub mod numbers;
 pub mod objects;
+pub mod refused;
 pub mod server;
 pub mod tallies;
+pub mod took;
 pub mod who;
 pub mod why;

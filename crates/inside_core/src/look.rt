@@ -13,6 +13,7 @@ ghost use Rattle.inside_core.specs.Adds.{crowd_of};
 ghost use Rattle.inside_core.specs.Looks.{waiting_of, told_ends, left_of, crowd_at, IsTally, AreTallies, Shows};
 ghost use Rattle.inside_core.specs.Looks.{ShowsAt, ShowsAll, IsStatus};
 
+use crate::answers::{AnswerCounts, push_answers};
 use crate::counted::push_nodes;
 use crate::longest::longest_wait;
 use crate::numbers::{EndCounts, OperationTally, SeenObject};
@@ -290,20 +291,22 @@ fn seen_in(
 }
 
 /// Puts a status in place of what is in `out`: the text of what is told of all objects, of their connections, of the counts
-/// of their calls, of what is held, and of what their paths have counted, in this second. The error is that memory was refused.
+/// of their calls, of what is held, of what their paths have counted, and of what was answered, in this second. The error is that memory was refused.
 pub fn write_look(
     alloc: Global,
     objects: &[Hosted],
     tallies: &Tallies,
+    answers: &AnswerCounts,
     clients: &ClientPlaces,
     custody: &AllHeld,
     second: u64,
     out: &mut Vec<u8>,
 ) -> Result<(), AllocError>
-    ensures { OnOk result (IsStatus objects.now tallies.now.objects.items clients.now (custodies_of custody.now) second out.new.items) }
+    ensures { OnOk result (IsStatus objects.now tallies.now.objects.items answers.now clients.now (custodies_of custody.now) second out.new.items) }
 {
     let seen = seen_in(alloc, objects, tallies, clients, custody, second)?;
     out.clear();
     push_objects(out, &seen)?;
-    push_nodes(out, objects)
+    push_nodes(out, objects)?;
+    push_answers(alloc, out, objects, answers)
 }

@@ -152,6 +152,10 @@ impl<W: Outside + Caused, R: Clock, E: Write> Outside for Logged<W, R, E> {
         self.inner.tick()
     }
 
+    fn nanos(&self) -> u64 {
+        self.inner.nanos()
+    }
+
     fn ends(&mut self) -> bool {
         self.inner.ends()
     }

@@ -6,8 +6,9 @@ ghost use Rattle.inside_core.specs.Server.{outside_text};
 
 use crate::sink::Sink;
 use inside_core::labels::{push_labelled, server_label};
-use inside_core::numbers::{Bucket, Durations, Server, Stored};
+use inside_core::numbers::{Durations, Server, Stored};
 use inside_core::server::push_server;
+use inside_core::took::{no_durations, note_took};
 use keep_loop::{Fault, Outside, ReadEnd, Visible};
 use std::alloc::{AllocError, Global};
 
@@ -32,56 +33,6 @@ pub struct Showing<W, K> {
     // What the object told, and the text of a status.
     told: Vec<u8>,
     text: Vec<u8>,
-}
-
-// The bounds of durations that are told: in seconds, and in nanoseconds.
-const BOUNDS: [(&str, u64); 11] = [
-    ("0.0001", 100_000),
-    ("0.0005", 500_000),
-    ("0.001", 1_000_000),
-    ("0.005", 5_000_000),
-    ("0.01", 10_000_000),
-    ("0.05", 50_000_000),
-    ("0.1", 100_000_000),
-    ("0.5", 500_000_000),
-    ("1", 1_000_000_000),
-    ("5", 5_000_000_000),
-    ("10", 10_000_000_000),
-];
-
-// Durations of nothing.
-fn no_durations(alloc: Global) -> Result<Durations, AllocError> {
-    let mut buckets = Vec::with_capacity(alloc, BOUNDS.len())?;
-    for (seconds, nanos) in BOUNDS {
-        buckets.push(Bucket {
-            seconds: seconds.as_bytes().to_vec(alloc)?,
-            nanos,
-            count: 0,
-        })?;
-    }
-    Ok(Durations {
-        buckets,
-        count: 0,
-        nanos: 0,
-    })
-}
-
-// One thing more took so many nanoseconds: it is counted where that is no more than the bound.
-fn grow_bucket(bucket: &mut Bucket, nanos: u64) {
-    if nanos <= bucket.nanos {
-        bucket.count = bucket.count.saturating_add(1);
-    }
-}
-
-// One thing more took so many nanoseconds.
-fn note_took(durations: &mut Durations, nanos: u64) {
-    for place in 0..durations.buckets.len() {
-        if let Some(bucket) = durations.buckets.get_mut(place) {
-            grow_bucket(bucket, nanos);
-        }
-    }
-    durations.count = durations.count.saturating_add(1);
-    durations.nanos = durations.nanos.saturating_add(nanos);
 }
 
 // No epoch of the journal at a place could begin.
@@ -315,6 +266,10 @@ impl<W: Outside, K: Sink> Outside for Showing<W, K> {
             self.second = second;
         }
         time
+    }
+
+    fn nanos(&self) -> u64 {
+        self.inner.nanos()
     }
 
     fn ends(&mut self) -> bool {

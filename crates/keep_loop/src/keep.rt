@@ -151,6 +151,14 @@ impl<O: Served> Keep<O> {
         self.has_freed = false;
     }
 
+    // A round begins at this time.
+    pub(crate) fn begins(&mut self, time: u64)
+        ensures stands { (first : O) (limits : LoopLimits) (seen : List Happened) → Stands O.gives first limits seen self.old
+            → Stands O.gives first limits seen self.new }
+    {
+        self.post.set_time(time);
+    }
+
     // A connection comes, under this number. No number below the second one is given again.
     pub(crate) fn joined(&mut self, who: u64, next: u64) -> Result<(), AllocError>
         requires from { self.old.base ≤ who }

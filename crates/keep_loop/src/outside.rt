@@ -93,6 +93,12 @@ pub trait Outside {
         ensures ticks { IfSome result (λ time. Grows (Noticed (Ticks time)) (seen self.old) (seen self.new)) }
         ensures none { IfNone result (seen self.new ≡ seen self.old) };
 
+    /// The time of this round, in nanoseconds since a moment that stays; 0 where it is not known. Nothing but a number that is
+    /// told of the server depends on it.
+    fn nanos(&self) -> u64 {
+        0
+    }
+
     /// Whether the server is to end.
     fn ends(&mut self) -> bool
         ensures ends { result ≡ true → Grows (Noticed Ends) (seen self.old) (seen self.new) }

@@ -61,6 +61,8 @@ pub struct Post {
     pub(crate) quits: Vec<u64>,
     // How many bytes of lines there are.
     pub(crate) size: usize,
+    // The time of this round, in nanoseconds.
+    pub(crate) time: u64,
 }
 
 fn is_here_in(stage: Stage) -> bool
@@ -289,7 +291,23 @@ impl Post {
             paused: VecDeque::new(alloc),
             quits: Vec::new(alloc),
             size: 0,
+            time: 0,
         })
+    }
+
+    /// The time of this round, in nanoseconds since a moment that stays: 0 where it is not known.
+    pub fn time(&self) -> u64
+        ensures { result ≡ self.now.time }
+    {
+        self.time
+    }
+
+    // It is this time.
+    pub(crate) fn set_time(&mut self, time: u64)
+        ensures tells { Tells self.old self.new [] [] }
+        ensures time { self.new.time ≡ time }
+    {
+        self.time = time;
     }
 
     /// How many connections there may be at once.

@@ -86,6 +86,7 @@ fn take<O: Served, W: Outside>(keep: &mut Keep<O>, outside: &mut W) -> Result<()
     ensures err { OnErr result (Fails (rules_of O.gives O.fronts) (W.seen outside.old) keep.old (W.seen outside.new)) }
 {
     keep.looks();
+    keep.begins(outside.nanos());
     take_some(keep, outside)
 }
 

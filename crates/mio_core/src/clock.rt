@@ -60,6 +60,11 @@ impl Watch {
         self.time / 1_000
     }
 
+    /// The time since the server began, as the clock showed it last: in nanoseconds, by whole milliseconds.
+    pub fn nanos(&self) -> u64 {
+        self.time.saturating_mul(1_000_000)
+    }
+
     // When something is due next.
     fn next(&self) -> u64
         ensures never { self.now.pace.sync ≡ 0 → result ≡ self.now.tick_at }

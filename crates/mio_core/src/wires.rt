@@ -354,6 +354,10 @@ impl<R: Files + AllocGlobal + Input + Clock + Eprint + Drop, E: Write + Drop> Ou
         Some(time)
     }
 
+    fn nanos(&self) -> u64 {
+        self.watch.nanos()
+    }
+
     fn ends(&mut self) -> bool {
         self.ends
     }

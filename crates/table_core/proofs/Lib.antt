@@ -4,6 +4,7 @@ pub mod Entering
 pub mod Hinting
 pub mod Placing
 pub mod Quiet
+pub mod Saying
 pub mod Seating
 pub mod Settling
 pub mod Showing

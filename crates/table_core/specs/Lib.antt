@@ -5,3 +5,4 @@ pub mod Moves
 pub mod Objects
 pub mod Parts
 pub mod Seen
+pub mod Said

@@ -18,4 +18,4 @@ Gives old asked said added new = told.Gives (seen old) asked said added (seen ne
 
 -- a text is a status of a table
 abbrev pub IsSeenIn : Table → List ℕ → Type 0
-IsSeenIn t text = IsStatus t.objects.items t.tallies.objects.items t.clients (custodies_of t.custody) t.second text
+IsSeenIn t text = IsStatus t.objects.items t.tallies.objects.items t.answers t.clients (custodies_of t.custody) t.second text

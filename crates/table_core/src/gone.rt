@@ -9,6 +9,8 @@ ghost use Rattle.client_core.specs.declared.client.OpenObject.{OpenObject as AnO
 ghost use Rattle.keep_loop.specs.Posts.{Tells};
 ghost use Rattle.inside_core.specs.LastRows.{KeepsLast};
 ghost use Rattle.inside_core.specs.Tallies.{CountsTaken};
+ghost use Rattle.inside_core.specs.Words.{one_no};
+ghost use Rattle.inside_core.specs.declared.refused.NoWord.TheVariants as words;
 ghost use Rattle.client_core.specs.Asked.{Opens, Follows};
 ghost use Rattle.client_core.specs.Custody.{Custody, HasNone, not_held_text};
 ghost use Rattle.client_core.specs.Views.{custodies_of};
@@ -33,7 +35,11 @@ use client_core::holding::OwedCall;
 use client_core::one::HoldNote;
 use client_core::ticking::Ticking;
 use guest_core::answer::SubmitFault;
+<<<<<<< HEAD
 use inside_core::tallies::Tallies;
+=======
+use inside_core::refused::NoWord;
+>>>>>>> numbers
 use keep_loop::Post;
 use live_core::call::Ran;
 use live_core::hosted::Hosted;
@@ -172,8 +178,10 @@ impl Table {
 
     #[tactic(auto, using(crate::proofs::Bringing::brings_only))]
     fn tell_unheld(&mut self, place: usize, post: &mut Post) -> Result<(), AllocError>
-        ensures { OnOk result (Brings (OnlyTold place not_held_text) post.old (seen self.old) post.new (seen self.new)) }
+        ensures brings { OnOk result (Brings (OnlyTold place not_held_text) post.old (seen self.old) post.new (seen self.new)) }
+        ensures counts { OnOk result (self.new.answers.words ≡ one_no words.NotHeld self.old.answers.words) }
     {
+        self.answers.words = self.answers.words.more(NoWord::NotHeld);
         tell(&self.clients, place, b"no NotHeld\n", post)?;
         Ok(())
     }

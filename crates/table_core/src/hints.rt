@@ -11,9 +11,11 @@ ghost use Rattle.client_core.specs.Asked.{IsRefused};
 ghost use Rattle.client_core.specs.Refusals.{IsHint, IsRefusal, TellsNames, declared_text, kind_text, listed_params, params_text, refusal_text, result_text, without_feed};
 ghost use Rattle.table_core.specs.Brings.{Brings};
 ghost use Rattle.table_core.specs.Hints.{AddsListed, IsDeclared, IsHintAt, IsHintOf, names_in, names_of};
+ghost use Rattle.table_core.specs.Said.{no_word, said_more};
 ghost use Rattle.table_core.specs.Seen.{seen};
 
 use crate::peers::opened_at;
+use crate::said::more_said;
 use crate::table::Table;
 use crate::tell::tell;
 use decl_core::object::{Object, Operation, Param};
@@ -388,9 +390,11 @@ impl Table {
         hint: &[u8],
         post: &mut Post,
     ) -> Result<(), AllocError>
-        ensures { OnOk result (Brings (OnlyTold place (refusal_text line hint.now)) post.old (seen self.old) post.new
+        ensures brings { OnOk result (Brings (OnlyTold place (refusal_text line hint.now)) post.old (seen self.old) post.new
             (seen self.new)) }
+        ensures counts { OnOk result (self.new.answers.words ≡ said_more (no_word line) self.old.answers.words) }
     {
+        self.answers.words = more_said(self.answers.words, line);
         push_refusal(&mut self.line, line, hint)?;
         tell(&self.clients, place, &self.line, post)?;
         Ok(())

@@ -15,6 +15,7 @@ mod looking;
 mod making;
 mod objects;
 mod peers;
+mod said;
 pub mod table;
 mod tell;
 mod turns;

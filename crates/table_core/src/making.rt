@@ -331,6 +331,7 @@ impl Table {
         let line = AnyLine::Told(ReplyLine::Accepted(told));
         tell_line(&self.clients, &mut self.line, place, line, post)?;
         open_called(&mut self.clients, place, counted(seat, told), self.second);
+        self.answers.times.begin(place, post.time());
         self.all_ended(at, &taken.ran, post)?;
         Ok(())
     }
@@ -374,6 +375,7 @@ impl Table {
                 let line = AnyLine::Ended(told, &ran.reply);
                 tell_line(&self.clients, &mut self.line, place, line, post)?;
                 rest(&mut self.clients, place);
+                self.answers.times.end(place, at, post.time());
                 Ok(())
             }
         }

@@ -10,17 +10,22 @@ ghost use Rattle.client_core.specs.Asked.{OpensBare, Opens, Goes, Quits};
 ghost use Rattle.client_core.specs.Deeds.{OnlyTold};
 ghost use Rattle.table_core.specs.Brings.{Brings};
 ghost use Rattle.table_core.specs.Objects.{IsNamed};
+ghost use Rattle.table_core.specs.Said.{no_word, said_more};
 ghost use Rattle.table_core.specs.Parts.{TellsOpened, ComesAt, LeavesOf};
 ghost use Rattle.table_core.specs.Seen.{IsQuiet, NobodyIsThere, seen};
 
 use crate::objects::{Comer, enter_at, may_come, object_for};
 use crate::peers::{go, open_as, opened_at, who_at};
+use crate::said::more_said;
 use crate::tell::tell_line;
 use client_core::all::AllHeld;
 use client_core::client::OpenObject;
 use client_core::clients::ClientPlaces;
 use guest_core::answer::SubmitFault;
 use guest_core::guests::{EnterFault, Entered};
+use inside_core::answers::AnswerCounts;
+use inside_core::called::CallTimes;
+use inside_core::refused::NoCounts;
 use inside_core::tallies::Tallies;
 use keep_loop::Post;
 use live_core::hosted::Hosted;
@@ -50,6 +55,8 @@ pub struct Table {
     pub(crate) second: u64,
     // how many calls were taken, and how they ended
     pub(crate) tallies: Tallies,
+    // how many lines were refused, by which word, and how long calls took
+    pub(crate) answers: AnswerCounts,
     // what is held of each object, or of none where no object says anything of gone clients and of time
     pub(crate) custody: AllHeld,
 }
@@ -61,6 +68,22 @@ fn tallies_of(alloc: Global, objects: &[Hosted]) -> Result<Tallies, AllocError> 
         tallies.add(object.live().object().operations.len())?;
     }
     Ok(tallies)
+}
+
+// The same of what was answered to them, at so many places.
+fn answers_of(
+    alloc: Global,
+    objects: &[Hosted],
+    places: usize,
+) -> Result<AnswerCounts, AllocError> {
+    let mut times = CallTimes::new(alloc, places)?;
+    for _object in objects {
+        times.add()?;
+    }
+    Ok(AnswerCounts {
+        words: NoCounts::none(),
+        times,
+    })
 }
 
 fn refusal_of(fault: EnterFault) -> ReplyLine
@@ -106,6 +129,7 @@ impl Table {
         let clients = ClientPlaces::new(alloc, places)?;
         let line = Vec::with_capacity(alloc, MOST_LINE)?;
         let tallies = tallies_of(alloc, &objects)?;
+        let answers = answers_of(alloc, &objects, places)?;
         Ok(Table {
             alloc,
             objects,
@@ -113,6 +137,7 @@ impl Table {
             line,
             second: now,
             tallies,
+            answers,
             custody,
         })
     }
@@ -124,7 +149,7 @@ impl Table {
         &self.objects
     }
 
-    // Tells the one at a place a line.
+    // Tells the one at a place a line, which is counted where it is a refusal.
     #[tactic(auto, using(crate::proofs::Bringing::brings_only))]
     pub(crate) fn say(
         &mut self,
@@ -132,8 +157,11 @@ impl Table {
         line: ReplyLine,
         post: &mut Post,
     ) -> Result<(), AllocError>
-        ensures { OnOk result (Brings (OnlyTold place (line_text line)) post.old (seen self.old) post.new (seen self.new)) }
+        ensures brings { OnOk result (Brings (OnlyTold place (line_text line)) post.old (seen self.old) post.new
+            (seen self.new)) }
+        ensures counts { OnOk result (self.new.answers.words ≡ said_more (no_word line) self.old.answers.words) }
     {
+        self.answers.words = more_said(self.answers.words, line);
         let line = AnyLine::Told(line);
         tell_line(&self.clients, &mut self.line, place, line, post)?;
         Ok(())

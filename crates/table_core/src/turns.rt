@@ -718,6 +718,7 @@ impl Visible for Table {
             self.alloc,
             &self.objects,
             &self.tallies,
+            &self.answers,
             &self.clients,
             &self.custody,
             self.second,

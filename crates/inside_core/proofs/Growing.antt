@@ -1,0 +1,24 @@
+-- Rows that change one after the other.
+use Rattle.std.proofs.Common.{◌≡◌, ℕ, zero, suc, ◌+◌, ◌<◌, ◌≤◌, List, [], ◌∷◌, ◌++◌, length, map, take, drop, get_or, refl, sym, ap, subst, ◌∙◌, arith}
+use Rattle.std.proofs.lemmas.List.{append-nil, take_all, drop_all}
+use lib.ListN.{set}
+
+step : {X : Type 0} (f : X → X) (k : ℕ) (old : List X) (r : X) → k < length old → r ≡ get_or (map f (take k old) ++ drop k old) k r →
+    set (map f (take k old) ++ drop k old) k (f r) ≡ map f (take (k + 1) old) ++ drop (k + 1) old
+step f k [] r within is = absurd (omega (arith, within))
+step {X} f zero (c ∷ old) r within is = ap (λ (x : X). f x ∷ old) is
+step {X} f (suc k) (c ∷ old) r within is =
+    let e : suc (k + 1) ≡ suc k + 1 = omega arith in
+    ap (λ (xs : List X). f c ∷ xs) (step f k old r (omega (arith, within)) is) ∙ ap (λ m. map f (take m (c ∷ old)) ++ drop m (c ∷ old)) e
+
+-- one more is changed
+pub next_changed : {X : Type 0} (f : X → X) (k : ℕ) (old now : List X) (r new : X) → k < length old → now ≡ map f (take k old) ++ drop k old → r ≡ get_or now k r → new ≡ f r →
+    set now k new ≡ map f (take (k + 1) old) ++ drop (k + 1) old
+next_changed {X} f k old now r new within now_is is same =
+    ap (λ (xs : List X). set xs k new) now_is ∙ ap (set (map f (take k old) ++ drop k old) k) same
+    ∙ step f k old r within (subst (λ (xs : List X). r ≡ get_or xs k r) now_is is)
+
+-- all are changed
+pub all_changed : {X : Type 0} (f : X → X) (k : ℕ) (old : List X) → length old ≤ k → map f (take k old) ++ drop k old ≡ map f old
+all_changed f k old past =
+    ap (λ xs. map f xs ++ drop k old) (take_all k old past) ∙ ap (λ xs. map f old ++ xs) (drop_all k old past) ∙ append-nil (map f old)
