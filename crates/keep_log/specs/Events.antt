@@ -1,5 +1,5 @@
 -- The lines of events.
-use Rattle.std.specs.Prelude.{ℕ, List, [], ◌∷◌, ◌++◌, codes}
+use Rattle.std.specs.Prelude.{ℕ, List, [], ◌∷◌, ◌++◌, Option, Some, None, codes}
 use Rattle.jiff_core.specs.declared.civil.datetime.DateTime.{DateTime}
 use Rattle.cause_core.specs.Causes.{cause_words}
 use Rattle.cause_core.specs.declared.cause.Cause.{Cause}
@@ -8,6 +8,7 @@ use Rattle.keep_log.specs.declared.event.LetGo.TheVariants.{Broke, Unwritten, Ov
 use Rattle.keep_log.specs.declared.event.Work.{Work}
 use Rattle.keep_log.specs.declared.event.Work.TheVariants.{Write, Sync, Change}
 use Rattle.keep_log.specs.declared.line.LineForm.{LineForm}
+use Rattle.keep_log.specs.declared.line.Level.{Level}
 use Rattle.keep_log.specs.declared.line.Level.TheVariants.{Info, Warn, Error}
 use Rattle.keep_log.specs.Lines.{Field, fields_text, line, line_end}
 use Rattle.keep_log.specs.Lines.Field.{number, word}
@@ -62,6 +63,57 @@ fails form moment object work cause = line form moment Error (codes "journal-fai
 
 abbrev pub lacks : LineForm → DateTime → List ℕ → Cause → List ℕ
 lacks form moment path cause = line form moment Warn (codes "no-status") (word (codes "path") path ∷ cause_field cause ∷ [])
+
+-- a name, where there is one, and in how many seconds something is done again, if it is
+abbrev pub name_fields : List ℕ → List Field
+name_fields [] = []
+name_fields (b ∷ name) = word (codes "name") (b ∷ name) ∷ []
+
+abbrev pub again_fields : Option ℕ → List Field
+again_fields None = []
+again_fields (Some seconds) = number (codes "again") seconds ∷ []
+
+-- what was refused is looked at
+abbrev pub again_level : Option ℕ → Level
+again_level None = Info
+again_level (Some seconds) = Warn
+
+-- what is told of a call that was made for a client that is gone
+abbrev pub back_fields : List ℕ → ℕ → List ℕ → List ℕ → ℕ → List Field
+back_fields object n held undo session = word (codes "object") object ∷ number (codes "number") n ∷ word (codes "held") held
+    ∷ word (codes "undo") undo ∷ number (codes "session") session ∷ []
+
+-- of whom
+abbrev pub gone_fields : List ℕ → Option ℕ → List Field
+gone_fields name again = name_fields name ++ again_fields again
+
+abbrev pub gives_back : LineForm → DateTime → List ℕ → ℕ → List ℕ → List ℕ → ℕ → List ℕ → Option ℕ → List ℕ
+gives_back form moment object n held undo session name again = line form moment (again_level again) (codes "gave-back")
+    (back_fields object n held undo session ++ gone_fields name again)
+
+abbrev pub leaves_out : LineForm → DateTime → ℕ → List ℕ
+leaves_out form moment n = line form moment Warn (codes "left-out")
+    (word (codes "of") (codes "gave-back") ∷ number (codes "lines") n ∷ [])
+
+-- a connection, and the object that it has opened, where it has
+abbrev pub object_fields : List ℕ → List Field
+object_fields [] = []
+object_fields (b ∷ name) = word (codes "object") (b ∷ name) ∷ []
+
+abbrev pub connection_fields : Option ℕ → List Field
+connection_fields None = []
+connection_fields (Some who) = number (codes "connection") who ∷ []
+
+abbrev pub client_fields : Option ℕ → List ℕ → List Field
+client_fields who object = connection_fields who ++ object_fields object
+
+abbrev pub stalls : LineForm → DateTime → ℕ → List ℕ → ℕ → List ℕ
+stalls form moment who object owed = line form moment Warn (codes "stalled")
+    (client_fields (Some who) object ++ number (codes "owed") owed ∷ [])
+
+abbrev pub mishears : LineForm → DateTime → Option ℕ → List ℕ → List ℕ → ℕ → List ℕ
+mishears form moment who object refusal lines = line form moment Warn (codes "bad-line")
+    (client_fields who object ++ word (codes "word") refusal ∷ number (codes "lines") lines ∷ [])
 
 abbrev pub notes : LineForm → DateTime → List ℕ → List ℕ
 notes form moment said = line form moment Warn (codes "notice") (word (codes "said") said ∷ [])

@@ -560,6 +560,7 @@ fn serve<O: Served + Visible, W: Outside>(
     for _round in 0..rounds {
         if !go_on(keep, outside, piece)? {
             finish(keep, outside)?;
+            show(keep, outside);
             return Ok(());
         }
     }

@@ -21,9 +21,11 @@ ghost use Rattle.client_core.specs.State.{opened_at};
 ghost use Rattle.table_core.specs.Brings.{Brings, SettlesOn};
 ghost use Rattle.table_core.specs.Objects.{IsKnownAt, IsNamed, NoneWaitsAt, SeatsAt};
 ghost use Rattle.table_core.specs.Parts.{AsksCall, TellsUnheld, MayAsk, MayNotAsk, LeavesOf, IsOwedAt, HasCustody, SeatsOr, FreesOr, EndsAll, bare_seat};
+ghost use Rattle.table_core.specs.Notices.{NotesAt, noticed};
 ghost use Rattle.table_core.specs.Seen.{seen};
 
 use crate::making::{Asker, Ready};
+use crate::notices::{note_ran, note_untaken};
 use crate::objects::{admit_at, begin_at, is_known_at, leave_at};
 use crate::peers::{has_session, opened_at};
 use crate::table::Table;
@@ -186,18 +188,33 @@ impl Table {
         Ok(())
     }
 
-    // A call was taken: it is counted, and what is held follows from those that ran.
+    // A call was taken: it is counted, what is held follows from those that ran, and what gives back is noticed.
     pub(crate) fn follow(&mut self, at: usize, taken: &Taken) -> Result<(), AllocError>
         ensures follows { OnOk result ((object : Scene) → slice_get self.old.objects.items at ≡ Some object
             → Follows at object taken.now.ran.items (seen self.old) (seen self.new)) }
         ensures counts { OnOk result (at < length self.old.tallies.objects.items
             → CountsTaken at taken.now self.old.tallies.objects.items self.new.tallies.objects.items) }
+<<<<<<< HEAD
         ensures last { OnOk result ((object : Scene) → slice_get self.old.objects.items at ≡ Some object
             → at < length self.old.tallies.last.items
             → KeepsLast at object taken.now.ran.items self.old.tallies.last.items self.new.tallies.last.items) }
     {
         self.tallies.count(at, taken);
         keep_last_at(&mut self.tallies, &self.objects, at, &taken.ran);
+=======
+        // What is noticed is what the calls give back that were made for sessions that are gone.
+        ensures notes { OnOk result (NotesAt self.old.objects.items self.old.custody at taken.now.ran.items
+            (noticed self.old.notices) (noticed self.new.notices)) }
+    {
+        self.tallies.count(at, taken);
+        note_ran(
+            &mut self.notices,
+            &self.objects,
+            &self.custody,
+            at,
+            &taken.ran,
+        );
+>>>>>>> log
         self.custody
             .ended(at, &self.objects, self.second, &taken.ran)?;
         Ok(())
@@ -416,8 +433,7 @@ impl Table {
             self.note_made(at, session);
             return Ok(());
         }
-        self.custody
-            .note(at, HoldNote::Refused(session, self.second));
+        self.note_untaken(at, session);
         Ok(())
     }
 
@@ -428,6 +444,15 @@ impl Table {
         if has_waiting(&self.objects, at, session) {
             self.custody.note(at, HoldNote::Waits(session));
         }
+    }
+
+    // A call for a gone session was not taken: it is made again.
+    fn note_untaken(&mut self, at: usize, session: u16)
+        ensures { seen self.new ≡ seen self.old }
+    {
+        note_untaken(&mut self.notices, &self.objects, &self.custody, at, session);
+        self.custody
+            .note(at, HoldNote::Refused(session, self.second));
     }
 
     // Makes the call at a place that is made again and again, where the one before it does not wait.
