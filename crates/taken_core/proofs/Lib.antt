@@ -4,3 +4,4 @@ pub mod Formats
 pub mod Lost
 pub mod Places
 pub mod Taking
+pub mod TickLines

@@ -9,3 +9,4 @@ mod checked;
 mod format;
 pub mod recover;
 pub mod taken;
+pub mod ticks;

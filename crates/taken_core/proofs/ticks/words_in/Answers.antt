@@ -1,0 +1,5 @@
+use Rattle.taken_core.proofs.TickLines.{short_words}
+use Rattle.taken_core.proofs.ticks.words_in.Goals as goal
+
+pub returns-then-line : goal.returns-then-line
+returns-then-line c = ?
