@@ -4,8 +4,8 @@ use crate::shelf_calls::Bytes;
 use keep_loop::crc::{CRC_START, CrcTable, crc_end};
 use std::alloc::{AllocError, Global};
 use std::process::Abort;
-use taken_core::ticks::last_ticks;
 use taken_core::taken::{TakeFault, line_in_file, take_file};
+use taken_core::ticks::last_ticks;
 
 // What is answered of a file.
 #[derive(Clone, Copy)]

@@ -604,6 +604,7 @@ fn serve<O: Served + Visible, W: Outside>(
     for _round in 0..rounds {
         if !go_on(keep, outside, piece)? {
             finish(keep, outside)?;
+            tell_ticks(keep, outside, piece)?;
             return Ok(());
         }
     }

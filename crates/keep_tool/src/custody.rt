@@ -11,10 +11,10 @@ use front_read::hold_lines::push_held;
 use guest_core::held::Holds;
 use keep_core::start::{NotBegun, begin_behind};
 use live_core::hosted::Hosted;
+use path_tree::node::OpId;
 use recover_core::past::{ends_in, play_held};
 use recover_core::recover::{House, RecoverFault};
 use recover_core::text::{HeldFront, cut_held, read_held};
-use path_tree::node::OpId;
 use std::alloc::{AllocError, Global};
 
 /// An object that has begun, and what is held of it; or why it is not begun with.

@@ -30,8 +30,8 @@ use mio_core::traces::epoch_of;
 use recover_core::changed::source_in;
 use recover_core::recover::RecoverFault;
 use std::io::Write;
-use taken_core::ticks::last_ticks;
 use taken_core::taken::{TakeFault, TakenFile, take_file};
+use taken_core::ticks::last_ticks;
 
 /// So many names an object knows before a new one takes the place of another.
 pub(crate) const NAMES: u16 = 4_096;
@@ -293,12 +293,7 @@ fn begin_new<L: Write>(
     match begin_first(alloc, object, &done, values, NAMES, LIMITS) {
         Ok(hosted) => {
             log.begun(name.as_bytes());
-            Ok(Begun::Ready(
-                hosted,
-                Holds::new(alloc),
-                Vec::new(alloc),
-                None,
-            ))
+            Ok(Begun::Ready(hosted, Holds::new(alloc), Vec::new(alloc), None))
         }
         Err(NotBegun::Memory) => Err(ToolFailure::Memory),
         Err(_) => Ok(Begun::Told(object_line(alloc, name, b" past does not fit\n")?)),

@@ -1,12 +1,12 @@
 -- What is known of a file, line by line.
-use Rattle.std.proofs.Common.{◌≡◌, inl, inr, ℕ, ◌+◌, ◌-◌, ◌^◌, ◌<◌, ◌≤◌, List, [], ◌∷◌, ◌++◌, length, refl, sym, ◌∙◌, ap, subst, arith, append_assoc, length-append, eqb-true}
+use Rattle.std.proofs.Common.{◌≡◌, inl, inr, ℕ, ◌+◌, ◌-◌, ◌^◌, ◌<◌, ◌≤◌, List, [], ◌∷◌, ◌++◌, length, take, refl, sym, ◌∙◌, ap, subst, arith, append_assoc, length-append, eqb-true}
 use Rattle.std.specs.Prelude.{Bool, true, false, min, ◌||◌, ◌&&◌, ◌==◌, Option, Some, None, Result, Ok, Err, IfOk, codes, decimal, bit_xor}
 use Rattle.std.specs.List.{concat}
-use Rattle.std.proofs.lemmas.List.{append-nil}
+use Rattle.std.proofs.lemmas.List.{append-nil, take_at}
 use Rattle.keep_loop.specs.Texts.{NoLineFeed}
 use Rattle.keep_loop.specs.Journal.{whole}
 use Rattle.keep_loop.specs.Crc.{crc_more, crc_start, crc_of}
-use Rattle.keep_loop.specs.Taken.{CutFirst, cut, plain, since, begins_with, is_check, is_front_line, has_check, has_front, check_line, hex_digits, front_word, stored_word, IsFrontRight, IsRoundRight, IsRight, AreRight}
+use Rattle.keep_loop.specs.Taken.{CutFirst, cut, plain, since, begins_with, is_check, is_front_line, has_check, has_front, check_line, tick_line, hex_digits, front_word, stored_word, tick_word, IsFrontRight, IsRoundRight, IsTickRight, IsRight, AreRight}
 use Rattle.taken_core.specs.TakeFile.{Follows, Tests, Takes, SaysStored, AreTaken, IsFirstWrong}
 use Rattle.taken_core.specs.declared.checked.Checked.{Checked}
 use Rattle.keep_loop.proofs.Taking.{whole_nothing}
