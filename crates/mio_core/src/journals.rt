@@ -105,7 +105,10 @@ fn begin_one<R: Files + AllocGlobal + Drop>(
 ) -> Result<Ordered<R>, (DeviceError, OwnFile<R>)> {
     let front = first.front.as_slice();
     let ticks = first.ticks.as_slice();
-    if !is_front(front) || !are_ticks(ticks) || front.len() > MOST_ROOM || room > MOST_ROOM {
+    if !are_ticks(ticks) {
+        return Err((DeviceError::Full, file));
+    }
+    if !is_front(front) || front.len() > MOST_ROOM || room > MOST_ROOM {
         return Err((DeviceError::Full, file));
     }
     match Journal::begin(alloc, file, front, ticks, room) {

@@ -121,7 +121,8 @@ impl Checked {
     {
         expected.clear();
         push_tick(expected, words, self.table.more(self.crc, words))?;
-        if line == expected.as_slice() {
+        let own = expected.as_slice();
+        if line == own {
             return Ok(true);
         }
         Ok(false)
