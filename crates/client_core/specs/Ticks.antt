@@ -15,8 +15,8 @@ first_tick e = record { seconds = e.seconds; op = e.op; session = 0; at = 0; beg
 abbrev pub due_behind : ℕ → ℕ → ℕ → ℕ
 due_behind seconds now last = if last == 0 then 0 else (last + seconds) - now
 
-abbrev pub resumed : ℕ → ℕ → Ticking → Ticking
-resumed now last t =
+abbrev pub resumes_at : ℕ → ℕ → Ticking → Ticking
+resumes_at now last t =
     record t { at = due_behind t.seconds now (min last now); begun = now; last = min last now }
 
 -- by this session

@@ -19,7 +19,7 @@ ghost use Rattle.client_core.specs.GoneClients.{Each, due_then, later, without};
 ghost use Rattle.client_core.specs.Holding.{Ends, Goes, HoldsNone, HoldsSome, IsBusy, IsCrowded, IsDueOf, LooksAt};
 ghost use Rattle.client_core.specs.Holding.{NothingIsDueOf, begun_with, told_as, with_gone, with_ticking};
 ghost use Rattle.client_core.specs.Start.{Begins, IsKept};
-ghost use Rattle.client_core.specs.Ticks.{ChangesAt, IsFirstDue, resumed as resumed_behind, seated_by, skipped as skipped_in, ticked as ticked_in, told_ticks, unticked as unticked_in};
+ghost use Rattle.client_core.specs.Ticks.{ChangesAt, IsFirstDue, resumes_at, seated_by, skipped as skipped_in, ticked as ticked_in, told_ticks, unticked as unticked_in};
 
 use crate::away::{is_busy_by, is_crowded_by, look_at_all};
 use crate::holder::{
@@ -365,7 +365,7 @@ impl Holding {
     /// second `now`; 0: it was not made yet.
     pub fn resumed(&mut self, place: usize, now: u64, last: u64)
         ensures left { self.new ≡ with_ticking self.old self.new.ticking }
-        ensures changes { ChangesAt place (resumed_behind now last) self.old.ticking self.new.ticking }
+        ensures changes { ChangesAt place (resumes_at now last) self.old.ticking self.new.ticking }
     {
         resume_at(&mut self.ticking, place, now, last);
     }

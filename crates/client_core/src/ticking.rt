@@ -4,7 +4,7 @@ ghost use Rattle.std.specs.Prelude.{◌≡◌, ◌≤◌, ◌<◌, ℕ, All, Mat
 ghost use Rattle.decl_core.specs.ObjectMap.{object_of};
 ghost use Rattle.decl_core.specs.HoldMap.{every_of, everies_of};
 ghost use Rattle.client_core.specs.declared.ticking.Ticking.{Ticking as ATicking};
-ghost use Rattle.client_core.specs.Ticks.{due_behind, first_tick as first_of, has_ticked, resumed as resumed_at, seated_by, skipped, ticked, told_ticks, unticked, words_of_tick, words_of_ticks, ChangesAt, IsFirstDue};
+ghost use Rattle.client_core.specs.Ticks.{due_behind, first_tick as first_of, has_ticked, resumes_at, seated_by, skipped, ticked, told_ticks, unticked, words_of_tick, words_of_ticks, ChangesAt, IsFirstDue};
 
 use decl_core::hold::Every;
 use decl_core::object::Object;
@@ -108,7 +108,7 @@ fn due_behind(seconds: u32, now: u64, last: u64) -> u64
 
 // A call that was made in this second last, where the server starts in the second `now`.
 fn resumed(row: Ticking, now: u64, last: u64) -> Ticking
-    ensures { result ≡ resumed_at now last row }
+    ensures { result ≡ resumes_at now last row }
 {
     let last = last.min(now);
     Ticking {
@@ -121,7 +121,7 @@ fn resumed(row: Ticking, now: u64, last: u64) -> Ticking
 
 // The one at a place was made in this second last, where the server starts in the second `now`.
 pub(crate) fn resume_at(ticking: &mut Vec<Ticking>, place: usize, now: u64, last: u64)
-    ensures { ChangesAt place (resumed_at now last) ticking.old.items ticking.new.items }
+    ensures { ChangesAt place (resumes_at now last) ticking.old.items ticking.new.items }
 {
     if place >= ticking.len() {
         return;

@@ -11,7 +11,7 @@ use Rattle.std.specs.Prelude.{Option, Some}
 use Rattle.keep_loop.specs.Device.{Only, IsChanged, Replaces}
 use Rattle.keep_loop.specs.Journal.{has_end, whole, IsSolid, AreLines, recovered, Stands}
 use Rattle.keep_loop.specs.Order.{SayAtMost, Checks, Fills}
-use Rattle.keep_loop.specs.Taken.{cut, begins_with, stored_word, tick_word, is_check, is_front_line, has_check, has_front, plain, since, check_line, front_word, format_words, IsWord, Names, IsRight, AreRight, IsChecked, IsFront, ArePlain, without_form, with_form, with_check, in_file, opened, AreTicks, IsTick, tick_line, told, taken, IsTaken, Tells}
+use Rattle.keep_loop.specs.Taken.{cut, begins_with, stored_word, tick_word, is_check, is_front_line, has_check, has_front, plain, since, check_line, front_word, format_words, IsWord, Names, IsRight, AreRight, IsChecked, IsFront, ArePlain, without_form, with_form, with_check, in_file, in_file_ticked, AreTicks, IsTick, tick_line, told, taken, IsTaken, Tells}
 use Rattle.keep_loop.proofs.Lines.{whole_parts, whole_keeps, solid_append, lines_append, no_lines}
 use Rattle.keep_loop.proofs.Quiet.{IsQuiet}
 use Rattle.keep_loop.proofs.Texts.{or_parts, cut_append, concat_cut, plain_append, plain_check, plain_none, front_stays, since_none, since_check, right_append, right_plain, has_front_append, onto_all, IsOne, one_append, cut_onto, behind, head, onto_all_parts}
@@ -208,11 +208,11 @@ module _ (front words : List ℕ) (is : IsFront front) (small : length (in_file 
     tells = grows.tells ∙ append-nil (told (in_file front)) ∙ bare.tells;
   }
 
-pub opens : (front words : List ℕ) → IsFront front → AreTicks words → length (in_file front) < 2 ^ 64 → length (with_form 2 front) < 2 ^ 64 → Opens front (opened front words)
+pub opens : (front words : List ℕ) → IsFront front → AreTicks words → length (in_file front) < 2 ^ 64 → length (with_form 2 front) < 2 ^ 64 → Opens front (in_file_ticked front words)
 opens front [] is ticks small form_small = opens_bare front is form_small
 opens front (byte ∷ words) is ticks small form_small = opens_ticked front (byte ∷ words) is small form_small ticks
 
-pub longer : (front words : List ℕ) → length (in_file front) ≤ length (opened front words)
+pub longer : (front words : List ℕ) → length (in_file front) ≤ length (in_file_ticked front words)
 longer front [] = omega arith
 longer front (byte ∷ words) = omega (arith, length-append (in_file front) (tick_line (byte ∷ words) (crc_of (byte ∷ words))))
 
@@ -247,10 +247,10 @@ module _ (front text : List ℕ) (o : Opens front text) (small : length text < 2
         record { is_taken = subst IsTaken (sym file_is) tells.is_taken; are = begun_told }
 
 -- A file that was begun with a front and with these words, and how many bytes these have in it
-module _ (bytes front words : List ℕ) (room size : ℕ) (bytes_are : bytes ≡ opened front words ++ replicate room 0) (size_is : size ≡ length (opened front words)) (is : IsFront front) (ticks : AreTicks words)
+module _ (bytes front words : List ℕ) (room size : ℕ) (bytes_are : bytes ≡ in_file_ticked front words ++ replicate room 0) (size_is : size ≡ length (in_file_ticked front words)) (is : IsFront front) (ticks : AreTicks words)
     (fits : length bytes < 2 ^ 63) where
-  text_small : length (opened front words) < 2 ^ 63
-  text_small = omega (arith, fits, ap length bytes_are, length-append (opened front words) (replicate room 0))
+  text_small : length (in_file_ticked front words) < 2 ^ 63
+  text_small = omega (arith, fits, ap length bytes_are, length-append (in_file_ticked front words) (replicate room 0))
 
   front_small : length (in_file front) < 2 ^ 63
   front_small = omega (arith, text_small, longer front words)
@@ -260,29 +260,29 @@ module _ (bytes front words : List ℕ) (room size : ℕ) (bytes_are : bytes ≡
       let line = check_line front_word (length (with_form 2 front)) (crc_of (with_form 2 front)) in
       omega (arith, front_small, length-append (with_form 2 front) line)
 
-  all : Opens front (opened front words)
+  all : Opens front (in_file_ticked front words)
   all = opens front words is ticks (omega (arith, front_small)) small
 
   pub begin_fits : size + room < 2 ^ 63
-  begin_fits = omega (arith, fits, ap length bytes_are, length-append (opened front words) (replicate room 0), length-replicate {A = ℕ} room 0, size_is)
+  begin_fits = omega (arith, fits, ap length bytes_are, length-append (in_file_ticked front words) (replicate room 0), length-replicate {A = ℕ} room 0, size_is)
 
   pub begin_stands : (old new : Option (List ℕ)) → IsChanged (λ _. bytes) old new → (leaves : List ℕ → Type 0) → Only bytes leaves → (file : List ℕ) → new ≡ Some file → Stands file leaves size size room
   begin_stands old new changed leaves only file known =
-      subst (λ n. Stands file leaves n n room) (sym size_is) (begun_stands bytes (opened front words) room bytes_are all.lines old new changed leaves only file known)
+      subst (λ n. Stands file leaves n n room) (sym size_is) (begun_stands bytes (in_file_ticked front words) room bytes_are all.lines old new changed leaves only file known)
 
   pub begin_checks : (old new : Option (List ℕ)) → IsChanged (λ _. bytes) old new → (file : List ℕ) → new ≡ Some file → Checks file size crc_start
   begin_checks old new changed file known =
       let was = changed_from (λ _. bytes) old new changed file known in
       subst (λ f. Checks f size crc_start) (sym was.2) (subst (λ n. Checks bytes n crc_start) (sym size_is)
-      (begun_checks front (opened front words) all (omega (arith, text_small)) (longer front words) bytes room bytes_are))
+      (begun_checks front (in_file_ticked front words) all (omega (arith, text_small)) (longer front words) bytes room bytes_are))
 
   pub begin_told : taken bytes ≡ front
-  begin_told = begun_told front (opened front words) all (omega (arith, text_small)) (longer front words) bytes room bytes_are
+  begin_told = begun_told front (in_file_ticked front words) all (omega (arith, text_small)) (longer front words) bytes room bytes_are
 
   pub begin_disk : taken (take size bytes) ≡ front
-  begin_disk = ap (λ (n : ℕ). taken (take n bytes)) size_is ∙ begun_disk front (opened front words) all (omega (arith, text_small)) (longer front words) bytes room bytes_are
+  begin_disk = ap (λ (n : ℕ). taken (take n bytes)) size_is ∙ begun_disk front (in_file_ticked front words) all (omega (arith, text_small)) (longer front words) bytes room bytes_are
 
   -- a crash leaves what it might have left before, or the front
   pub begin_leaves : (old new : List ℕ → Type 0) → Replaces bytes old new → (c : List ℕ) → new c → old c ⊎ Tells front c
   begin_leaves old new replaces c left = ⊎_elim (λ before. inl before)
-      (λ e. inr (subst (Tells front) (sym e) (begun_tells front (opened front words) all (omega (arith, text_small)) (longer front words) bytes room bytes_are))) (replaces c left)
+      (λ e. inr (subst (Tells front) (sym e) (begun_tells front (in_file_ticked front words) all (omega (arith, text_small)) (longer front words) bytes room bytes_are))) (replaces c left)

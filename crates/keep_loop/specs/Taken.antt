@@ -187,9 +187,9 @@ abbrev pub in_file : List ℕ → List ℕ
 in_file front = with_check (with_form 2 front)
 
 -- and behind it these words of calls by the clock, where there are some
-abbrev pub opened : List ℕ → List ℕ → List ℕ
-opened front [] = in_file front
-opened front (byte ∷ words) = in_file front ++ tick_line (byte ∷ words) (crc_of (byte ∷ words))
+abbrev pub in_file_ticked : List ℕ → List ℕ → List ℕ
+in_file_ticked front [] = in_file front
+in_file_ticked front (byte ∷ words) = in_file front ++ tick_line (byte ∷ words) (crc_of (byte ∷ words))
 
 -- words of calls by the clock, or none
 abbrev pub AreTicks : List ℕ → Type 0

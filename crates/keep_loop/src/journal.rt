@@ -8,7 +8,7 @@ ghost use Rattle.keep_loop.specs.Device.{IsOnDisk, LeavesOnly, Rises};
 ghost use Rattle.keep_loop.specs.Journal.{recovered, AreLines};
 ghost use Rattle.keep_loop.specs.Order.{Fills};
 ghost use Rattle.keep_loop.specs.Crc.{crc_more};
-ghost use Rattle.keep_loop.specs.Taken.{ArePlain, AreTicks, IsFront, IsTick, Tells, TellsBetween, in_file, opened as opened_of, tick_line};
+ghost use Rattle.keep_loop.specs.Taken.{ArePlain, AreTicks, IsFront, IsTick, Tells, TellsBetween, in_file, in_file_ticked, tick_line};
 ghost use Rattle.keep_loop.specs.declared.device.DeviceError.TheVariants.{Full, Failed};
 
 use crate::check_lines::{FRONT_WORD, STORED_WORD, push_check, push_tick};
@@ -240,7 +240,7 @@ fn opened(
     ticks: &[u8],
 ) -> Result<Vec<u8>, AllocError>
     requires { IsFront front.now }
-    ensures { IfOk result (λ file. file.items ≡ opened_of front.now ticks.now) }
+    ensures { IfOk result (λ file. file.items ≡ in_file_ticked front.now ticks.now) }
 {
     let mut file = front_of(alloc, table, front)?;
     match ticks {
@@ -263,8 +263,8 @@ fn file_of(
 ) -> Result<(Vec<u8>, usize), AllocError>
     requires front { IsFront front.now }
     requires small { room < 2 ^ 62 }
-    ensures { IfOk result (λ made. (made.0.items ≡ opened_of front.now ticks.now ++ replicate (room + 2359296) 0)
-        × (made.1 ≡ length (opened_of front.now ticks.now))) }
+    ensures { IfOk result (λ made. (made.0.items ≡ in_file_ticked front.now ticks.now ++ replicate (room + 2359296) 0)
+        × (made.1 ≡ length (in_file_ticked front.now ticks.now))) }
 {
     let mut file = opened(alloc, table, front, ticks)?;
     let size = file.len();

@@ -6,7 +6,7 @@ use Rattle.keep_loop.specs.Journal.{whole, recovered}
 use Rattle.keep_loop.specs.Taken.{CutFirst, begins_with, tick_word, cut}
 use Rattle.keep_loop.proofs.Lines.{bool_cases, recovered_lines}
 use Rattle.keep_loop.proofs.Taking.{whole_nothing}
-use Rattle.taken_core.specs.TickLines.{words_of, has_tick, last_tick}
+use Rattle.taken_core.specs.TickLines.{tick_words, has_tick, last_tick}
 use Rattle.taken_core.proofs.Places.{cuts}
 
 -- what is told behind these words by the lines that are left
@@ -23,7 +23,7 @@ behind_none (line ∷ lines) = elim (bool_cases (begins_with tick_word line || h
 none_told : (line : List ℕ) (lines : List (List ℕ)) → (begins_with tick_word line || has_tick lines) ≡ false → last_tick (line ∷ lines) ≡ []
 none_told line lines none =
     let parts = or_none (begins_with tick_word line) (has_tick lines) none in
-    ap (λ b. cond b (last_tick lines) (cond (begins_with tick_word line) (words_of line) [])) parts.1 ∙ ap (λ b. cond b (words_of line) []) parts.0
+    ap (λ b. cond b (last_tick lines) (cond (begins_with tick_word line) (tick_words line) [])) parts.1 ∙ ap (λ b. cond b (tick_words line) []) parts.0
 
 or_none : (a b : Bool) → (a || b) ≡ false → (a ≡ false) × (b ≡ false)
 or_none true b is = absurd (cc is)
@@ -33,28 +33,28 @@ or_second : (a b : Bool) → b ≡ true → (a || b) ≡ true
 or_second true b is = refl
 or_second false b is = is
 
-pub behind_more : (words line : List ℕ) (lines : List (List ℕ)) → told_behind words (line ∷ lines) ≡ told_behind (if begins_with tick_word line then words_of line else words) lines
+pub behind_more : (words line : List ℕ) (lines : List (List ℕ)) → told_behind words (line ∷ lines) ≡ told_behind (if begins_with tick_word line then tick_words line else words) lines
 behind_more words line lines = elim (bool_cases (has_tick lines)) [
   | inl later ↦
       ap (λ b. cond b (last_tick (line ∷ lines)) words) (or_second (begins_with tick_word line) (has_tick lines) later)
-      ∙ ap (λ b. cond b (last_tick lines) (cond (begins_with tick_word line) (words_of line) [])) later
-      ∙ sym (ap (λ b. cond b (last_tick lines) (cond (begins_with tick_word line) (words_of line) words)) later)
+      ∙ ap (λ b. cond b (last_tick lines) (cond (begins_with tick_word line) (tick_words line) [])) later
+      ∙ sym (ap (λ b. cond b (last_tick lines) (cond (begins_with tick_word line) (tick_words line) words)) later)
   | inr none ↦ elim (bool_cases (begins_with tick_word line)) [
     | inl here ↦
         ap (λ b. cond (b || has_tick lines) (last_tick (line ∷ lines)) words) here
-        ∙ ap (λ b. cond b (last_tick lines) (cond (begins_with tick_word line) (words_of line) [])) none
-        ∙ ap (λ b. cond b (words_of line) []) here
-        ∙ sym (ap (λ b. cond b (last_tick lines) (cond (begins_with tick_word line) (words_of line) words)) none ∙ ap (λ b. cond b (words_of line) words) here)
+        ∙ ap (λ b. cond b (last_tick lines) (cond (begins_with tick_word line) (tick_words line) [])) none
+        ∙ ap (λ b. cond b (tick_words line) []) here
+        ∙ sym (ap (λ b. cond b (last_tick lines) (cond (begins_with tick_word line) (tick_words line) words)) none ∙ ap (λ b. cond b (tick_words line) words) here)
     | inr other ↦
         ap (λ b. cond (b || has_tick lines) (last_tick (line ∷ lines)) words) other
         ∙ ap (λ b. cond b (last_tick (line ∷ lines)) words) none
-        ∙ sym (ap (λ b. cond b (last_tick lines) (cond (begins_with tick_word line) (words_of line) words)) none ∙ ap (λ b. cond b (words_of line) words) other)
+        ∙ sym (ap (λ b. cond b (last_tick lines) (cond (begins_with tick_word line) (tick_words line) words)) none ∙ ap (λ b. cond b (tick_words line) words) other)
   ]
 ]
 
 -- over a text
 pub line_more : (words rest line more : List ℕ) → CutFirst rest line more →
-    told_behind words (cut (whole rest)) ≡ told_behind (if begins_with tick_word line then words_of line else words) (cut (whole more))
+    told_behind words (cut (whole rest)) ≡ told_behind (if begins_with tick_word line then tick_words line else words) (cut (whole more))
 line_more words rest line more c = ap (λ l. told_behind words l) (cuts rest line more c) ∙ behind_more words line (cut (whole more))
 
 pub line_none : (words rest : List ℕ) → NoLineFeed rest → told_behind words (cut (whole rest)) ≡ words
@@ -66,5 +66,5 @@ of_file file text same = ap (λ (l : List ℕ). last_tick (cut l)) (ap whole sam
 pub shorter : (rest line more : List ℕ) → CutFirst rest line more → length more < length rest
 shorter rest line more c = let some = c.some in omega (arith, some, ap length c.is)
 
-pub short_words : (line : List ℕ) → length line < 9 → [] ≡ words_of line
+pub short_words : (line : List ℕ) → length line < 9 → [] ≡ tick_words line
 short_words line short = ap (λ (n : ℕ). take n line) (omega (arith, short))

@@ -3,8 +3,8 @@ use Rattle.std.specs.Prelude.{◌-◌, ℕ, Bool, false, ◌||◌, List, [], ◌
 use Rattle.keep_loop.specs.Taken.{begins_with, tick_word}
 
 -- what stands in a line before its CRC and its line feed
-abbrev pub words_of : List ℕ → List ℕ
-words_of line = take (length line - 9) line
+abbrev pub tick_words : List ℕ → List ℕ
+tick_words line = take (length line - 9) line
 
 abbrev pub has_tick : List (List ℕ) → Bool
 has_tick [] = false
@@ -14,4 +14,4 @@ has_tick (line ∷ lines) = begins_with tick_word line || has_tick lines
 abbrev pub last_tick : List (List ℕ) → List ℕ
 last_tick [] = []
 last_tick (line ∷ lines) =
-    if has_tick lines then last_tick lines else (if begins_with tick_word line then words_of line else [])
+    if has_tick lines then last_tick lines else (if begins_with tick_word line then tick_words line else [])

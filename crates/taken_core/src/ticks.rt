@@ -3,7 +3,7 @@
 ghost use Rattle.std.specs.Prelude.{◌≡◌, ◌-◌, length, take, if◌then◌else◌};
 ghost use Rattle.keep_loop.specs.Journal.{whole, recovered};
 ghost use Rattle.keep_loop.specs.Taken.{begins_with, cut, tick_word};
-ghost use Rattle.taken_core.specs.TickLines.{last_tick, words_of};
+ghost use Rattle.taken_core.specs.TickLines.{last_tick, tick_words};
 
 use keep_loop::check_lines::{TICK_WORD, begins_with};
 use keep_loop::cut::cut_first;
@@ -11,7 +11,7 @@ use keep_loop::journal::recovered_len;
 
 // The words of a line: it without its CRC and its line feed.
 fn words_in(line: &[u8]) -> &[u8]
-    ensures { result.now ≡ words_of line.now }
+    ensures { result.now ≡ tick_words line.now }
 {
     if line.len() < 9 {
         return &[];
@@ -21,7 +21,7 @@ fn words_in(line: &[u8]) -> &[u8]
 
 // The words behind a line: its own, where it tells of calls by the clock.
 fn words_behind<'a>(words: &'a [u8], line: &'a [u8]) -> &'a [u8]
-    ensures { result.now ≡ (if begins_with tick_word line.now then words_of line.now else words.now) }
+    ensures { result.now ≡ (if begins_with tick_word line.now then tick_words line.now else words.now) }
 {
     if begins_with(TICK_WORD, line) {
         return words_in(line);
