@@ -28,4 +28,5 @@ pub mod Rows
 pub mod Heads
 pub mod TakenLines
 pub mod Taking
+pub mod Ticked
 pub mod Told

@@ -5,7 +5,7 @@ ghost use Rattle.answer_core.specs.Status.{IsFault};
 
 use crate::before::strangers;
 use crate::belief::Belief;
-use crate::custody::{AllRules, add_held};
+use crate::custody::{AllRules, StartTime, add_held};
 use crate::cuts::{CutFile, keep_cuts};
 use crate::ending::say;
 use crate::folder::FolderNames;
@@ -13,6 +13,7 @@ use crate::lines::object_line;
 use crate::notes::{note_shared, note_strangers};
 use crate::one::{Begun, StartPlace, begin_one};
 use crate::sources::texts_of;
+use crate::status::seconds_now;
 use crate::stuck::stuck_lines;
 use answer_core::answer::REFUSED;
 use answer_core::explanation::explained;
@@ -30,6 +31,7 @@ use device_core::dir_shelf::DirShelf;
 use guest_core::held::Holds;
 use keep_log::log::Log;
 use live_core::hosted::Hosted;
+use mio_core::journals::FirstLines;
 use std::alloc::{AllocError, Global};
 use std::io::Write;
 use value_core::write_whole;
@@ -45,7 +47,7 @@ pub struct KeptObjects {
     /// What FILE says of each.
     pub texts: Vec<Vec<u8>>,
     /// What the journal of each begins with.
-    pub fronts: Vec<Vec<u8>>,
+    pub fronts: Vec<FirstLines>,
     /// What is held of each; of none where no object has rules.
     pub custody: AllHeld,
 }
@@ -67,11 +69,13 @@ struct KeepStart {
     kept: KeptObjects,
     cuts: Vec<CutFile>,
     told: Vec<u8>,
+    // In which second since 1970 it is.
+    now: u64,
 }
 
 impl KeepStart {
-    // Before the first object.
-    fn new(alloc: Global, rules: Vec<Rules>, texts: Vec<Vec<u8>>) -> KeepStart {
+    // Before the first object, in this second since 1970.
+    fn new(alloc: Global, rules: Vec<Rules>, texts: Vec<Vec<u8>>, now: u64) -> KeepStart {
         KeepStart {
             rules: AllRules::new(rules),
             kept: KeptObjects {
@@ -83,6 +87,7 @@ impl KeepStart {
             },
             cuts: Vec::new(alloc),
             told: Vec::new(alloc),
+            now,
         }
     }
 
@@ -97,7 +102,7 @@ impl KeepStart {
     ) -> Result<(), AllocError> {
         match begun {
             Begun::Told(line) => self.told.extend_from_slice(&line),
-            Begun::Ready(hosted, held, cut) => {
+            Begun::Ready(hosted, held, ticks, cut) => {
                 if let Some(cut) = cut {
                     self.cuts.push(cut)?;
                 }
@@ -106,7 +111,7 @@ impl KeepStart {
                 } else {
                     None
                 };
-                self.add(alloc, hosted, name, ruled, away)
+                self.add(alloc, hosted, name, ruled, away, &ticks)
             }
         }
     }
@@ -120,8 +125,14 @@ impl KeepStart {
         name: String,
         ruled: Option<(Rules, Holds)>,
         away: u64,
+        ticks: &[u8],
     ) -> Result<(), AllocError> {
-        match add(alloc, &mut self.kept, hosted, name, ruled, away)? {
+        let time = StartTime {
+            away,
+            now: self.now,
+            ticks,
+        };
+        match add(alloc, &mut self.kept, hosted, name, ruled, time)? {
             Some(line) => self.told.extend_from_slice(&line),
             None => Ok(()),
         }
@@ -163,6 +174,7 @@ impl KeepStart {
             kept,
             cuts,
             told,
+            now: _,
         } = self;
         if told.is_empty() {
             return Ok((kept, cuts));
@@ -228,7 +240,7 @@ fn begin_all<E: Write, L: Write>(
     let journals = place.names.journals(alloc)?;
     note_shared(place.rt, place.folder, error, log)?;
     note_strangers(alloc, place.folder, &journals, &names, error, log)?;
-    let mut start = KeepStart::new(alloc, rules, texts);
+    let mut start = KeepStart::new(alloc, rules, texts, seconds_now(place.rt));
     begin_each(place, accepted, &mut start, error, log)?;
     match start.end() {
         Ok((kept, cuts)) => {
@@ -247,9 +259,10 @@ fn add(
     mut hosted: Hosted,
     name: String,
     ruled: Option<(Rules, Holds)>,
-    away: u64,
+    time: StartTime<'_>,
 ) -> Result<Option<Vec<u8>>, AllocError> {
     let mut front = Vec::new(alloc);
+    let mut ticks = Vec::new(alloc);
     if !hosted.push_first(&mut front)? {
         let line = object_line(alloc, name.as_str(), b" past does not fit\n")?;
         return Ok(Some(line));
@@ -261,11 +274,12 @@ fn add(
             &mut hosted,
             rules,
             held,
-            away,
+            time,
             &mut front,
+            &mut ticks,
         )?;
     }
-    put(kept, hosted, name, front)?;
+    put(kept, hosted, name, FirstLines { front, ticks })?;
     Ok(None)
 }
 
@@ -274,9 +288,9 @@ fn put(
     kept: &mut KeptObjects,
     hosted: Hosted,
     name: String,
-    front: Vec<u8>,
+    first: FirstLines,
 ) -> Result<(), AllocError> {
-    kept.fronts.push(front)?;
+    kept.fronts.push(first)?;
     kept.names.push(name)?;
     kept.objects.push(hosted)?;
     Ok(())

@@ -5,3 +5,4 @@ pub mod Lost
 pub mod Places
 pub mod Rooms
 pub mod Taking
+pub mod TickLines

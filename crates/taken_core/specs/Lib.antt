@@ -1,2 +1,6 @@
 pub mod TakeFile
+<<<<<<< HEAD
 pub mod Room
+=======
+pub mod TickLines
+>>>>>>> tick

@@ -11,3 +11,4 @@ mod format;
 pub mod recover;
 pub mod room;
 pub mod taken;
+pub mod ticks;
