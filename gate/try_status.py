@@ -1137,14 +1137,9 @@ def what_is_asked_of_prometheus(folder: pathlib.Path) -> None:
 
 INSIDE = (who_is_inside, no_server_holds_up_the_page, what_is_said_is_escaped, many_sessions, nodes_are_those_of_check, what_is_asked_of_prometheus,
           what_it_imports_is_released)
-<<<<<<< HEAD
 SERVED = (numbers_are_those_of_the_clients, what_is_refused_is_counted, what_is_held_is_told, a_status_that_cannot_be_written, what_a_label_has_to_escape,
-          a_status_on_a_full_disk, a_log_of_json, a_log_of_text, a_new_epoch)
-=======
-SERVED = (numbers_are_those_of_the_clients, what_is_held_is_told, a_status_that_cannot_be_written, what_a_label_has_to_escape,
           a_status_on_a_full_disk, a_log_of_json, a_log_of_text, what_is_given_back_is_logged, more_is_given_back_than_is_told,
           one_that_reads_nothing_is_logged, a_line_that_asks_for_nothing_is_logged, these_as_text, a_new_epoch)
->>>>>>> log
 
 
 def over_a_server(trial: Callable[[pathlib.Path], object], folder: pathlib.Path) -> str | None:

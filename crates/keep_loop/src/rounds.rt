@@ -605,11 +605,8 @@ fn serve<O: Served + Visible, W: Outside>(
     for _round in 0..rounds {
         if !go_on(keep, outside, piece)? {
             finish(keep, outside)?;
-<<<<<<< HEAD
             show(keep, outside);
-=======
             tell_ticks(keep, outside, piece)?;
->>>>>>> tick
             return Ok(());
         }
     }

@@ -37,11 +37,8 @@ use client_core::holding::OwedCall;
 use client_core::one::HoldNote;
 use client_core::ticking::Ticking;
 use guest_core::answer::SubmitFault;
-<<<<<<< HEAD
-use inside_core::tallies::Tallies;
-=======
 use inside_core::refused::NoWord;
->>>>>>> numbers
+use inside_core::tallies::Tallies;
 use keep_loop::Post;
 use live_core::call::Ran;
 use live_core::hosted::Hosted;
@@ -194,19 +191,15 @@ impl Table {
             → Follows at object taken.now.ran.items (seen self.old) (seen self.new)) }
         ensures counts { OnOk result (at < length self.old.tallies.objects.items
             → CountsTaken at taken.now self.old.tallies.objects.items self.new.tallies.objects.items) }
-<<<<<<< HEAD
         ensures last { OnOk result ((object : Scene) → slice_get self.old.objects.items at ≡ Some object
             → at < length self.old.tallies.last.items
             → KeepsLast at object taken.now.ran.items self.old.tallies.last.items self.new.tallies.last.items) }
-    {
-        self.tallies.count(at, taken);
-        keep_last_at(&mut self.tallies, &self.objects, at, &taken.ran);
-=======
         // What is noticed is what the calls give back that were made for sessions that are gone.
         ensures notes { OnOk result (NotesAt self.old.objects.items self.old.custody at taken.now.ran.items
             (noticed self.old.notices) (noticed self.new.notices)) }
     {
         self.tallies.count(at, taken);
+        keep_last_at(&mut self.tallies, &self.objects, at, &taken.ran);
         note_ran(
             &mut self.notices,
             &self.objects,
@@ -214,7 +207,6 @@ impl Table {
             at,
             &taken.ran,
         );
->>>>>>> log
         self.custody
             .ended(at, &self.objects, self.second, &taken.ran)?;
         Ok(())

@@ -16,12 +16,8 @@ ghost use Rattle.table_core.specs.Seen.{IsQuiet, NobodyIsThere, seen};
 
 use crate::notices::{Notices, note_bad};
 use crate::objects::{Comer, enter_at, may_come, object_for};
-<<<<<<< HEAD
-use crate::peers::{go, open_as, opened_at, who_at};
-use crate::said::more_said;
-=======
 use crate::peers::{bad_at, go, open_as, opened_at, who_at};
->>>>>>> log
+use crate::said::more_said;
 use crate::tell::tell_line;
 use client_core::all::AllHeld;
 use client_core::client::OpenObject;
@@ -136,11 +132,8 @@ impl Table {
         let clients = ClientPlaces::new(alloc, places)?;
         let line = Vec::with_capacity(alloc, MOST_LINE)?;
         let tallies = tallies_of(alloc, &objects)?;
-<<<<<<< HEAD
         let answers = answers_of(alloc, &objects, places)?;
-=======
         let notices = Notices::new(alloc)?;
->>>>>>> log
         Ok(Table {
             alloc,
             objects,

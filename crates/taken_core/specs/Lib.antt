@@ -1,6 +1,3 @@
 pub mod TakeFile
-<<<<<<< HEAD
 pub mod Room
-=======
 pub mod TickLines
->>>>>>> tick
