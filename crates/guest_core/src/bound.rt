@@ -190,3 +190,11 @@ pub fn count_kept(kept: &[RememberedCall], least: Option<u64>) -> usize
     };
     count_first(others, least) + 1
 }
+
+/// The calls of a client that are kept, the newest first, where this is the least number from which they are.
+pub fn kept_from(kept: &[RememberedCall], least: Option<u64>) -> &[RememberedCall]
+    ensures { (stay : ℕ → Bool) → IsLeast stay least → result.now ≡ kept_by stay kept.now }
+{
+    let (few, _) = kept.split_at(count_kept(kept, least));
+    few
+}
