@@ -79,17 +79,36 @@ some_stay (Some least) = (λ n. not (nat_lt n least), λ n. refl)
 -- the calls that are kept are the newest of those that were, and the last one is among them
 pub first_taken : (stay : ℕ → Bool) (calls : List RememberedCall) → (n : ℕ) × (first_that_stay stay calls ≡ take n calls)
 first_taken stay [] = (0, refl)
-first_taken stay (c ∷ calls) = by (stay c.told)
+first_taken stay (c ∷ calls) = by (stay c.told) (first_taken stay calls)
   where
-    by : (b : Bool) → (n : ℕ) × ((if b then c ∷ first_that_stay stay calls else []) ≡ take n (c ∷ calls))
-    by true = let more = first_taken stay calls in (suc more.0, ap (λ xs. c ∷ xs) more.1)
-    by false = (0, refl)
+    by : (b : Bool) → (n : ℕ) × (first_that_stay stay calls ≡ take n calls) → (n : ℕ) × ((if b then c ∷ first_that_stay stay calls else []) ≡ take n (c ∷ calls))
+    by true more = (suc more.0, ap (λ xs. c ∷ xs) more.1)
+    by false more = (0, refl)
 
 pub kept_taken : (stay : ℕ → Bool) (kept : List RememberedCall) → (n : ℕ) × (kept_by stay kept ≡ take (suc n) kept)
 kept_taken stay [] = (0, refl)
 kept_taken stay (c ∷ calls) = let more = first_taken stay calls in (more.0, ap (λ xs. c ∷ xs) more.1)
 
--- a greater number has no more calls
+-- the first call does not stay
+pub first_gone : (stay : ℕ → Bool) (calls others : List RememberedCall) (x : RememberedCall) (n : ℕ) (b : Bool) → calls ≡ x ∷ others → n ≡ x.told → b ≡ stay n → b ≡ false → [] ≡ first_that_stay stay calls
+first_gone stay calls others x n b cut told is off =
+    sym (ap (first_that_stay stay) cut ∙ ap (λ (y : Bool). if y then x ∷ first_that_stay stay others else []) (ap stay (sym told) ∙ sym is ∙ off))
+
+-- it stays, and some behind it
+pub first_more : (stay : ℕ → Bool) (calls others : List RememberedCall) (x : RememberedCall) (n r : ℕ) (b : Bool) → calls ≡ x ∷ others → n ≡ x.told → b ≡ stay n → b ≡ true → take r others ≡ first_that_stay stay others →
+    take (r + 1) calls ≡ first_that_stay stay calls
+first_more stay calls others x n r b cut told is on rest =
+    let e : r + 1 ≡ suc r = omega arith in
+    ap (λ m. take m calls) e ∙ ap (take (suc r)) cut ∙ ap (λ xs. x ∷ xs) rest
+    ∙ sym (ap (first_that_stay stay) cut ∙ ap (λ (y : Bool). if y then x ∷ first_that_stay stay others else []) (ap stay (sym told) ∙ sym is ∙ on))
+
+-- the last call of a client, and some behind it
+pub kept_more : (stay : ℕ → Bool) (kept others : List RememberedCall) (x : RememberedCall) (r : ℕ) → kept ≡ x ∷ others → take r others ≡ first_that_stay stay others → take (r + 1) kept ≡ kept_by stay kept
+kept_more stay kept others x r cut rest =
+    let e : r + 1 ≡ suc r = omega arith in
+    ap (λ m. take m kept) e ∙ ap (take (suc r)) cut ∙ ap (λ xs. x ∷ xs) rest ∙ sym (ap (kept_by stay) cut)
+
+-- from a greater number on there are no more calls
 lighter_by : (n m told w : ℕ) → n ≤ m → (if nat_lt told m then 0 else w) ≤ (if nat_lt told n then 0 else w)
 lighter_by n m told w up = by (nat_lt told m) (nat_lt told n) refl refl
   where
@@ -129,15 +148,15 @@ light : (w : ℕ) → not (nat_lt 8388608 w) ≡ true → w ≤ 8388608
 light w = by (nat_lt 8388608 w) refl
   where
     by : (b : Bool) → nat_lt 8388608 w ≡ b → not b ≡ true → w ≤ 8388608
-    by true is yes = cc
-    by false is yes = grind (arith, nat_tests, is)
+    by true is light_is = cc
+    by false is light_is = grind (arith, nat_tests, is)
 
 heavy : (w : ℕ) → not (nat_lt 8388608 w) ≡ false → 8388608 < w
 heavy w = by (nat_lt 8388608 w) refl
   where
     by : (b : Bool) → nat_lt 8388608 w ≡ b → not b ≡ false → 8388608 < w
-    by true is no = grind (arith, nat_tests, is)
-    by false is no = cc
+    by true is heavy_is = grind (arith, nat_tests, is)
+    by false is heavy_is = cc
 
 -- all clients were weighed: what is left of 8 MiB tells how many bytes there were
 pub all_weighed : (guests rest : List Guest) (n left : ℕ) → rest ≡ [] → left + weight_of_guests n guests ≡ 8388608 + weight_of_guests n rest → true ≡ stays guests n
@@ -168,21 +187,21 @@ stays_down guests n m up is =
 
 -- the least number that stays
 pub is_least : (guests : List Guest) (low high : ℕ) → stays guests low ≡ false → stays guests high ≡ true → high ≤ low + 1 → IsLeast (stays guests) (Some high)
-is_least guests low high no yes next n = by (nat_lt n high) refl
+is_least guests low high heavy_is light_is next n = by (nat_lt n high) refl
   where
     by : (b : Bool) → nat_lt n high ≡ b → stays guests n ≡ not b
-    by true is = sym (stays_down guests n low (grind (arith, nat_tests, is, next)) no)
-    by false is = sym (stays_up guests high n (grind (arith, nat_tests, is)) yes)
+    by true is = sym (stays_down guests n low (grind (arith, nat_tests, is, next)) heavy_is)
+    by false is = sym (stays_up guests high n (grind (arith, nat_tests, is)) light_is)
 
 pub all_stay : (guests : List Guest) → stays guests 0 ≡ true → IsLeast (stays guests) (Some 0)
-all_stay guests yes n = by (nat_lt n 0) refl
+all_stay guests light_is n = by (nat_lt n 0) refl
   where
     by : (b : Bool) → nat_lt n 0 ≡ b → stays guests n ≡ not b
     by true is = absurd (grind (arith, nat_tests, is))
-    by false is = sym (stays_up guests 0 n (omega arith) yes)
+    by false is = sym (stays_up guests 0 n (omega arith) light_is)
 
 pub none_stays : (guests : List Guest) → stays guests 18446744073709551615 ≡ false → IsLeast (stays guests) None
-none_stays guests no n few = sym (stays_down guests n 18446744073709551615 (omega (arith, few)) no)
+none_stays guests heavy_is n few = sym (stays_down guests n 18446744073709551615 (omega (arith, few)) heavy_is)
 
 pub newest_stay : NewestStay
 newest_stay guests n m up is = sym (stays_up guests n m up is)
@@ -219,17 +238,17 @@ weight_at n told w rest up = by (nat_lt told n) refl
 
 -- a call more that stays
 few_more : (stay : ℕ → Bool) (c : RememberedCall) (calls : List RememberedCall) (few : ℕ) → stay c.told ≡ true → FewFrom stay few (λ n. weight_from n calls) → FewFrom stay (call_weight c + few) (λ n. weight_from n (c ∷ calls))
-few_more stay c calls few yes (inl none) =
+few_more stay c calls few light_is (inl none) =
     let at = weight_at c.told c.told (call_weight c) (weight_from c.told calls) (omega arith) in
-    inr (c.told, yes, omega (arith, none, at))
-few_more stay c calls few yes (inr (m, is, less)) = by (nat_lt c.told m) refl
+    inr (c.told, light_is, omega (arith, none, at))
+few_more stay c calls few light_is (inr (m, is, less)) = by (nat_lt c.told m) refl
   where
     by : (b : Bool) → nat_lt c.told m ≡ b → FewFrom stay (call_weight c + few) (λ n. weight_from n (c ∷ calls))
     by true under =
         let up : c.told ≤ m = grind (arith, nat_tests, under) in
         let at = weight_at c.told c.told (call_weight c) (weight_from c.told calls) (omega arith) in
         let more = lighter_calls c.told m calls up in
-        inr (c.told, yes, omega (arith, less, at, more))
+        inr (c.told, light_is, omega (arith, less, at, more))
     by false over =
         let up : m ≤ c.told = grind (arith, nat_tests, over) in
         let at = weight_at m c.told (call_weight c) (weight_from m calls) up in
@@ -237,13 +256,13 @@ few_more stay c calls few yes (inr (m, is, less)) = by (nat_lt c.told m) refl
 
 few_first : (stay : ℕ → Bool) (calls : List RememberedCall) → FewFrom stay (weight_from 0 (first_that_stay stay calls)) (λ n. weight_from n calls)
 few_first stay [] = inl refl
-few_first stay (c ∷ calls) = by (stay c.told) refl
+few_first stay (c ∷ calls) = by (stay c.told) refl (few_first stay calls)
   where
-    by : (b : Bool) → stay c.told ≡ b → FewFrom stay (weight_from 0 (if b then c ∷ first_that_stay stay calls else [])) (λ n. weight_from n (c ∷ calls))
-    by false no = inl refl
-    by true yes =
+    by : (b : Bool) → stay c.told ≡ b → FewFrom stay (weight_from 0 (first_that_stay stay calls)) (λ n. weight_from n calls) → FewFrom stay (weight_from 0 (if b then c ∷ first_that_stay stay calls else [])) (λ n. weight_from n (c ∷ calls))
+    by false heavy_is more = inl refl
+    by true light_is more =
         subst (λ few. FewFrom stay few (λ n. weight_from n (c ∷ calls))) (sym (weight_at 0 c.told (call_weight c) (weight_from 0 (first_that_stay stay calls)) (omega arith)))
-        (few_more stay c calls (weight_from 0 (first_that_stay stay calls)) yes (few_first stay calls))
+        (few_more stay c calls (weight_from 0 (first_that_stay stay calls)) light_is more)
 
 few_behind : (stay : ℕ → Bool) (kept : List RememberedCall) → FewFrom stay (weight_behind 0 (kept_by stay kept)) (λ n. weight_behind n kept)
 few_behind stay [] = inl refl
@@ -252,15 +271,15 @@ few_behind stay (c ∷ calls) = few_first stay calls
 -- the calls of one client and those of others
 few_both : (stay : ℕ → Bool) (g : Guest) (guests : List Guest) (one more : ℕ) → FewFrom stay one (λ n. weight_behind n g.keys.kept) → FewFrom stay more (λ n. weight_of_guests n guests) → FewFrom stay (one + more) (λ n. weight_of_guests n (g ∷ guests))
 few_both stay g guests one more (inl none) (inl nothing) = inl (omega (arith, none, nothing))
-few_both stay g guests one more (inl none) (inr (m, yes, less)) = inr (m, yes, omega (arith, none, less))
-few_both stay g guests one more (inr (m, yes, less)) (inl nothing) = inr (m, yes, omega (arith, nothing, less))
-few_both stay g guests one more (inr (m, yes, less)) (inr (n, is, fewer)) = by (nat_lt m n) refl
+few_both stay g guests one more (inl none) (inr (m, light_is, less)) = inr (m, light_is, omega (arith, none, less))
+few_both stay g guests one more (inr (m, light_is, less)) (inl nothing) = inr (m, light_is, omega (arith, nothing, less))
+few_both stay g guests one more (inr (m, light_is, less)) (inr (n, is, fewer)) = by (nat_lt m n) refl
   where
     by : (b : Bool) → nat_lt m n ≡ b → FewFrom stay (one + more) (λ k. weight_of_guests k (g ∷ guests))
     by true under =
         let up : m ≤ n = grind (arith, nat_tests, under) in
         let all = lighter m n guests up in
-        inr (m, yes, omega (arith, less, fewer, all))
+        inr (m, light_is, omega (arith, less, fewer, all))
     by false over =
         let up : n ≤ m = grind (arith, nat_tests, over) in
         let own = lighter_behind n m g.keys.kept up in
@@ -276,4 +295,4 @@ bounded_has_room guests = by (few_guests (stays guests) guests)
   where
     by : FewFrom (stays guests) (weight_of_guests 0 (bounded guests)) (λ n. weight_of_guests n guests) → weight_of_guests 0 (bounded guests) ≤ 8388608
     by (inl none) = omega (arith, none)
-    by (inr (m, yes, less)) = let room = light (weight_of_guests m guests) yes in omega (arith, less, room)
+    by (inr (m, light_is, less)) = let room = light (weight_of_guests m guests) light_is in omega (arith, less, room)

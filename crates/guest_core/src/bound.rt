@@ -171,15 +171,13 @@ fn count_first(calls: &[RememberedCall], least: Option<u64>) -> usize
     ensures within { result ≤ length calls.now }
     ensures kept { (stay : ℕ → Bool) → IsLeast stay least → take result calls.now ≡ first_that_stay stay calls.now }
 {
-    match calls {
-        [] => 0,
-        [call, others @ ..] => {
-            if !is_kept(call.told(), least) {
-                return 0;
-            }
-            count_first(others, least) + 1
-        }
+    let Some((call, others)) = calls.split_first() else {
+        return 0;
+    };
+    if !is_kept(call.told(), least) {
+        return 0;
     }
+    count_first(others, least) + 1
 }
 
 /// How many of the calls of a client are kept, the newest first, where this is the least number from which they are.
@@ -187,8 +185,16 @@ pub fn count_kept(kept: &[RememberedCall], least: Option<u64>) -> usize
     ensures within { result ≤ length kept.now }
     ensures kept { (stay : ℕ → Bool) → IsLeast stay least → take result kept.now ≡ kept_by stay kept.now }
 {
-    match kept {
-        [] => 0,
-        [_, others @ ..] => count_first(others, least) + 1,
-    }
+    let Some((_last, others)) = kept.split_first() else {
+        return 0;
+    };
+    count_first(others, least) + 1
+}
+
+/// The calls of a client that are kept, the newest first, where this is the least number from which they are.
+pub fn kept_from(kept: &[RememberedCall], least: Option<u64>) -> &[RememberedCall]
+    ensures { (stay : ℕ → Bool) → IsLeast stay least → result.now ≡ kept_by stay kept.now }
+{
+    let (few, _) = kept.split_at(count_kept(kept, least));
+    few
 }

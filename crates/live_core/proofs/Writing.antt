@@ -1,6 +1,6 @@
 -- The lines of a front, one more.
 use Rattle.std.proofs.Common.{◌≡◌, ℕ, ◌+◌, ◌-◌, ◌<◌, List, [], ◌∷◌, ◌++◌, length, map, take, get_or, refl, sym, ap, subst, ◌∙◌, append_assoc}
-use Rattle.std.specs.Prelude.{All, codes}
+use Rattle.std.specs.Prelude.{All, Bool, codes}
 use Rattle.value_core.specs.Contents.{IsContents}
 use Rattle.std.proofs.lemmas.List.{take_more, append-nil}
 use Rattle.decl_core.specs.ObjectForm.{ObjectForm}
@@ -13,7 +13,7 @@ use Rattle.live_core.specs.declared.past.PastRun.{PastRun}
 use Rattle.live_core.specs.Front.{Every, IsLong}
 use Rattle.live_core.specs.Text.{rows, carried_words, client_words, kept_words, runs_text, carried_text, clients_text, kept_text}
 use Rattle.live_core.specs.Text.{object_words, source_words, base_words, calls_text, behind_parts}
-use Rattle.guest_core.specs.Bound.{bounded}
+use Rattle.guest_core.specs.Bound.{bounded, guest_by, kept_by}
 use Rattle.guest_core.specs.declared.guest.Guest.{Guest}
 use Rattle.guest_core.specs.declared.kept.RememberedCall.{RememberedCall}
 use Rattle.live_core.specs.Scene.{Scene}
@@ -46,6 +46,14 @@ kept_push [] g = refl
 kept_push (h ∷ gs) g =
     let mine : List KeptCall = kept_below h.session h.keys.next h.keys.kept in
     ap (λ t. mine ++ t) (kept_push gs g) ∙ sym (append_assoc mine (kept_of gs) (kept_of (g ∷ [])))
+
+-- the calls of a client with which an epoch begins
+pub one_kept : (o : ObjectForm) (stay : ℕ → Bool) (g : Guest) (session next : ℕ) (kept : List RememberedCall) (before after : List ℕ) → session ≡ g.session → next ≡ g.keys.next → kept ≡ kept_by stay g.keys.kept →
+    after ≡ before ++ kept_text o (kept_below session next kept) → after ≡ before ++ kept_text o (kept_of (guest_by stay g ∷ []))
+one_kept o stay g session next kept before after sessions nexts some is =
+    is ∙ ap (λ n. before ++ kept_text o (kept_below n next kept)) sessions ∙ ap (λ n. before ++ kept_text o (kept_below g.session n kept)) nexts
+    ∙ ap (λ ks. before ++ kept_text o (kept_below g.session g.keys.next ks)) some
+    ∙ ap (λ ks. before ++ kept_text o ks) (sym (append-nil (kept_below g.session g.keys.next (kept_by stay g.keys.kept))))
 
 -- each of a list, one more
 pub map_more : {X Y : Type 0} (f : X → Y) (all : List X) (i : ℕ) (d x : X) → i < length all → x ≡ get_or all i d → map f (take (i + 1) all) ≡ map f (take i all) ++ f x ∷ []
@@ -127,12 +135,6 @@ front_told s epoch runs base out one two three four first second third told sour
 every_push : {X : Type 0} (P : X → Type 0) (xs : List X) (x : X) → Every P xs → P x → Every P (xs ++ x ∷ [])
 every_push P [] x all is = (is, tt)
 every_push P (y ∷ xs) x all is = (all.0, every_push P xs x all.1 is)
-
--- it holds of one more
-pub every_more : {X : Type 0} (P : X → Type 0) (all : List X) (i : ℕ) (d x : X) → i < length all → x ≡ get_or all i d → Every P (take i all) → P x → Every P (take (i + 1) all)
-every_more P all i d x inside is was more =
-    let to : take (i + 1) all ≡ take i all ++ x ∷ [] = take_more all i d inside ∙ ap (λ y. take i all ++ y ∷ []) (sym is) in
-    subst (λ l. Every P l) (sym to) (every_push P (take i all) x was more)
 
 -- it holds of each of one more
 pub every_map_more : {X Y : Type 0} (P : Y → Type 0) (f : X → Y) (all : List X) (i : ℕ) (d x : X) → i < length all → x ≡ get_or all i d → Every P (map f (take i all)) → P (f x) → Every P (map f (take (i + 1) all))

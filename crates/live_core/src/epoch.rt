@@ -26,7 +26,7 @@ use crate::write::{
     push_base, push_carried, push_client, push_kept, push_object, push_past, push_source,
 };
 use decl_core::object::Object;
-use guest_core::bound::{count_kept, least_kept};
+use guest_core::bound::{kept_from, least_kept};
 use guest_core::guest::Guest;
 use guest_core::kept::RememberedCall;
 use path_count::finder::short_past;
@@ -119,9 +119,14 @@ fn push_kept_of(
     // Called for its contract alone: it is a name.
     guest.name().as_bytes();
     let keys = guest.keys();
-    let count = count_kept(keys.kept(), least);
-    let (kept, _) = keys.kept().split_at(count);
-    push_kept_below(alloc, out, object, guest.session(), keys.next(), kept)?;
+    push_kept_below(
+        alloc,
+        out,
+        object,
+        guest.session(),
+        keys.next(),
+        kept_from(keys.kept(), least),
+    )?;
     Ok(())
 }
 
