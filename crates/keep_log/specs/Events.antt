@@ -3,6 +3,7 @@ use Rattle.std.specs.Prelude.{ℕ, List, [], ◌∷◌, ◌++◌, Option, Some, 
 use Rattle.jiff_core.specs.declared.civil.datetime.DateTime.{DateTime}
 use Rattle.cause_core.specs.Causes.{cause_words}
 use Rattle.cause_core.specs.declared.cause.Cause.{Cause}
+use Rattle.keep_log.specs.declared.event.BackLine.{BackLine}
 use Rattle.keep_log.specs.declared.event.LetGo.{LetGo}
 use Rattle.keep_log.specs.declared.event.LetGo.TheVariants.{Broke, Unwritten, Over}
 use Rattle.keep_log.specs.declared.event.Work.{Work}
@@ -79,17 +80,17 @@ again_level None = Info
 again_level (Some seconds) = Warn
 
 -- what is told of a call that was made for a client that is gone
-abbrev pub back_fields : List ℕ → ℕ → List ℕ → List ℕ → ℕ → List Field
-back_fields object n held undo session = word (codes "object") object ∷ number (codes "number") n ∷ word (codes "held") held
-    ∷ word (codes "undo") undo ∷ number (codes "session") session ∷ []
+abbrev pub back_fields : BackLine → List Field
+back_fields b = word (codes "object") b.object.now ∷ number (codes "number") b.number ∷ word (codes "held") b.held.now
+    ∷ word (codes "undo") b.undo.now ∷ number (codes "session") b.session ∷ []
 
 -- of whom
 abbrev pub gone_fields : List ℕ → Option ℕ → List Field
 gone_fields name again = name_fields name ++ again_fields again
 
-abbrev pub gives_back : LineForm → DateTime → List ℕ → ℕ → List ℕ → List ℕ → ℕ → List ℕ → Option ℕ → List ℕ
-gives_back form moment object n held undo session name again = line form moment (again_level again) (codes "gave-back")
-    (back_fields object n held undo session ++ gone_fields name again)
+abbrev pub gives_back : LineForm → DateTime → BackLine → List ℕ
+gives_back form moment b = line form moment (again_level b.again) (codes "gave-back")
+    (back_fields b ++ gone_fields b.name.now b.again)
 
 abbrev pub leaves_out : LineForm → DateTime → ℕ → List ℕ
 leaves_out form moment n = line form moment Warn (codes "left-out")
@@ -107,13 +108,20 @@ connection_fields (Some who) = number (codes "connection") who ∷ []
 abbrev pub client_fields : Option ℕ → List ℕ → List Field
 client_fields who object = connection_fields who ++ object_fields object
 
+abbrev pub owed_fields : ℕ → List Field
+owed_fields owed = number (codes "owed") owed ∷ []
+
 abbrev pub stalls : LineForm → DateTime → ℕ → List ℕ → ℕ → List ℕ
 stalls form moment who object owed = line form moment Warn (codes "stalled")
-    (client_fields (Some who) object ++ number (codes "owed") owed ∷ [])
+    (client_fields (Some who) object ++ owed_fields owed)
+
+-- by which word, and of how many lines it is the last
+abbrev pub refusal_fields : List ℕ → ℕ → List Field
+refusal_fields refusal lines = word (codes "word") refusal ∷ number (codes "lines") lines ∷ []
 
 abbrev pub mishears : LineForm → DateTime → Option ℕ → List ℕ → List ℕ → ℕ → List ℕ
 mishears form moment who object refusal lines = line form moment Warn (codes "bad-line")
-    (client_fields who object ++ word (codes "word") refusal ∷ number (codes "lines") lines ∷ [])
+    (client_fields who object ++ refusal_fields refusal lines)
 
 abbrev pub notes : LineForm → DateTime → List ℕ → List ℕ
 notes form moment said = line form moment Warn (codes "notice") (word (codes "said") said ∷ [])

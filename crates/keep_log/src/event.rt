@@ -1,7 +1,7 @@
 //! The lines of events.
 
 ghost use Rattle.std.specs.Prelude.{◌≡◌, ◌++◌, OnOk};
-ghost use Rattle.keep_log.specs.Events.{again_fields, again_level, back_fields, begins, because, carries_on, changes, client_fields, connection_fields, ends, fails, gives_back, gone_fields, keeps, lacks, leaves_out, lets_go, mishears, name_fields, notes, object_fields, stalls, starts, why_word, work_word, works};
+ghost use Rattle.keep_log.specs.Events.{again_fields, again_level, back_fields, begins, because, carries_on, changes, client_fields, connection_fields, ends, fails, gives_back, gone_fields, keeps, lacks, leaves_out, lets_go, mishears, name_fields, notes, object_fields, owed_fields, refusal_fields, stalls, starts, why_word, work_word, works};
 ghost use Rattle.keep_log.specs.Lines.{fields_text};
 
 use crate::line::{Level, LineForm, push_count, push_end, push_head, push_word};
@@ -242,15 +242,14 @@ pub struct BackLine<'a> {
     pub number: u64,
     pub held: &'a [u8],
     pub undo: &'a [u8],
-    pub session: u16,
+    pub session: u32,
     pub name: &'a [u8],
     pub again: Option<u64>,
 }
 
 // Adds which call is given back, and how.
 fn push_back(out: &mut Vec<u8>, form: LineForm, back: BackLine<'_>) -> Result<(), AllocError>
-    ensures { OnOk result (out.new.items ≡ out.old.items ++ fields_text form (back_fields back.object.now back.number
-        back.held.now back.undo.now back.session)) }
+    ensures { OnOk result (out.new.items ≡ out.old.items ++ fields_text form (back_fields back.entry)) }
 {
     push_word(out, form, b"object", back.object)?;
     push_count(out, form, b"number", back.number)?;
@@ -281,13 +280,13 @@ pub fn push_gave_back(
     moment: DateTime,
     back: BackLine<'_>,
 ) -> Result<(), AllocError>
-    ensures { OnOk result (out.new.items ≡ out.old.items ++ gives_back form moment back.object.now back.number back.held.now
-        back.undo.now back.session back.name.now back.again) }
+    ensures { OnOk result (out.new.items ≡ out.old.items ++ gives_back form moment back.entry) }
 {
     push_head(out, form, moment, again_level(back.again), b"gave-back")?;
     push_back(out, form, back)?;
     push_gone(out, form, back.name, back.again)?;
-    push_end(out, form)
+    push_end(out, form)?;
+    Ok(())
 }
 
 /// So many lines of what was given back are left out.
@@ -345,6 +344,28 @@ fn push_connection(
     Ok(())
 }
 
+// Adds how many bytes are owed.
+fn push_owed(out: &mut Vec<u8>, form: LineForm, owed: u64) -> Result<(), AllocError>
+    ensures { OnOk result (out.new.items ≡ out.old.items ++ fields_text form (owed_fields owed)) }
+{
+    push_count(out, form, b"owed", owed)?;
+    Ok(())
+}
+
+// Adds by which word a line was refused, and of how many lines it is the last.
+fn push_refusal(
+    out: &mut Vec<u8>,
+    form: LineForm,
+    word: &[u8],
+    lines: u64,
+) -> Result<(), AllocError>
+    ensures { OnOk result (out.new.items ≡ out.old.items ++ fields_text form (refusal_fields word.now lines)) }
+{
+    push_word(out, form, b"word", word)?;
+    push_count(out, form, b"lines", lines)?;
+    Ok(())
+}
+
 /// The client of a connection reads nothing, and so many bytes are owed to it. The name of the object that it has opened has
 /// no bytes where it has opened none.
 pub fn push_stalled(
@@ -359,8 +380,9 @@ pub fn push_stalled(
 {
     push_head(out, form, moment, Level::Warn, b"stalled")?;
     push_connection(out, form, Some(connection), object)?;
-    push_count(out, form, b"owed", owed)?;
-    push_end(out, form)
+    push_owed(out, form, owed)?;
+    push_end(out, form)?;
+    Ok(())
 }
 
 /// A line of a connection was refused by this word, which asks for nothing; it is the last of so many.
@@ -377,9 +399,9 @@ pub fn push_bad_line(
 {
     push_head(out, form, moment, Level::Warn, b"bad-line")?;
     push_connection(out, form, connection, object)?;
-    push_word(out, form, b"word", word)?;
-    push_count(out, form, b"lines", lines)?;
-    push_end(out, form)
+    push_refusal(out, form, word, lines)?;
+    push_end(out, form)?;
+    Ok(())
 }
 
 /// What a start tells, and goes on.

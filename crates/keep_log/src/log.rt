@@ -157,8 +157,7 @@ impl<R: Clock, E: Write> Log<R, E> {
     /// What a client held that is gone is given back, or could not be.
     pub fn gave_back(&mut self, back: BackLine<'_>)
         ensures { Tells self.old.form (E.contents self.old.errors) (E.contents self.new.errors)
-            (λ form moment. gives_back form moment back.object.now back.number back.held.now back.undo.now back.session
-            back.name.now back.again) }
+            (λ form moment. gives_back form moment back.entry) }
     {
         let Some(form) = self.form else {
             return;

@@ -1,7 +1,7 @@
 //! Connections, a clock and journals, with a log.
 
 ghost use Rattle.std.specs.Prelude.{◌≡◌, ◌≢◌, ◌<◌, ◌≤◌, ◌+◌, true, false, Some, IfSome, slice_get};
-ghost use Rattle.keep_log.specs.Stalls.{IsDue};
+ghost use Rattle.keep_log.specs.Stalls.{IsLongOwed};
 
 use crate::event::{BackLine, LetGo, Work};
 use crate::log::Log;
@@ -75,7 +75,7 @@ fn may_tell(last: Option<u64>, second: u64) -> bool
 
 // Whether it is to be told that much is owed to one: it is so for a second, and was not told.
 fn is_due(row: Stall, second: u64) -> bool
-    ensures { result ≡ true → IsDue second row }
+    ensures { result ≡ true → IsLongOwed second row }
 {
     if row.is_told || second <= row.since {
         return false;
@@ -85,7 +85,7 @@ fn is_due(row: Stall, second: u64) -> bool
 
 // The place of the first of whom that is to be told.
 fn first_due(rows: &[Stall], second: u64) -> Option<usize>
-    ensures { IfSome result (λ at. (row : Stall) × (slice_get rows.now at ≡ Some row) × IsDue second row) }
+    ensures { IfSome result (λ at. (row : Stall) × (slice_get rows.now at ≡ Some row) × IsLongOwed second row) }
 {
     for at in 0..rows.len() {
         if is_due(rows[at], second) {

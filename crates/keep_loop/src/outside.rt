@@ -3,6 +3,7 @@
 ghost use Rattle.std.specs.Prelude.{◌≡◌, ◌≤◌, true, false, ℕ, List, Option, length, take, OnOk, OnErr, IfOk, IfSome, IfNone};
 ghost use Rattle.keep_loop.specs.Seen.{Happened, Grows, GrowsIf, read_of};
 ghost use Rattle.keep_loop.specs.Seen.Happened.{Broke, Wrote, Noticed, Added, Stored, Changed};
+ghost use Rattle.keep_loop.specs.declared.outside.GivenBack.{GivenBack as AGivenBack};
 ghost use Rattle.keep_loop.specs.declared.served.Note.TheVariants.{Joins, Leaves, Ticks, Ends};
 
 use std::alloc::AllocError;
@@ -44,7 +45,7 @@ pub struct GivenBack {
     /// The place of the object.
     pub object: usize,
     /// The session of the client.
-    pub session: u16,
+    pub session: u32,
     /// The number of the call that is held, as it was told.
     pub number: u64,
     /// The operation of that call, by its place in the object.
@@ -70,7 +71,7 @@ pub trait Visible {
     ghost shows: { Self → List ℕ → Type 0 };
 
     /// This is the notice of a number of this state.
-    ghost notices: { Self → ℕ → GivenBack → Type 0 };
+    ghost notices: { Self → ℕ → AGivenBack → Type 0 };
 
     /// Puts a status in place of what is in `text`. The error is that memory was refused.
     fn status(&self, text: &mut Vec<u8>) -> Result<(), AllocError>
@@ -102,7 +103,7 @@ pub trait Visible {
     fn operation_name(&self, at: usize, operation: u16) -> &[u8];
 
     /// The name of the client of a session of the object at a place; no bytes where it has none.
-    fn client_name(&self, at: usize, session: u16) -> &[u8];
+    fn client_name(&self, at: usize, session: u32) -> &[u8];
 }
 
 /// Connections, a clock, and journals. A connection is known by its number, and a journal by its place.

@@ -5,7 +5,7 @@ use Rattle.apply_core.specs.declared.reply.Reply.{Reply}
 use Rattle.apply_core.specs.declared.reply.Reply.TheVariants.{Done, Refused, Failed}
 use Rattle.decl_core.specs.ObjectForm.{ObjectForm}
 use Rattle.decl_core.specs.ObjectMap.{object_of}
-use Rattle.decl_core.specs.HoldForm.{HoldForm, RulesForm}
+use Rattle.decl_core.specs.HoldForm.{RulesForm}
 use Rattle.guest_core.specs.Held.{HeldCall}
 use Rattle.guest_core.specs.Places.{IsNewest}
 use Rattle.guest_core.specs.Undo.{IsUndoOf}
@@ -36,28 +36,24 @@ noticed n = record { rows = n.rows.items; count = n.count }
 abbrev pub noting : GivenBack → Noticed → Noticed
 noting one n = record { rows = slice_set n.rows (n.count % most_known) one; count = next n.count }
 
--- a held call is of an operation, and a call of another one gives it back
-pub record EndsBy (o : ObjectForm) (rules : RulesForm) (held : HeldCall) (operation undo : ℕ) : Type 0 where
-  pub arguments : List Datum
-  pub undo : IsUndoOf o rules.holds held undo arguments
-  pub hold : HoldForm
-  pub there : slice_get rules.holds held.rule ≡ Some hold
-  pub operation : hold.op ≡ operation
-
--- a notice is of the newest call that a session holds, and of what gives it back
-pub record IsBack (o : ObjectForm) (h : Holding) (session : ℕ) (n : GivenBack) : Type 0 where
+-- a notice is of this held call of a session, and of the operation that gives it back; it says when that is tried again
+pub record IsBack (o : ObjectForm) (rules : RulesForm) (session : ℕ) (again : Option ℕ) (held : HeldCall) (n : GivenBack) : Type 0 where
   pub session_is : n.session ≡ session
-  pub place : ℕ
-  pub held : HeldCall
-  pub newest : IsNewest session h.held place held
-  pub number : n.number ≡ held.number
-  pub ends : EndsBy o h.rules held n.operation n.undo
+  pub number_is : n.number ≡ held.number
+  pub again_is : n.again ≡ again
+  pub arguments : List Datum
+  pub gives : IsUndoOf o rules.holds held n.undo arguments
+
+-- it is of the newest that the session holds
+abbrev pub IsNewestBack : ObjectForm → Holding → ℕ → Option ℕ → GivenBack → Type 0
+IsNewestBack o h session again n =
+    (place : ℕ) × (held : HeldCall) × IsNewest session h.held place held × IsBack o h.rules session again held n
 
 -- a call was made for a session that is gone, and has not ended
-abbrev pub IsMade : WhenDue → Type 0
-IsMade Now = Unit {0}
-IsMade (At due) = ⊥
-IsMade Waits = Unit {0}
+abbrev pub CallIsMade : WhenDue → Type 0
+CallIsMade Now = Unit {0}
+CallIsMade (At due) = ⊥
+CallIsMade Waits = Unit {0}
 
 -- where it is not done it is made again behind the pause
 abbrev pub again_in : Reply → ℕ → Option ℕ
@@ -67,14 +63,13 @@ again_in (Failed failure) pause = Some pause
 
 -- a notice of a call that ran: it was made for a session that is gone, and gives back the newest that this holds
 pub record IsBackBy (o : ObjectForm) (h : Holding) (r : Ran) (n : GivenBack) : Type 0 where
-  pub back : IsBack o h r.call.session n
-  pub undo : n.undo ≡ r.call.operation
   pub place : ℕ
   pub gone : Holder
   pub there : slice_get h.gone place ≡ Some gone
   pub own : gone.session ≡ r.call.session
-  pub made : IsMade gone.when
-  pub again : n.again ≡ again_in r.reply gone.pause
+  pub made : CallIsMade gone.when
+  pub back : IsNewestBack o h r.call.session (again_in r.reply gone.pause) n
+  pub undo_is : n.undo ≡ r.call.operation
 
 -- of a call that ran nothing is noticed, or this
 abbrev pub NotesOne : ObjectForm → Holding → Ran → Noticed → Noticed → Type 0
@@ -85,17 +80,15 @@ abbrev pub NotesAll : ObjectForm → Holding → List Ran → Noticed → Notice
 NotesAll o h [] old new = new ≡ old
 NotesAll o h (r ∷ ran) old new = (mid : Noticed) × NotesOne o h r old mid × NotesAll o h ran mid new
 
--- the same of the object at a place
-pub record NotesThere (objects : List Scene) (held : List Holding) (at : ℕ) (ran : List Ran) (old new : Noticed) : Type 0 where
-  pub object : Scene
-  pub is : slice_get objects at ≡ Some object
-  pub holding : Holding
-  pub has : slice_get held at ≡ Some holding
-  pub notes : NotesAll (object_of object.hall.object) holding ran old new
+-- the same of the object at a place, or nothing is noticed
+abbrev pub NotesOf : List Scene → Holding → ℕ → List Ran → Noticed → Noticed → Type 0
+NotesOf objects h at ran old new = (new ≡ old)
+    ⊎ ((object : Scene) × (slice_get objects at ≡ Some object) × NotesAll (object_of object.hall.object) h ran old new)
 
 abbrev pub NotesAt : List Scene → List Holding → ℕ → List Ran → Noticed → Noticed → Type 0
-NotesAt objects held at ran old new = (new ≡ old) ⊎ NotesThere objects held at ran old new
+NotesAt objects all at ran old new = (new ≡ old)
+    ⊎ ((h : Holding) × (slice_get all at ≡ Some h) × NotesOf objects h at ran old new)
 
 -- a table has this notice of a number
-abbrev pub IsNoted : Table → ℕ → GivenBack → Type 0
-IsNoted t number n = slice_get t.notices.rows.items (number % most_known) ≡ Some n
+abbrev pub HasNotice : Table → ℕ → GivenBack → Type 0
+HasNotice t number n = slice_get t.notices.rows.items (number % most_known) ≡ Some n

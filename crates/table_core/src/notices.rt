@@ -3,12 +3,12 @@
 //! Nothing of what a client sent stands in it. All memory for it is taken at the start; of more notices than have room the
 //! newest are known.
 
-ghost use Rattle.std.specs.Prelude.{◌≡◌, ◌⊎◌, ◌%◌, ◌×◌, ℕ, true, Some, IfOk, IfSome, slice_get};
+ghost use Rattle.std.specs.Prelude.{◌≡◌, ◌⊎◌, ◌%◌, ℕ, List, true, Some, IfSome, slice_get};
+ghost use Rattle.value_core.specs.declared.datum.Datum.{Datum as ADatum};
 ghost use Rattle.decl_core.specs.ObjectMap.{object_of};
 ghost use Rattle.decl_core.specs.HoldMap.{rules_of};
-ghost use Rattle.client_core.specs.declared.holder.Holder.{Holder as AHolder};
-ghost use Rattle.client_core.specs.Holding.{Holding as AHolding};
-ghost use Rattle.table_core.specs.Notices.{EndsBy, IsBack, IsBackBy, IsMade, NotesAll, NotesAt, NotesOne, again_in, most_known, noticed, noting};
+ghost use Rattle.guest_core.specs.Undo.{IsUndoOf};
+ghost use Rattle.table_core.specs.Notices.{CallIsMade, IsBack, IsBackBy, IsNewestBack, NotesAll, NotesAt, NotesOf, NotesOne, again_in, most_known, noticed, noting};
 
 use apply_core::reply::Reply;
 use client_core::all::AllHeld;
@@ -77,7 +77,7 @@ fn push(notices: &mut Notices, one: GivenBack)
 
 // Whether a call that was made for a session has not ended.
 fn is_made(when: WhenDue) -> bool
-    ensures { result ≡ true → IsMade when }
+    ensures { result ≡ true → CallIsMade when }
 {
     match when {
         WhenDue::Now => true,
@@ -86,13 +86,24 @@ fn is_made(when: WhenDue) -> bool
     }
 }
 
+// Whether one is of a session, for which a call was made that has not ended.
+fn is_for(row: Holder, session: u32) -> bool
+    ensures own { result ≡ true → row.session ≡ session }
+    ensures made { result ≡ true → CallIsMade row.when }
+{
+    if u32::from(row.session) != session {
+        return false;
+    }
+    is_made(row.when)
+}
+
 // The one of these that has a session, where a call was made for it that has not ended.
 fn made_for(gone: &[Holder], session: u32) -> Option<Holder>
-    ensures { IfSome result (λ g. (k : ℕ) × (slice_get gone.now k ≡ Some g) × (g.session ≡ session) × IsMade g.when) }
+    ensures { IfSome result (λ g. (k : ℕ) × (slice_get gone.now k ≡ Some g) × (g.session ≡ session) × CallIsMade g.when) }
 {
     for place in 0..gone.len() {
         let row = gone[place];
-        if u32::from(row.session) == session && is_made(row.when) {
+        if is_for(row, session) {
             return Some(row);
         }
     }
@@ -110,43 +121,97 @@ fn again_in(reply: &Reply, pause: u64) -> Option<u64>
     }
 }
 
-// The operation of a held call, and the one that gives it back.
-fn ends_by(object: &Object, rules: &Rules, held: &HeldCall) -> Option<(OpId, OpId)>
-    ensures { IfSome result (λ ops. EndsBy (object_of object.now) (rules_of rules.now) held.now ops.0 ops.1) }
+// The operation that gives a held call back.
+fn undo_in(object: &Object, rules: &Rules, held: &HeldCall) -> Option<OpId>
+    ensures { IfSome result (λ undo. (arguments : List ADatum)
+        × IsUndoOf (object_of object.now) (rules_of rules.now).holds held.now undo arguments) }
 {
     match undo_of(object, &rules.holds, held) {
         None => None,
-        Some((undo, _)) => match rules.holds.get(held.rule()) {
-            None => None,
-            Some(hold) => Some((hold.op, undo)),
-        },
+        Some(undo) => Some(undo.0),
     }
 }
 
-// A notice of the newest that a session holds of the object at a place, which is tried again in so many seconds.
+// The operation of a held call.
+fn operation_in(rules: &Rules, held: &HeldCall) -> OpId {
+    match rules.holds.get(held.rule()) {
+        None => 0,
+        Some(hold) => hold.op,
+    }
+}
+
+// A notice of a call that a session holds of the object at a place, which is tried again in so many seconds.
+fn back_from(
+    object: &Object,
+    rules: &Rules,
+    at: usize,
+    session: u32,
+    again: Option<u64>,
+    held: &HeldCall,
+) -> Option<GivenBack>
+    ensures { IfSome result (IsBack (object_of object.now) (rules_of rules.now) session again held.now) }
+{
+    match undo_in(object, rules, held) {
+        None => None,
+        Some(undo) => Some(GivenBack {
+            object: at,
+            session,
+            number: held.number(),
+            operation: operation_in(rules, held),
+            undo,
+            again,
+        }),
+    }
+}
+
+// The same of the newest that it holds.
 fn back_of(
     object: &Object,
     holding: &Holding,
     at: usize,
-    session: u16,
+    session: u32,
     again: Option<u64>,
 ) -> Option<GivenBack>
-    ensures back { IfSome result (λ n. IsBack (object_of object.now) holding.now session n) }
-    ensures again { IfSome result (λ n. n.again ≡ again) }
+    ensures { IfSome result (IsNewestBack (object_of object.now) holding.now session again) }
 {
-    match holding.holds().newest(u32::from(session)) {
+    match holding.holds().newest(session) {
         None => None,
-        Some(held) => match ends_by(object, holding.rules(), held) {
-            None => None,
-            Some((operation, undo)) => Some(GivenBack {
-                object: at,
-                session,
-                number: held.number(),
-                operation,
-                undo,
-                again,
-            }),
-        },
+        Some(held) => back_from(object, holding.rules(), at, session, again, held),
+    }
+}
+
+// Whether a notice is of the operation of a call that ran.
+fn is_by(one: GivenBack, ran: &Ran) -> bool
+    ensures { result ≡ true → one.undo ≡ ran.now.call.operation }
+{
+    one.undo == ran.call.operation()
+}
+
+// A notice of a call that ran and was made for a session that is gone.
+fn back_for(
+    object: &Object,
+    holding: &Holding,
+    at: usize,
+    ran: &Ran,
+    pause: u64,
+) -> Option<GivenBack>
+    ensures { IfSome result (λ n. IsNewestBack (object_of object.now) holding.now ran.now.call.session
+        (again_in ran.now.reply pause) n × (n.undo ≡ ran.now.call.operation)) }
+{
+    match back_of(
+        object,
+        holding,
+        at,
+        ran.call.session(),
+        again_in(&ran.reply, pause),
+    ) {
+        None => None,
+        Some(one) => {
+            if is_by(one, ran) {
+                return Some(one);
+            }
+            None
+        }
     }
 }
 
@@ -156,18 +221,7 @@ fn back_by(object: &Object, holding: &Holding, at: usize, ran: &Ran) -> Option<G
 {
     match made_for(holding.gone(), ran.call.session()) {
         None => None,
-        Some(gone) => {
-            let again = again_in(&ran.reply, gone.pause);
-            match back_of(object, holding, at, gone.session, again) {
-                None => None,
-                Some(one) => {
-                    if one.undo != ran.call.operation() {
-                        return None;
-                    }
-                    Some(one)
-                }
-            }
-        }
+        Some(gone) => back_for(object, holding, at, ran, gone.pause),
     }
 }
 
@@ -205,6 +259,16 @@ fn note_gone(notices: &mut Notices, object: &Object, holding: &Holding, at: usiz
     note_all(notices, object, holding, at, all);
 }
 
+// The same of the object at a place.
+fn note_held(notices: &mut Notices, objects: &[Hosted], holding: &Holding, at: usize, all: &[Ran])
+    ensures { NotesOf objects.now holding.now at all.now (noticed notices.old) (noticed notices.new) }
+{
+    match objects.get(at) {
+        None => {}
+        Some(object) => note_gone(notices, object.live().object(), holding, at, all),
+    }
+}
+
 /// Notices calls of the object at a place that ran and were made for sessions that are gone, before what is held follows.
 pub(crate) fn note_ran(
     notices: &mut Notices,
@@ -217,10 +281,7 @@ pub(crate) fn note_ran(
 {
     match custody.at(at) {
         None => {}
-        Some(holding) => match objects.get(at) {
-            None => {}
-            Some(object) => note_gone(notices, object.live().object(), holding, at, all),
-        },
+        Some(holding) => note_held(notices, objects, holding, at, all),
     }
 }
 
@@ -239,7 +300,13 @@ pub(crate) fn note_untaken(
         return;
     };
     let again = Some(FIRST_PAUSE);
-    if let Some(one) = back_of(object.live().object(), holding, at, session, again) {
+    if let Some(one) = back_of(
+        object.live().object(),
+        holding,
+        at,
+        u32::from(session),
+        again,
+    ) {
         push(notices, one);
     }
 }
@@ -321,10 +388,13 @@ pub(crate) fn operation_name(objects: &[Hosted], at: usize, operation: OpId) -> 
 }
 
 /// The name of the client of a session of the object at a place; no bytes where it has none.
-pub(crate) fn client_name(objects: &[Hosted], at: usize, session: u16) -> &[u8] {
+pub(crate) fn client_name(objects: &[Hosted], at: usize, session: u32) -> &[u8] {
+    if session > 65_535 {
+        return &[];
+    }
     match objects.get(at) {
         None => &[],
-        Some(object) => match object.guests().guest(session) {
+        Some(object) => match object.guests().guest(session as u16) {
             None => &[],
             Some(guest) => guest.name().as_bytes(),
         },

@@ -715,11 +715,11 @@ impl Served for Table {
 
 impl Visible for Table {
     ghost use Rattle.table_core.specs.Moves.{IsSeenIn};
-    ghost use Rattle.table_core.specs.Notices.{IsNoted};
+    ghost use Rattle.table_core.specs.Notices.{HasNotice};
 
     ghost shows = { IsSeenIn };
 
-    ghost notices = { IsNoted };
+    ghost notices = { HasNotice };
 
     fn status(&self, text: &mut Vec<u8>) -> Result<(), AllocError> {
         write_look(
@@ -780,7 +780,7 @@ impl Visible for Table {
         operation_name(&self.objects, at, operation)
     }
 
-    fn client_name(&self, at: usize, session: u16) -> &[u8] {
+    fn client_name(&self, at: usize, session: u32) -> &[u8] {
         client_name(&self.objects, at, session)
     }
 }
