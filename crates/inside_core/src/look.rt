@@ -1,6 +1,6 @@
 //! What the objects of a table know, between two turns.
 
-ghost use Rattle.std.specs.Prelude.{◌≡◌, ◌<◌, ◌≤◌, ◌⊎◌, ◌==◌, if◌then◌else◌, length, ◌-◌, IfOk, OnOk, slice_get};
+ghost use Rattle.std.specs.Prelude.{◌≡◌, ◌++◌, ◌<◌, ◌≤◌, ◌⊎◌, ◌==◌, if◌then◌else◌, length, ◌-◌, IfOk, OnOk, slice_get};
 ghost use Rattle.decl_core.specs.ObjectMap.{object_of};
 ghost use Rattle.word_core.specs.Text.{operation_name};
 ghost use Rattle.inside_core.specs.Laws.{sum_of};
@@ -11,7 +11,8 @@ ghost use Rattle.client_core.specs.ToldInside.{sits_in, sitting_from};
 ghost use Rattle.client_core.specs.State.{opened_in, peers_of};
 ghost use Rattle.inside_core.specs.Adds.{crowd_of};
 ghost use Rattle.inside_core.specs.Looks.{waiting_of, told_ends, left_of, crowd_at, IsTally, AreTallies, Shows};
-ghost use Rattle.inside_core.specs.Looks.{ShowsAt, ShowsAll, IsStatus};
+ghost use Rattle.inside_core.specs.Counted.{nodes_text};
+ghost use Rattle.inside_core.specs.Looks.{ShowsAt, ShowsAll, IsStatus, answers_text};
 
 use crate::answers::{AnswerCounts, push_answers};
 use crate::counted::push_nodes;
@@ -290,6 +291,19 @@ fn seen_in(
     Ok(seen)
 }
 
+// Adds what the nodes of objects have counted, and what was answered.
+fn push_behind(
+    alloc: Global,
+    out: &mut Vec<u8>,
+    objects: &[Hosted],
+    answers: &AnswerCounts,
+) -> Result<(), AllocError>
+    ensures { OnOk result (out.new.items ≡ out.old.items ++ (nodes_text objects.now ++ answers_text objects.now answers.now)) }
+{
+    push_nodes(out, objects)?;
+    push_answers(alloc, out, objects, answers)
+}
+
 /// Puts a status in place of what is in `out`: the text of what is told of all objects, of their connections, of the counts
 /// of their calls, of what is held, of what their paths have counted, and of what was answered, in this second. The error is that memory was refused.
 pub fn write_look(
@@ -307,6 +321,5 @@ pub fn write_look(
     let seen = seen_in(alloc, objects, tallies, clients, custody, second)?;
     out.clear();
     push_objects(out, &seen)?;
-    push_nodes(out, objects)?;
-    push_answers(alloc, out, objects, answers)
+    push_behind(alloc, out, objects, answers)
 }

@@ -1,6 +1,6 @@
 //! The text of a status, as its file has it: with whether the server is there at first, and filled up to a length that stays.
 
-ghost use Rattle.std.specs.Prelude.{◌≡◌, ◌++◌, ◌≤◌, ◌<◌, ◌^◌, IfOk, OnOk};
+ghost use Rattle.std.specs.Prelude.{◌≡◌, ◌++◌, ◌≤◌, ◌<◌, ◌-◌, ◌^◌, IfOk, OnOk};
 ghost use Rattle.keep_tool.specs.Framed.{filler, filler_at, framed_text, up_text};
 
 use inside_core::labels::server_label;
@@ -36,12 +36,19 @@ fn filler_byte(behind: usize) -> u8
     b'#'
 }
 
+// The byte at a place of so many that fill a text up.
+fn filler_in(count: usize, place: usize) -> u8
+    ensures { result ≡ filler_at (count - place - 1) }
+{
+    filler_byte(count.saturating_sub(place).saturating_sub(1))
+}
+
 // Adds lines of so many bytes, LF with them, that tell nothing.
 fn push_filler(out: &mut Vec<u8>, count: usize) -> Result<(), AllocError>
     ensures { OnOk result (out.new.items ≡ out.old.items ++ filler count) }
 {
     for place in 0..count {
-        out.push(filler_byte(count.saturating_sub(place).saturating_sub(1)))?;
+        out.push(filler_in(count, place))?;
     }
     Ok(())
 }

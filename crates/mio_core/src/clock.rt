@@ -1,6 +1,6 @@
 //! When it is time for what.
 
-ghost use Rattle.std.specs.Prelude.{◌≡◌, ◌⊎◌, ◌≤◌, ◌<◌, ◌/◌, true, false, IfOk, IfSome, IfNone};
+ghost use Rattle.std.specs.Prelude.{◌≡◌, ◌⊎◌, ◌≤◌, ◌<◌, ◌-◌, ◌*◌, ◌/◌, ◌^◌, min, true, false, IfOk, IfSome, IfNone};
 
 use std::io;
 use std::time::{Clock, Duration, Instant};
@@ -61,7 +61,9 @@ impl Watch {
     }
 
     /// The time since the server began, as the clock showed it last: in nanoseconds, by whole milliseconds.
-    pub fn nanos(&self) -> u64 {
+    pub fn nanos(&self) -> u64
+        ensures { result ≡ min (self.now.time * 1000000) (2 ^ 64 - 1) }
+    {
         self.time.saturating_mul(1_000_000)
     }
 
