@@ -2,6 +2,7 @@
 
 ghost use Rattle.std.specs.Prelude.{◌≡◌, ◌+◌, ◌<◌, ◌≤◌, ◌++◌, ◌∷◌, [], true, false, Ok, OnOk, OnErr, IfOk, IfSome, IsTrue};
 ghost use Rattle.std.specs.Prelude.{◌-◌, ◌^◌, ℕ, Bool, codes, length, map, min};
+ghost use Rattle.path_tree.specs.Identifier.{IsName};
 ghost use Rattle.decl_core.specs.ObjectMap.{object_of};
 ghost use Rattle.word_core.specs.Words.{bare, line_of};
 ghost use Rattle.word_core.specs.Events.{Called};
@@ -104,6 +105,17 @@ fn push_kept_below(
     }
 }
 
+// The key of the next call of a client, which has a name.
+fn next_of(guest: &Guest) -> u64
+    ensures next { result ≡ guest.now.keys.next }
+    ensures name { IsName guest.now.name }
+    ensures long { IsLong guest.now.keys.next }
+{
+    // Called for its contract alone: it is a name.
+    guest.name().as_bytes();
+    guest.keys().next()
+}
+
 // Adds the lines of the calls of a client with which an epoch begins: its last one, and those before it from this number on.
 fn push_kept_of(
     alloc: Global,
@@ -116,17 +128,9 @@ fn push_kept_of(
         ++ kept_text (object_of object.now) (kept_of (guest_by stay guest.now ∷ []))) }
     ensures fits { OnOk result ((stay : ℕ → Bool) → IsLeast stay least → GuestFits (guest_by stay guest.now)) }
 {
-    // Called for its contract alone: it is a name.
-    guest.name().as_bytes();
-    let keys = guest.keys();
-    push_kept_below(
-        alloc,
-        out,
-        object,
-        guest.session(),
-        keys.next(),
-        kept_from(keys.kept(), least),
-    )?;
+    let next = next_of(guest);
+    let kept = kept_from(guest.keys().kept(), least);
+    push_kept_below(alloc, out, object, guest.session(), next, kept)?;
     Ok(())
 }
 
