@@ -1,6 +1,9 @@
 -- The last calls that ended, and what `why` tells of them.
-use Rattle.std.proofs.Common.{◌≡◌, ◌∙◌, ap, sym, subst, refl, arith, ℕ, zero, suc, ◌+◌, List, [], ◌∷◌, ◌++◌, length, append_assoc, append-nil}
-use Rattle.std.specs.Prelude.{Option, Some, None, flat_map, replicate, slice_get}
+use Rattle.std.proofs.Common.{◌≡◌, ◌∙◌, ap, sym, subst, refl, arith, ℕ, zero, suc, ◌+◌, ◌-◌, ◌≤◌, List, [], ◌∷◌, ◌++◌, length, drop, take, append_assoc, append-nil}
+use Rattle.std.specs.Prelude.{Option, Some, None, flat_map, replicate, slice_get, slice_set}
+use Rattle.std.proofs.lemmas.List.{length-take}
+use Rattle.std.proofs.lemmas.List.Elements.{All-take}
+use Rattle.value_core.specs.Plain.{IsPlain, IsText}
 use Rattle.decl_core.specs.ObjectForm.{ObjectForm}
 use Rattle.decl_core.specs.ObjectMap.{object_of}
 use Rattle.decl_core.specs.declared.object.Object.{Object}
@@ -19,6 +22,36 @@ use Rattle.inside_core.proofs.Adding.{flat_map-append, added_then}
 row_more : {X : Type 0} (n : ℕ) (x : X) → replicate n x ++ x ∷ [] ≡ replicate (n + 1) x
 row_more zero x = refl
 row_more (suc n) x = let e : suc (n + 1) ≡ suc n + 1 = omega arith in ap (λ xs. x ∷ xs) (row_more n x) ∙ ap (λ k. replicate k x) e
+
+-- the last element of a list
+last_one : {X : Type 0} (xs : List X) (n : ℕ) → length xs ≡ suc n → (z : X) × (drop n xs ≡ z ∷ [])
+last_one [] n is = absurd (omega (arith, is))
+last_one (x ∷ []) zero is = (x, refl)
+last_one (x ∷ y ∷ xs) zero is = absurd (omega (arith, is))
+last_one (x ∷ xs) (suc n) is = last_one xs n (omega (arith, is))
+
+set_first : {X : Type 0} (x : X) (front xs : List X) (found : (z : X) × (front ≡ z ∷ [])) → slice_set (front ++ xs) 0 x ≡ x ∷ xs
+set_first x front xs (z, is) = ap (λ l. slice_set (l ++ xs) 0 x) is
+
+-- a row is turned by one, and its first element put anew
+pub put_rotated : (first : Option LastCall) (old mid new : List (Option LastCall)) → 1 ≤ length old → mid ≡ drop (length old - 1) old ++ take (length old - 1) old →
+    new ≡ slice_set mid 0 first → new ≡ take (length old) (first ∷ old)
+put_rotated first [] mid new some turned put = absurd (omega (arith, some))
+put_rotated first (x ∷ old) mid new some turned put =
+    let n : length (x ∷ old) - 1 ≡ length old = omega arith in
+    put ∙ ap (λ l. slice_set l 0 first) (turned ∙ ap (λ k. drop k (x ∷ old) ++ take k (x ∷ old)) n)
+    ∙ set_first first (drop (length old) (x ∷ old)) (take (length old) (x ∷ old)) (last_one (x ∷ old) (length old) refl)
+
+-- a row without a place
+pub put_nowhere : (first : Option LastCall) (old : List (Option LastCall)) → length old ≡ 0 → old ≡ take (length old) (first ∷ old)
+put_nowhere first [] none = refl
+put_nowhere first (x ∷ old) none = absurd (omega (arith, none))
+
+-- the front of a text is a text
+pub front_text : (text front : List ℕ) → IsText text → front ≡ take 16 text → IsText front
+front_text text front is same =
+    let l = length-take 16 text in
+    subst IsText (sym same) (record { few = omega (arith, l, is.few); plain = All-take IsPlain 16 text is.plain })
 
 -- one row more of them
 pub nones_rows : (n : ℕ) (row : List (Option LastCall)) (before after : List (List (Option LastCall))) → row ≡ replicate 16 None → before ≡ no_calls n →
@@ -39,11 +72,10 @@ one_node o rows why calls before mid after had have below one two told = record 
 }
 
 -- no nodes
-pub none_told : (o : ObjectForm) (rows : List (List (Option LastCall))) (reasons : List Reason) (before : List ℕ) (had : List LastCall) → reasons ≡ [] →
+pub none_told : (o : ObjectForm) (rows : List (List (Option LastCall))) (reasons : List Reason) (before : List ℕ) (had : List LastCall) → length reasons ≡ 0 →
     AddsNodes o rows (whys_of reasons) before before had had
-none_told o rows reasons before had none =
-    subst (λ (rs : List Reason). AddsNodes o rows (whys_of rs) before before had had) (sym none)
-    (record { nodes = []; are = tt; lines = sym (append-nil before); calls = sym (append-nil had) })
+none_told o rows [] before had none = record { nodes = []; are = tt; lines = sym (append-nil before); calls = sym (append-nil had) }
+none_told o rows (r ∷ reasons) before had none = absurd (omega (arith, none))
 
 nodes_append : (o : ObjectForm) (rows : List (List (Option LastCall))) (whys vs : List Why) (ns ms : List (Why × List LastCall)) → AreNodes o rows whys ns → AreNodes o rows vs ms →
     AreNodes o rows (whys ++ vs) (ns ++ ms)

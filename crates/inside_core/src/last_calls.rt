@@ -104,17 +104,24 @@ fn call_of(object: &Hosted, ran: &Ran) -> LastCall
 }
 
 // Puts one before these, of which the last one goes.
+#[tactic(auto, using(crate::proofs::LastOnes::put_rotated))]
+fn put_front(row: &mut [Option<LastCall>], first: Option<LastCall>)
+    requires { 1 ≤ length row.old }
+    ensures { row.new ≡ take (length row.old) (first ∷ row.old) }
+{
+    row.rotate_right(1);
+    row[0] = first;
+}
+
+// The same, where there is one.
+#[tactic(auto, using(crate::proofs::LastOnes::put_nowhere))]
 fn put_first(row: &mut [Option<LastCall>], first: Option<LastCall>)
     ensures { row.new ≡ take (length row.old) (first ∷ row.old) }
 {
-    match row {
-        [] => {}
-        [slot, others @ ..] => {
-            let before = *slot;
-            *slot = first;
-            put_first(others, before);
-        }
+    if row.is_empty() {
+        return;
     }
+    put_front(row, first);
 }
 
 // Places of an operation of which no call ended.

@@ -259,20 +259,25 @@ fn below(
 fn push_place(out: &mut Vec<u8>, reason: &Reason) -> Result<(), AllocError>
     ensures { OnOk result (out.new.items ≡ out.old.items ++ words_text (needs_words (why_of reason.now))) }
 {
-    push_words(
-        out,
-        &[
-            Written::Bare(b"path"),
-            Written::Integer(reason.path as u64),
-            Written::Bare(b"node"),
-            Written::Integer(reason.node as u64),
-        ],
-    )?;
     match reason.lack {
-        Lack::Full => push_more(out, &[Written::Bare(b"full"), Written::Bare(b"needs")]),
-        Lack::Turn(turn) => push_more(
+        Lack::Full => push_words(
             out,
             &[
+                Written::Bare(b"path"),
+                Written::Integer(reason.path as u64),
+                Written::Bare(b"node"),
+                Written::Integer(reason.node as u64),
+                Written::Bare(b"full"),
+                Written::Bare(b"needs"),
+            ],
+        ),
+        Lack::Turn(turn) => push_words(
+            out,
+            &[
+                Written::Bare(b"path"),
+                Written::Integer(reason.path as u64),
+                Written::Bare(b"node"),
+                Written::Integer(reason.node as u64),
                 Written::Bare(b"turn"),
                 Written::Integer(turn as u64),
                 Written::Bare(b"needs"),
