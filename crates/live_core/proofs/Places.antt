@@ -9,7 +9,7 @@ use Rattle.path_tree.specs.Satisfies.{MayStart}
 use Rattle.word_core.specs.Events.{Called}
 use Rattle.live_core.specs.Hall.{Every, EachPair}
 use Rattle.live_core.specs.Bodies.{IsFirstAt}
-use Rattle.live_core.specs.Waiters.{MayOf, IsHeadAt, IsPlaceFrom, IsReadyAt, AreFrom, AreNoted, AreInOrder}
+use Rattle.live_core.specs.Waiters.{MayOf, IsHeadAt, IsPlaceFrom, IsReadyAt, AreFrom, AreNoted, AreByNumber}
 use Rattle.live_core.proofs.Listing.{every_get, every_map, every_both, every_snoc, get_set, get_within, cut_at, pairs_without, every_without}
 
 pub there : {X : Type 0} (xs : List X) (k : ℕ) (x : X) → k < length xs → x ≡ get_or xs k x → slice_get xs k ≡ Some x
@@ -46,7 +46,7 @@ pub left_every : {X : Type 0} (P : X → Type 0) (xs left : List X) (k : ℕ) (x
 left_every P xs left k x at rest all = subst (Every P) (sym rest) (every_without P (take k xs) (drop (k + 1) xs) x (subst (Every P) (cut_at xs k x at) all))
 
 -- those up to this place have lower numbers
-pub lower_to : (waiting : List Called) (number k : ℕ) (c : Called) → AreInOrder waiting → slice_get waiting k ≡ Some c → c.number < number →
+pub lower_to : (waiting : List Called) (number k : ℕ) (c : Called) → AreByNumber waiting → slice_get waiting k ≡ Some c → c.number < number →
     (j : ℕ) (d : Called) → j < k + 1 → slice_get waiting j ≡ Some d → d.number < number
 lower_to waiting number k c pairs here less j d before at = elim (cases_lt j k) [
   | inl lower ↦ omega (arith, ordered (λ (x y : Called). x.number < y.number) waiting j k d c pairs lower at here, less)
@@ -54,7 +54,7 @@ lower_to waiting number k c pairs here less j d before at = elim (cases_lt j k) 
 ]
 
 -- those from this place on have no lower ones
-pub others_from : (waiting : List Called) (number k : ℕ) (c : Called) → AreInOrder waiting → slice_get waiting k ≡ Some c → number ≤ c.number →
+pub others_from : (waiting : List Called) (number k : ℕ) (c : Called) → AreByNumber waiting → slice_get waiting k ≡ Some c → number ≤ c.number →
     (j : ℕ) (d : Called) → k ≤ j → slice_get waiting j ≡ Some d → number ≤ d.number
 others_from waiting number k c pairs here more j d behind at = elim (cases_lt k j) [
   | inl less ↦ omega (arith, ordered (λ (x y : Called). x.number < y.number) waiting k j c d pairs less here at, more)
@@ -62,7 +62,7 @@ others_from waiting number k c pairs here more j d behind at = elim (cases_lt k 
 ]
 
 -- two calls of one number are one
-pub of_number : (waiting : List Called) (j k : ℕ) (c d : Called) → AreInOrder waiting → slice_get waiting j ≡ Some c → slice_get waiting k ≡ Some d → c.number ≡ d.number → c ≡ d
+pub of_number : (waiting : List Called) (j k : ℕ) (c d : Called) → AreByNumber waiting → slice_get waiting j ≡ Some c → slice_get waiting k ≡ Some d → c.number ≡ d.number → c ≡ d
 of_number waiting j k c d pairs at here same = elim (cases_lt j k) [
   | inl less ↦ absurd (omega (arith, ordered (λ (x y : Called). x.number < y.number) waiting j k c d pairs less at here, same))
   | inr more ↦ elim (cases_lt k j) [
@@ -72,7 +72,7 @@ of_number waiting j k c d pairs at here same = elim (cases_lt j k) [
 ]
 
 -- no call has this number: those before the place have lower ones, and the one there another one
-pub none_of : (waiting : List Called) (number k : ℕ) → AreInOrder waiting → IsPlaceFrom waiting number k → ((c : Called) → slice_get waiting k ≡ Some c → c.number ≢ number) →
+pub none_of : (waiting : List Called) (number k : ℕ) → AreByNumber waiting → IsPlaceFrom waiting number k → ((c : Called) → slice_get waiting k ≡ Some c → c.number ≢ number) →
     Every (λ (c : Called). c.number ≢ number) waiting
 none_of waiting number k pairs place other = all_of (λ (c : Called). c.number ≢ number) waiting (λ j c at same. elim (cases_lt j k) [
   | inl before ↦ absurd (omega (arith, place.lower j c before at, same))
@@ -93,7 +93,7 @@ pub set_least : (firsts : List ℕ) (o number most : ℕ) → o < length firsts 
 set_least firsts o number most within less = subst (λ v. v ≤ most) (sym (get_or-set_same firsts o number 0 within)) less
 
 -- that of the first call of an operation
-pub raised : (firsts : List ℕ) (waiting : List Called) (o place number : ℕ) → AreInOrder waiting → AreFrom firsts waiting → o < length firsts → IsHeadAt waiting o place →
+pub raised : (firsts : List ℕ) (waiting : List Called) (o place number : ℕ) → AreByNumber waiting → AreFrom firsts waiting → o < length firsts → IsHeadAt waiting o place →
     ((c : Called) → slice_get waiting place ≡ Some c → number ≤ c.number) → AreFrom (slice_set firsts o number) waiting
 raised firsts waiting o place number pairs from within_firsts head here = all_of (λ (c : Called). slice_index (slice_set firsts o number) c.operation ≤ c.number) waiting (λ k c at. elim (cases_eq c.operation o) [
   | inl same ↦
@@ -134,7 +134,7 @@ none_of_session numbers waiting session n noted at none =
     every_both (λ (d : Called). (m : ℕ) → slice_get numbers d.session ≡ Some m → m ≡ d.number) (λ (d : Called). d.number ≢ n) (λ (d : Called). d.session ≢ session)
     (λ d was other same. other (sym (was n (ap (slice_get numbers) same ∙ at)))) waiting noted none
 
-pub none_but : (numbers : List ℕ) (waiting : List Called) (session n k : ℕ) (c : Called) → AreInOrder waiting → AreNoted numbers waiting → slice_get numbers session ≡ Some n →
+pub none_but : (numbers : List ℕ) (waiting : List Called) (session n k : ℕ) (c : Called) → AreByNumber waiting → AreNoted numbers waiting → slice_get numbers session ≡ Some n →
     slice_get waiting k ≡ Some c → c.number ≡ n → c.session ≢ session → Every (λ (d : Called). d.session ≢ session) waiting
 none_but numbers waiting session n k c pairs noted at here number other = all_of (λ (d : Called). d.session ≢ session) waiting (λ j d there same.
     let its : n ≡ d.number = every_get (λ (x : Called). (m : ℕ) → slice_get numbers x.session ≡ Some m → m ≡ x.number) waiting j d noted there n (ap (slice_get numbers) same ∙ at) in

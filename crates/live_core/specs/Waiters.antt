@@ -39,8 +39,8 @@ AreFrom firsts waiting = Every (λ (c : Called). slice_index firsts c.operation 
 abbrev pub AreNoted : List ℕ → List Called → Type 0
 AreNoted numbers waiting = Every (λ (c : Called). (n : ℕ) → slice_get numbers c.session ≡ Some n → n ≡ c.number) waiting
 
-abbrev pub AreInOrder : List Called → Type 0
-AreInOrder waiting = EachPair (λ (c d : Called). c.number < d.number) waiting
+abbrev pub AreByNumber : List Called → Type 0
+AreByNumber waiting = EachPair (λ (c d : Called). c.number < d.number) waiting
 
 abbrev pub AreOfOthers : List Called → Type 0
 AreOfOthers waiting = EachPair (λ (c d : Called). c.session ≢ d.session) waiting
@@ -49,7 +49,7 @@ abbrev pub waiters_of : Inside → List Called
 waiters_of w = w.rows.items
 
 pub record AreWaiters (w : Inside) : Type 0 where
-  pub in_order : AreInOrder w.rows.items
+  pub in_order : AreByNumber w.rows.items
   pub one_each : AreOfOthers w.rows.items
   pub firsts : AreFrom w.firsts w.rows.items
   pub noted : AreNoted w.numbers.items w.rows.items

@@ -279,6 +279,23 @@ impl Hall {
         self.waiting.place_for(session)
     }
 
+    // The waiting call of this session.
+    pub(crate) fn call_of(&self, session: u32) -> Option<&LiveCall>
+        ensures some { IfSome result (λ c. (k : ℕ) × (slice_get self.now.waiting k ≡ Some c.now)
+            × (c.now.session ≡ session)) }
+        ensures none { IfNone result (Every (λ (c : Called). c.session ≢ session) self.now.waiting) }
+    {
+        self.waiting.call_of(session)
+    }
+
+    // The waiting call of this number.
+    pub(crate) fn call_numbered(&self, number: u32) -> Option<&LiveCall>
+        ensures { IfSome result (λ c. (k : ℕ) × (slice_get self.now.waiting k ≡ Some c.now)
+            × (c.now.number ≡ number)) }
+    {
+        self.waiting.call_numbered(number)
+    }
+
     pub(crate) fn object(&self) -> &Object
         ensures { result.now ≡ self.now.object }
     {

@@ -216,10 +216,7 @@ impl Live {
             × (c.now.session ≡ session)) }
         ensures none { IfNone result (Every (λ (c : Called). c.session ≢ session) self.now.waiting) }
     {
-        match self.hall.place_by(session) {
-            None => None,
-            Some(place) => Some(&self.hall.waiting()[place]),
-        }
+        self.hall.call_of(session)
     }
 
     // The waiting call of this number.
@@ -227,8 +224,7 @@ impl Live {
         ensures { IfSome result (λ c. (k : ℕ) × (slice_get self.now.waiting k ≡ Some c.now)
             × (c.now.number ≡ number)) }
     {
-        let place = self.hall.place(number)?;
-        Some(&self.hall.waiting()[place])
+        self.hall.call_numbered(number)
     }
 
     /// How many calls more this epoch takes before `HistoryFull`.

@@ -10,7 +10,7 @@ ghost use Rattle.word_core.specs.Events.{Called};
 ghost use Rattle.live_core.specs.Hall.{Every};
 ghost use Rattle.live_core.specs.Bodies.{IsFirstAt, IsNumberedAt, IsOfSessionAt};
 ghost use Rattle.live_core.specs.Epochs.{numbered_from};
-ghost use Rattle.live_core.specs.Waiters.{AreFrom, AreInOrder, AreNoted, AreOfOthers};
+ghost use Rattle.live_core.specs.Waiters.{AreFrom, AreByNumber, AreNoted, AreOfOthers};
 
 use crate::call::LiveCall;
 use crate::waiting::{first_ready, head_of, place_for, place_of, renumber};
@@ -95,7 +95,7 @@ fn tell(firsts: &mut [u32], numbers: &mut [u32], call: &LiveCall)
 
 // The first of these calls that is of this operation is noted.
 fn raise(firsts: &mut [u32], rows: &[LiveCall], operation: OpId)
-    requires in_order { AreInOrder rows.now }
+    requires in_order { AreByNumber rows.now }
     requires firsts { AreFrom firsts.old rows.now }
     ensures same { length firsts.new ≡ length firsts.old }
     ensures firsts { AreFrom firsts.new rows.now }
@@ -192,6 +192,27 @@ impl Waiters {
                 }
                 Some(place)
             }
+        }
+    }
+
+    // The call of this number.
+    pub(crate) fn call_numbered(&self, number: u32) -> Option<&LiveCall>
+        ensures { IfSome result (λ c. (k : ℕ) × (slice_get self.now k ≡ Some c.now) × (c.now.number ≡ number)) }
+    {
+        match self.place_of(number) {
+            None => None,
+            Some(place) => Some(&self.rows[place]),
+        }
+    }
+
+    // The call of this session.
+    pub(crate) fn call_of(&self, session: u32) -> Option<&LiveCall>
+        ensures some { IfSome result (λ c. (k : ℕ) × (slice_get self.now k ≡ Some c.now) × (c.now.session ≡ session)) }
+        ensures none { IfNone result (Every (λ (c : Called). c.session ≢ session) self.now) }
+    {
+        match self.place_for(session) {
+            None => None,
+            Some(place) => Some(&self.rows[place]),
         }
     }
 

@@ -9,7 +9,7 @@ ghost use Rattle.word_core.specs.Events.{Called};
 ghost use Rattle.live_core.specs.Hall.{Every};
 ghost use Rattle.live_core.specs.Bodies.{IsNumberedAt, IsOfSessionAt};
 ghost use Rattle.live_core.specs.Epochs.{numbered_from};
-ghost use Rattle.live_core.specs.Waiters.{AreFrom, AreInOrder, IsHeadAt, IsPlaceFrom, IsReadyAt};
+ghost use Rattle.live_core.specs.Waiters.{AreFrom, AreByNumber, IsHeadAt, IsPlaceFrom, IsReadyAt};
 
 use crate::call::LiveCall;
 use path_count::counters::Counters;
@@ -17,7 +17,7 @@ use path_tree::node::OpId;
 
 // The place from which on these calls have this number or a greater one.
 fn place_from(waiting: &[LiveCall], number: u32) -> usize
-    requires { AreInOrder waiting.now }
+    requires { AreByNumber waiting.now }
     ensures { IsPlaceFrom waiting.now number result }
 {
     let mut low = 0;
@@ -51,7 +51,7 @@ fn first_of(waiting: &[LiveCall], from: usize, operation: OpId) -> usize
 
 // Whether all of these calls have lower numbers.
 fn ends_below(waiting: &[LiveCall], number: u32) -> bool
-    requires { AreInOrder waiting.now }
+    requires { AreByNumber waiting.now }
     ensures { IsTrue result → (j : ℕ) (c : Called) → slice_get waiting.now j ≡ Some c → c.number < number }
 {
     let len = waiting.len();
@@ -68,7 +68,7 @@ fn ends_below(waiting: &[LiveCall], number: u32) -> bool
 // The place of the first of these calls that is of this operation, or how many they are. None of it has a lower number than
 // `bound`.
 pub(crate) fn head_of(waiting: &[LiveCall], bound: u32, operation: OpId) -> usize
-    requires in_order { AreInOrder waiting.now }
+    requires in_order { AreByNumber waiting.now }
     requires bound { Every (λ (c : Called). c.operation ≡ operation → bound ≤ c.number) waiting.now }
     ensures { IsHeadAt waiting.now operation result }
 {
@@ -80,7 +80,7 @@ pub(crate) fn head_of(waiting: &[LiveCall], bound: u32, operation: OpId) -> usiz
 
 // The place of the first waiting call of an operation where it may start; else how many calls wait. The counters are asked at most once.
 fn ready_of(counters: &Counters, waiting: &[LiveCall], bound: u32, operation: OpId) -> usize
-    requires in_order { AreInOrder waiting.now }
+    requires in_order { AreByNumber waiting.now }
     requires bound { Every (λ (c : Called). c.operation ≡ operation → bound ≤ c.number) waiting.now }
     ensures { (n : ℕ) (paths : List Path) (t : List Event) → StandsFor counters.now n paths t →
         IsReadyAt n paths t (λ o. o ≡ operation) waiting.now result }
@@ -126,7 +126,7 @@ pub(crate) fn first_ready(
     firsts: &[u32],
     operations: OpId,
 ) -> usize
-    requires in_order { AreInOrder waiting.now }
+    requires in_order { AreByNumber waiting.now }
     requires firsts { AreFrom firsts.now waiting.now }
     ensures { (n : ℕ) (paths : List Path) (t : List Event) → StandsFor counters.now n paths t →
         IsReadyAt n paths t (λ o. o < operations) waiting.now result }
@@ -146,7 +146,7 @@ pub(crate) fn first_ready(
 
 // The place of the call of this number.
 pub(crate) fn place_of(waiting: &[LiveCall], number: u32) -> Option<usize>
-    requires { AreInOrder waiting.now }
+    requires { AreByNumber waiting.now }
     ensures some { IfSome result (IsNumberedAt waiting.now number) }
     ensures none { IfNone result (Every (λ (c : Called). c.number ≢ number) waiting.now) }
 {

@@ -3,7 +3,7 @@ use Rattle.std.proofs.lemmas.List.{with_items_is}
 use Rattle.std.specs.Prelude.{slice_set}
 use Rattle.word_core.specs.Events.{Called}
 use Rattle.live_core.specs.Hall.{Every}
-use Rattle.live_core.specs.Waiters.{AreFrom, AreInOrder, AreNoted, AreOfOthers}
+use Rattle.live_core.specs.Waiters.{AreFrom, AreByNumber, AreNoted, AreOfOthers}
 use Rattle.live_core.proofs.Listing.{pairs_snoc}
 use Rattle.live_core.proofs.Places.{from_more, noted_more}
 use Rattle.live_core.proofs.waiters.Waiters.add.Goals as goal
@@ -17,7 +17,7 @@ invariant_of-self-2 c =
     let below = subst (Every (λ (x : Called). x.number < call.number)) (sym c.self.view_is) c.requires.number in
     let free = subst (Every (λ (x : Called). x.session ≢ call.session)) (sym c.self.view_is) c.requires.free in
     record {
-      in_order = subst AreInOrder (sym items) (pairs_snoc (λ (x y : Called). x.number < y.number) rows call c.self.invariant.in_order below);
+      in_order = subst AreByNumber (sym items) (pairs_snoc (λ (x y : Called). x.number < y.number) rows call c.self.invariant.in_order below);
       one_each = subst AreOfOthers (sym items) (pairs_snoc (λ (x y : Called). x.session ≢ y.session) rows call c.self.invariant.one_each free);
       firsts = subst (AreFrom c.tell.new.firsts) (sym items) (from_more c.self.inside.firsts c.tell.new.firsts rows call c.self.invariant.firsts c.tell.ensures.lower c.tell.ensures.here);
       noted = subst (λ ns. AreNoted ns c.push_reserved.new.self.items) (sym (with_items_is c.self.inside.numbers c.tell.new.numbers (omega (arith, ap length numbers, length-set c.self.inside.numbers.items call.session call.number))))

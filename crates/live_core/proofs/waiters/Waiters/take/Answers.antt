@@ -2,7 +2,7 @@ use Rattle.std.proofs.Common.{◌≡◌, ◌≢◌, ◌<◌, ◌≤◌, ◌∙�
 use Rattle.std.specs.Prelude.{slice_get, slice_index, unwrap_or}
 use Rattle.std.proofs.lemmas.Option.{slice_get-get_or}
 use Rattle.word_core.specs.Events.{Called}
-use Rattle.live_core.specs.Waiters.{AreFrom, AreInOrder}
+use Rattle.live_core.specs.Waiters.{AreFrom, AreByNumber}
 use Rattle.live_core.proofs.Places.{left_every, left_pairs, there}
 use Rattle.live_core.proofs.waiters.Waiters.take.Goals as goal
 
@@ -10,7 +10,7 @@ pub raise-requires-clause-in_order : goal.raise-requires-clause-in_order
 raise-requires-clause-in_order c =
     let within : c.args.place < length c.self.inside.rows.items = omega (arith, ap length c.self.view_is, c.requires) in
     let at = there c.self.inside.rows.items c.args.place c.remove-call.result within c.remove-call.ensures.value in
-    subst AreInOrder (sym c.deref.ensures.value)
+    subst AreByNumber (sym c.deref.ensures.value)
     (left_pairs (λ (x y : Called). x.number < y.number) c.self.inside.rows.items c.remove-call.new.self.items c.args.place c.remove-call.result at c.remove-call.ensures.by_index.2 c.self.invariant.in_order)
 
 pub raise-requires-clause-firsts : goal.raise-requires-clause-firsts
