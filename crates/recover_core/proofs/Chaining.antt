@@ -1,5 +1,5 @@
 -- Calls that are kept from one epoch to the next.
-use Rattle.std.proofs.Common.{◌≡◌, ◌≢◌, ◌≤◌, ℕ, zero, suc, List, [], ◌∷◌, length, take, refl, ap}
+use Rattle.std.proofs.Common.{◌≡◌, ◌≢◌, ℕ, zero, suc, List, [], ◌∷◌, length, take, refl, ap}
 use Rattle.guest_core.specs.declared.kept.RememberedCall.{RememberedCall}
 
 pub all_are_newest : (kept : List RememberedCall) → take (length kept) kept ≡ kept
