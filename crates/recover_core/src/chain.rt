@@ -187,7 +187,10 @@ fn newest<'a>(
     if count == kept.len() {
         return Some(kept);
     }
-    if has_all || count == 0 || count > kept.len() {
+    if has_all {
+        return None;
+    }
+    if count == 0 || count > kept.len() {
         return None;
     }
     let (few, _) = kept.split_at(count);
