@@ -1,11 +1,10 @@
 -- Which calls of names an epoch begins with.
-use Rattle.std.proofs.Common.{◌≡◌, ◌≢◌, ◌⊎◌, ◌+◌, ◌<◌, ◌≤◌, ℕ, zero, suc, inl, inr, List, [], ◌∷◌, ◌++◌, length, take, drop, map, refl, sym, ◌∙◌, ap, subst, arith}
+use Rattle.std.proofs.Common.{◌≡◌, ◌⊎◌, ◌+◌, ◌<◌, ◌≤◌, ℕ, zero, suc, inl, inr, List, [], ◌∷◌, ◌++◌, length, take, drop, map, refl, sym, ◌∙◌, ap, subst, arith}
 use Rattle.std.specs.Prelude.{Bool, true, false, not, nat_lt, Option, Some, None, slice_get, slice_set, unwrap_or, if◌then◌else◌}
 use Rattle.std.proofs.lemmas.Bool.Decides.{nat_tests}
 use Rattle.std.proofs.lemmas.List.{append-nil, take_all, drop_all}
 use Rattle.guest_core.specs.declared.guest.Guest.{Guest}
 use Rattle.guest_core.specs.declared.kept.RememberedCall.{RememberedCall}
-use Rattle.guest_core.specs.declared.seats.SeatHolder.TheVariants.{Named}
 use Rattle.guest_core.specs.Guests.{Guests, IsSound}
 use Rattle.guest_core.specs.Bound.{call_weight, weight_from, weight_behind, weight_of_guests, stays, first_that_stay, kept_by, guest_by, IsLeast, bounded, BoundedHasRoom, RoomKeepsAll, NewestStay}
 use Rattle.guest_core.proofs.Finding.{Found, Known}

@@ -8,7 +8,6 @@ use Rattle.apply_core.specs.declared.reply.Reply.TheVariants.{Done, Refused, Fai
 use Rattle.guest_core.specs.declared.guest.Guest.{Guest}
 use Rattle.guest_core.specs.declared.kept.RememberedCall.{RememberedCall}
 use Rattle.guest_core.specs.Guests.{Guests}
-use Rattle.guest_core.specs.Keys.{Keys}
 
 -- A datum weighs as many bytes as its text has, or 4 where it is an integer.
 abbrev pub datum_weight : Datum → ℕ

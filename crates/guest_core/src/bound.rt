@@ -185,10 +185,10 @@ pub fn count_kept(kept: &[RememberedCall], least: Option<u64>) -> usize
     ensures within { result ≤ length kept.now }
     ensures kept { (stay : ℕ → Bool) → IsLeast stay least → take result kept.now ≡ kept_by stay kept.now }
 {
-    let Some((_last, others)) = kept.split_first() else {
+    let Some((_last, older)) = kept.split_first() else {
         return 0;
     };
-    count_first(others, least) + 1
+    count_first(older, least) + 1
 }
 
 /// The calls of a client that are kept, the newest first, where this is the least number from which they are.

@@ -1,5 +1,5 @@
 -- Clients of which an epoch begins with fewer calls.
-use Rattle.std.proofs.Common.{◌≡◌, ◌<◌, ◌≤◌, ℕ, zero, suc, inl, inr, List, [], ◌∷◌, length, take, refl, sym, ap, ◌∙◌, subst, arith}
+use Rattle.std.proofs.Common.{◌≡◌, ◌≤◌, ℕ, zero, suc, inl, inr, List, [], ◌∷◌, length, take, refl, sym, ap, ◌∙◌, subst, arith}
 use Rattle.std.specs.Prelude.{Bool, Some, map, slice_get}
 use Rattle.decl_core.specs.ObjectForm.{ObjectForm}
 use Rattle.live_core.specs.Front.{Every}
@@ -7,7 +7,7 @@ use Rattle.live_core.specs.Fronts.{client_of}
 use Rattle.guest_core.specs.declared.guest.Guest.{Guest}
 use Rattle.guest_core.specs.declared.kept.RememberedCall.{RememberedCall}
 use Rattle.guest_core.specs.Bound.{kept_by, guest_by, bounded_guests, stays}
-use Rattle.guest_core.specs.Guests.{Guests, IsNamed, IsSound}
+use Rattle.guest_core.specs.Guests.{Guests, IsSound}
 use Rattle.guest_core.proofs.Bounding.{get_mapped, mapped_get, kept_taken, sound_by}
 use Rattle.history_law.specs.Asked.{ClientHas}
 use Rattle.history_law.specs.LifeKeeps.{KeptWell, KeysKeep, GuestsKeep}

@@ -27,7 +27,7 @@ use crate::write::{
     push_base, push_carried, push_client, push_kept, push_object, push_past, push_source,
 };
 use decl_core::object::Object;
-use guest_core::bound::{kept_from, least_kept};
+use guest_core::bound::kept_from;
 use guest_core::guest::Guest;
 use guest_core::kept::RememberedCall;
 use path_count::finder::short_past;
@@ -243,7 +243,7 @@ impl Hosted {
     fn least(&self) -> Result<Option<u64>, AllocError>
         ensures { IfOk result (λ least. IsLeast (stays self.now.guests.guests) least) }
     {
-        least_kept(self.alloc, self.guests.guests())
+        self.guests.least(self.alloc)
     }
 
     // Adds the lines of a front behind that of the base.
@@ -521,7 +521,6 @@ impl Hosted {
         self.behind = 0;
         self.tried = 0;
         self.again = false;
-        self.guests.keep(least);
-        self.guests.renew();
+        self.guests.begin(least);
     }
 }

@@ -7,7 +7,6 @@ use crate::call::Limits;
 use crate::hosted::{Hosted, HostedStart};
 use crate::live::Live;
 use decl_core::object::Object;
-use guest_core::bound::least_kept;
 use guest_core::guests::Guests;
 use path_count::counters::Counters;
 use path_count::finder::short_past;
@@ -69,9 +68,8 @@ pub fn begin_again(
     let Some(live) = found else {
         return Ok(None);
     };
-    let least = least_kept(alloc, guests.guests())?;
-    guests.keep(least);
-    guests.renew();
+    let least = guests.least(alloc)?;
+    guests.begin(least);
     let begun = HostedStart {
         live,
         guests,

@@ -1,17 +1,36 @@
 -- Calls that are kept from one epoch to the next.
-use Rattle.std.proofs.Common.{◌≡◌, ◌≢◌, ◌≤◌, ℕ, zero, suc, List, [], ◌∷◌, length, take, refl, ap}
+use Rattle.std.proofs.Common.{◌≡◌, ◌≢◌, ℕ, zero, suc, List, [], ◌∷◌, length, take, refl, sym, ap, ◌∙◌, subst}
+use Rattle.std.specs.Prelude.{Bool, true, false}
+use Rattle.guest_core.specs.Bound.{stays}
+use Rattle.guest_core.specs.Guests.{Guests}
 use Rattle.guest_core.specs.declared.kept.RememberedCall.{RememberedCall}
+use Rattle.recover_core.specs.Chain.{AreNewest}
 
-pub all_are_newest : (kept : List RememberedCall) → take (length kept) kept ≡ kept
-all_are_newest [] = refl
-all_are_newest (c ∷ kept) = ap (λ xs. c ∷ xs) (all_are_newest kept)
+take_whole : (kept : List RememberedCall) → take (length kept) kept ≡ kept
+take_whole [] = refl
+take_whole (c ∷ kept) = ap (λ xs. c ∷ xs) (take_whole kept)
 
-pub first_are_newest : (n : ℕ) (kept : List RememberedCall) → take (length (take n kept)) kept ≡ take n kept
-first_are_newest zero kept = refl
-first_are_newest (suc n) [] = refl
-first_are_newest (suc n) (c ∷ kept) = ap (λ xs. c ∷ xs) (first_are_newest n kept)
+take_first : (n : ℕ) (kept : List RememberedCall) → take (length (take n kept)) kept ≡ take n kept
+take_first zero kept = refl
+take_first (suc n) [] = refl
+take_first (suc n) (c ∷ kept) = ap (λ xs. c ∷ xs) (take_first n kept)
 
-pub last_is_first : (n : ℕ) (kept : List RememberedCall) → n ≢ 0 → take n kept ≡ [] → kept ≡ []
+last_is_first : (n : ℕ) (kept : List RememberedCall) → n ≢ 0 → take n kept ≡ [] → kept ≡ []
 last_is_first zero kept some none = absurd (some refl)
 last_is_first (suc n) [] some none = refl
 last_is_first (suc n) (c ∷ kept) some none = absurd cc
+
+-- all of them are
+pub all_are_newest : (v : Guests) (kept : List RememberedCall) → AreNewest v kept kept
+all_are_newest v kept = record { newest = take_whole kept; last = λ none. none; all = λ room. refl }
+
+not_both : (b : Bool) → b ≡ true → b ≡ false → ⊥
+not_both b on off = let e : true ≡ false = sym on ∙ off in cc
+
+-- some of them are, where not all have to be
+pub some_are_newest : (v : Guests) (kept few : List RememberedCall) (n : ℕ) (b : Bool) → few ≡ take n kept → n ≢ 0 → b ≡ stays v.guests 0 → b ≡ false → AreNewest v kept few
+some_are_newest v kept few n b is some room off = record {
+  newest = ap (λ xs. take (length xs) kept) is ∙ take_first n kept ∙ sym is;
+  last = λ none. last_is_first n kept some (sym is ∙ none);
+  all = λ yes_room. absurd (not_both b (room ∙ yes_room) off);
+}

@@ -1,13 +1,13 @@
 //! Whether an epoch may follow another one.
 
-ghost use Rattle.std.specs.Prelude.{◌≡◌, [], ◌+◌, ◌≤◌, ◌∷◌, ◌↔◌, length, take, true, IsTrue, IfOk, IfSome, MatchOption};
+ghost use Rattle.std.specs.Prelude.{◌≡◌, [], ◌+◌, ◌≤◌, ◌∷◌, ◌↔◌, length, IsTrue, IfOk, IfSome, MatchOption};
 ghost use Rattle.guest_core.specs.Bound.{stays};
 ghost use Rattle.decl_core.specs.ObjectMap.{object_of};
 ghost use Rattle.live_core.specs.Front.{opening_of};
 ghost use Rattle.live_core.specs.Past.{events_in};
 ghost use Rattle.path_count.specs.Found.{LeavesSame};
 ghost use Rattle.recover_core.specs.Clients.{reply_in};
-ghost use Rattle.recover_core.specs.Chain.{IsSameCall, IsLineFor, AreLinesFor, IsKnown, AreKnown, AreNumbered, Follows, Differs};
+ghost use Rattle.recover_core.specs.Chain.{IsSameCall, IsLineFor, AreLinesFor, IsKnown, AreNewest, AreKnown, AreNumbered, Follows, Differs};
 
 use crate::clients::run_of;
 use crate::recover::Recovered;
@@ -174,11 +174,15 @@ fn is_none(kept: &[RememberedCall]) -> bool
 
 // The newest of these calls, of which a front has so many. `None`: it lacks the last one, or has more; or it has not all,
 // where it has to.
-#[tactic(auto, using(crate::proofs::Chaining::all_are_newest, crate::proofs::Chaining::first_are_newest, crate::proofs::Chaining::last_is_first))]
-fn newest(kept: &[RememberedCall], count: usize, has_all: bool) -> Option<&[RememberedCall]>
-    ensures newest { IfSome result (λ few. take (length few.now) kept.now ≡ few.now) }
-    ensures last { IfSome result (λ few. few.now ≡ [] → kept.now ≡ []) }
-    ensures all { IfSome result (λ few. has_all ≡ true → kept.now ≡ few.now) }
+#[tactic(auto, using(crate::proofs::Chaining::all_are_newest, crate::proofs::Chaining::some_are_newest))]
+fn newest<'a>(
+    guests: &Guests,
+    kept: &'a [RememberedCall],
+    count: usize,
+    has_all: bool,
+) -> Option<&'a [RememberedCall]>
+    requires { has_all ≡ stays guests.now.guests 0 }
+    ensures { IfSome result (λ few. AreNewest guests.now kept.now few.now) }
 {
     if count == kept.len() {
         return Some(kept);
@@ -193,15 +197,8 @@ fn newest(kept: &[RememberedCall], count: usize, has_all: bool) -> Option<&[Reme
     Some(few)
 }
 
-// Whether a client was known before, with its session and key; then these of its calls are kept, of which a front has so
-// many.
-fn known_calls<'a>(
-    guests: &'a Guests,
-    client: &NamedClient,
-    count: usize,
-    has_all: bool,
-) -> Option<&'a [RememberedCall]>
-    requires { has_all ≡ stays guests.now.guests 0 }
+// Whether a client was known before, with its session and key; then these of its calls were kept.
+fn known_calls<'a>(guests: &'a Guests, client: &NamedClient) -> Option<&'a [RememberedCall]>
     ensures { IfSome result (λ kept. IsKnown guests.now client.now kept.now) }
 {
     let Ok(session) = u16::try_from(client.session) else {
@@ -214,7 +211,7 @@ fn known_calls<'a>(
     if client.keys.checked_add(1) != Some(guest.keys().next()) {
         return None;
     }
-    newest(guest.keys().kept(), count, has_all)
+    Some(guest.keys().kept())
 }
 
 // Whether clients were known before, with their sessions, keys and kept calls, these in the order of the clients: of each the
@@ -227,10 +224,13 @@ fn are_known(guests: &Guests, clients: &[NamedClient], kept: &[KeptCall], has_al
     let mut kept_left = kept;
     'clients: while let Some((client, more)) = clients_left.split_first() {
         let (mine, others) = kept_left.split_at(run_of(kept_left, client.session));
-        let Some(known) = known_calls(guests, client, mine.len(), has_all) else {
+        let Some(known) = known_calls(guests, client) else {
             return false;
         };
-        if !are_lines_for(client, mine, known) {
+        let Some(few) = newest(guests, known, mine.len(), has_all) else {
+            return false;
+        };
+        if !are_lines_for(client, mine, few) {
             return false;
         }
         clients_left = more;

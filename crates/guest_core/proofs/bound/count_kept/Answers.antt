@@ -9,4 +9,4 @@ returns-in_default-clause-kept c = λ stay least. sym (ap (kept_by stay) (nil_fr
 
 pub returns-clause-kept : goal.returns-clause-kept
 returns-clause-kept c = λ stay least.
-    kept_more stay c.args.kept.now c.in-Some.others.now c.in-Some._last.now c.count_first.result c.in-Some.ensures.cases.0 (c.count_first.ensures.kept stay least)
+    kept_more stay c.args.kept.now c.in-Some.older.now c.in-Some._last.now c.count_first.result c.in-Some.ensures.cases.0 (c.count_first.ensures.kept stay least)

@@ -1,4 +1,4 @@
-use Rattle.std.proofs.Common.{◌≡◌, ◌<◌, ◌≤◌, ◌-◌}
+use Rattle.std.proofs.Common.{◌≡◌, ◌<◌, ◌-◌}
 use Rattle.std.specs.Prelude.{true, false}
 use Rattle.guest_core.specs.Bound.{stays}
 use Rattle.guest_core.proofs.bound.least_kept.Given as goal

@@ -1,6 +1,6 @@
 use Rattle.std.proofs.Common.{List, map, sym, ap, ◌∙◌, subst}
 use Rattle.guest_core.specs.declared.guest.Guest.{Guest}
-use Rattle.guest_core.specs.Bound.{bounded_guests, guest_by, stays, IsLeast}
+use Rattle.guest_core.specs.Bound.{guest_by, stays}
 use Rattle.guest_core.specs.Guests.{Guests, IsSound}
 use Rattle.guest_core.specs.GuestsView.{guests_of}
 use Rattle.guest_core.proofs.Bounding.{sound_by}
