@@ -1,7 +1,8 @@
 //! The epochs of objects, from the files of a folder.
 
-ghost use Rattle.std.specs.Prelude.{◌≡◌, ◌++◌, List, ℕ, IfOk, MatchOption};
+ghost use Rattle.std.specs.Prelude.{◌≡◌, ◌++◌, List, ℕ, IfOk, IfSome, MatchOption};
 ghost use Rattle.decl_core.specs.ObjectMap.{object_of, objects_of};
+ghost use Rattle.taken_core.specs.Room.{IsCutOff};
 ghost use Rattle.command_tool.specs.Said.{Adds, AddsAll, GoesOn, Hears, AreTold, TellsFault};
 
 use crate::files::{FolderFault, bytes_of, first_of, journal_of, trace_of};
@@ -174,6 +175,37 @@ fn hear_text(
     }
 }
 
+// Behind which line the file of an epoch was cut off, which tells this; where it was not, none.
+fn cut_line(file: &[u8], found: &TakenFile, has_ended: bool) -> Option<u64>
+    ensures { IfSome result (λ _. IsCutOff file.now found.now has_ended 8388608) }
+{
+    if is_cut_off(file, found, has_ended, MOST_LINES) {
+        let (lines, _) = parts_at(file, found.size);
+        return Some(line_ends(lines));
+    }
+    None
+}
+
+// The file of an epoch, which tells this. `None`: it was cut off, and that is said.
+fn unless_cut(
+    name: &str,
+    file: &[u8],
+    found: TakenFile,
+    has_ended: bool,
+    said: &mut FolderReport,
+) -> Result<Option<TakenFile>, AllocError>
+    ensures { IfOk result (λ found. MatchOption found ((words : List ℕ) × TellsFault words
+        × (said.new.lines.items ≡ said.old.lines.items ++ words)) (λ _. said.new.lines.items ≡ said.old.lines.items)) }
+{
+    match cut_line(file, &found, has_ended) {
+        Some(line) => {
+            push_cut(&mut said.lines, name.as_bytes(), line)?;
+            Ok(None)
+        }
+        None => Ok(Some(found)),
+    }
+}
+
 // The file of an epoch, taken. `None`: it is not taken, or was cut off, and that is said.
 fn taken(
     alloc: Global,
@@ -186,14 +218,7 @@ fn taken(
         × (said.new.lines.items ≡ said.old.lines.items ++ words)) (λ _. said.new.lines.items ≡ said.old.lines.items)) }
 {
     match take_file(alloc, file, false)? {
-        Ok(found) => {
-            if is_cut_off(file, &found, has_ended, MOST_LINES) {
-                let (lines, _) = parts_at(file, found.size);
-                push_cut(&mut said.lines, name.as_bytes(), line_ends(lines))?;
-                return Ok(None);
-            }
-            Ok(Some(found))
-        }
+        Ok(found) => unless_cut(name, file, found, has_ended, said),
         Err(fault) => {
             push_untaken(&mut said.lines, name.as_bytes(), fault)?;
             Ok(None)
