@@ -167,6 +167,33 @@ fn name_of<O: Visible>(object: &O, at: Option<usize>) -> &[u8] {
     }
 }
 
+// Tells a notice of an object.
+fn tell_notice<O: Visible, R: Clock, E: Write>(log: &mut Log<R, E>, object: &O, one: GivenBack) {
+    log.gave_back(BackLine {
+        object: object.object_name(one.object),
+        number: one.number,
+        held: object.operation_name(one.object, one.operation),
+        undo: object.operation_name(one.object, one.undo),
+        session: one.session,
+        name: object.client_name(one.object, one.session),
+        again: one.again,
+    });
+}
+
+// Tells its notices from the first number on, up to the other.
+fn tell_from<O: Visible, R: Clock, E: Write>(
+    log: &mut Log<R, E>,
+    object: &O,
+    first: u64,
+    end: u64,
+) {
+    for number in first..end {
+        if let Some(one) = object.notice(number) {
+            tell_notice(log, object, one);
+        }
+    }
+}
+
 // Why it was told last of a journal that no epoch could begin, if none has begun since; from now on it is this.
 fn set_kept(
     journals: &mut Vec<LoggedJournal>,
@@ -226,32 +253,6 @@ impl<W: Outside + Caused, R: Clock, E: Write> Logged<W, R, E> {
         self.log.let_go(who, LetGo::Unwritten);
     }
 
-    // Tells a notice of the object.
-    fn tell_notice<O: Visible>(&mut self, object: &O, one: GivenBack)
-        ensures { self.new.inner ≡ self.old.inner }
-    {
-        self.log.gave_back(BackLine {
-            object: object.object_name(one.object),
-            number: one.number,
-            held: object.operation_name(one.object, one.operation),
-            undo: object.operation_name(one.object, one.undo),
-            session: one.session,
-            name: object.client_name(one.object, one.session),
-            again: one.again,
-        });
-    }
-
-    // Tells the notices from this number on, up to that.
-    fn tell_from<O: Visible>(&mut self, object: &O, first: u64, count: u64)
-        ensures { self.new.inner ≡ self.old.inner }
-    {
-        for number in first..count {
-            if let Some(one) = object.notice(number) {
-                self.tell_notice(object, one);
-            }
-        }
-    }
-
     // Tells the notices that were not told; of more than the object knows how many are left out.
     fn tell_notices<O: Visible>(&mut self, object: &O)
         ensures { self.new.inner ≡ self.old.inner }
@@ -265,8 +266,7 @@ impl<W: Outside + Caused, R: Clock, E: Write> Logged<W, R, E> {
             self.log.left_out(known.saturating_sub(self.noticed));
             self.noticed = known;
         }
-        let first = self.noticed;
-        self.tell_from(object, first, count);
+        tell_from(&mut self.log, object, self.noticed, count);
         self.noticed = count;
     }
 
