@@ -1,6 +1,6 @@
 -- The word behind `no` that is counted is the one that is told.
 use Rattle.std.proofs.Common.{◌≡◌, ap, refl}
-use Rattle.std.specs.Prelude.{Option, Some, None, IfSome, IfNone}
+use Rattle.std.specs.Prelude.{IfSome, IfNone}
 use Rattle.guest_core.specs.declared.answer.SubmitFault.{SubmitFault}
 use Rattle.guest_core.specs.declared.answer.SubmitFault.TheVariants as faults
 use Rattle.guest_core.specs.declared.answer.KeyedFault.{KeyedFault}
@@ -13,7 +13,6 @@ use Rattle.session_text.specs.Lines.{line_text, refusal_name, fault_name, keyed_
 use Rattle.word_core.specs.Answers.{refused_line}
 use Rattle.client_core.specs.Refusals.{IsRefusal}
 use Rattle.inside_core.specs.Words.{word_name}
-use Rattle.inside_core.specs.declared.refused.NoWord.{NoWord}
 use Rattle.table_core.specs.Said.{word_of_fault, word_of_keyed, no_word, word_of_no}
 
 pub refusal_same : (r : LineRefusal) → refusal_name r ≡ word_name (word_of_no r)
