@@ -48,9 +48,9 @@ abbrev pub with_last : LastCall → List (List (Option LastCall)) → List (List
 with_last c rows = put_last c (slice_get rows c.operation) rows
 
 -- and behind calls of an object that ran, one after the other
-abbrev pub with_ran : Scene → List Ran → List (List (Option LastCall)) → List (List (Option LastCall))
-with_ran object [] rows = rows
-with_ran object (r ∷ rs) rows = with_ran object rs (with_last (last_call object r) rows)
+abbrev pub with_ended : Scene → List Ran → List (List (Option LastCall)) → List (List (Option LastCall))
+with_ended object [] rows = rows
+with_ended object (r ∷ rs) rows = with_ended object rs (with_last (last_call object r) rows)
 
 -- the rows of an object; there are none where there is no such object
 abbrev pub rows_in : Option (List (List (Option LastCall))) → List (List (Option LastCall))
@@ -109,14 +109,14 @@ abbrev pub open_words : ObjectForm → LastCall → List Word
 open_words o c = bare (codes "open") ∷ bare (decimal c.number) ∷ session_word c.session ∷ name_word o c.operation ∷ []
 
 -- `done`, `refused WORD` or `failed WORD`
-abbrev pub end_words : LastEnd → List Word
-end_words ends.Done = bare (codes "done") ∷ []
-end_words (ends.Refused word) = bare (codes "refused") ∷ bare word ∷ []
-end_words (ends.Failed failure) = bare (codes "failed") ∷ bare (failure_word failure) ∷ []
+abbrev pub how_words : LastEnd → List Word
+how_words ends.Done = bare (codes "done") ∷ []
+how_words (ends.Refused word) = bare (codes "refused") ∷ bare word ∷ []
+how_words (ends.Failed failure) = bare (codes "failed") ∷ bare (failure_word failure) ∷ []
 
 -- `open N sS OP done`, `.. refused WORD` or `.. failed WORD`
 abbrev pub open_line : ObjectForm → LastCall → List ℕ
-open_line o c = line_of (open_words o c ++ end_words c.end)
+open_line o c = line_of (open_words o c ++ how_words c.end)
 
 -- the line of a node, and the lines below it
 abbrev pub node_lines : ObjectForm → Why × List LastCall → List ℕ
@@ -127,5 +127,5 @@ abbrev pub all_below : List (Why × List LastCall) → List LastCall
 all_below nodes = flat_map (λ (n : Why × List LastCall). n.1) nodes
 
 -- the whole of it, for a call that waits: so many lines, and these
-abbrev pub open_text : ObjectForm → ℕ → List (Why × List LastCall) → List ℕ
-open_text o n nodes = why_line n (length nodes + length (all_below nodes)) ++ flat_map (node_lines o) nodes
+abbrev pub filled_text : ObjectForm → ℕ → List (Why × List LastCall) → List ℕ
+filled_text o n nodes = why_line n (length nodes + length (all_below nodes)) ++ flat_map (node_lines o) nodes

@@ -12,7 +12,7 @@ use Rattle.client_core.specs.declared.ask.Sight.TheVariants as insides
 use Rattle.client_core.specs.declared.client.OpenObject.{OpenObject}
 use Rattle.client_core.specs.People.{Person, name_in, since_in, called_in}
 use Rattle.client_core.specs.declared.last.LastCall.{LastCall}
-use Rattle.client_core.specs.LastCalls.{AreNodes, open_text, rows_in}
+use Rattle.client_core.specs.LastCalls.{AreNodes, filled_text, rows_in}
 use Rattle.stuck_core.specs.Lacks.{Why}
 use Rattle.stuck_core.specs.Tells.{Tells}
 use Rattle.stuck_core.specs.declared.why.CallStatus.{CallStatus as CallState}
@@ -42,7 +42,7 @@ pub record SaysWhy (object : Scene) (rows : List (List (Option LastCall))) (told
   pub are : AreWhys object call.operation whys
   pub nodes : List (Why × List LastCall)
   pub are_nodes : AreNodes (object_of object.hall.object) rows whys nodes
-  pub text_is : text ≡ open_text (object_of object.hall.object) told nodes
+  pub text_is : text ≡ filled_text (object_of object.hall.object) told nodes
 
 -- what a call of this number is that does not wait
 abbrev pub state_by : Bool → CallState

@@ -9,7 +9,7 @@ use Rattle.stuck_core.specs.Lacks.{Why}
 use Rattle.live_core.specs.declared.call.Ran.{Ran}
 use Rattle.live_core.specs.Scene.{Scene}
 use Rattle.client_core.specs.declared.last.LastCall.{LastCall}
-use Rattle.client_core.specs.LastCalls.{AreNodes, all_below, node_lines, open_text, rows_in, with_ran}
+use Rattle.client_core.specs.LastCalls.{AreNodes, all_below, node_lines, filled_text, rows_in, with_ended}
 
 -- so many operations of which no call ended
 abbrev pub no_calls : ℕ → List (List (Option LastCall))
@@ -19,7 +19,7 @@ no_calls operations = replicate operations (replicate 16 None)
 -- were.
 abbrev pub KeepsLast : ℕ → Scene → List Ran → List (List (List (Option LastCall))) → List (List (List (Option LastCall))) → Type 0
 KeepsLast at object ran old new = (k : ℕ) → rows_in (slice_get new k)
-    ≡ (if at == k then with_ran object ran (rows_in (slice_get old k)) else rows_in (slice_get old k))
+    ≡ (if at == k then with_ended object ran (rows_in (slice_get old k)) else rows_in (slice_get old k))
 
 -- the lines of these nodes are added, and the calls below them to those that are told
 pub record AddsNodes (o : ObjectForm) (rows : List (List (Option LastCall))) (whys : List Why) (before after : List ℕ) (had have : List LastCall) : Type 0 where
@@ -32,4 +32,4 @@ pub record AddsNodes (o : ObjectForm) (rows : List (List (Option LastCall))) (wh
 pub record AddsWhole (form : Object) (rows : List (List (Option LastCall))) (reasons : List Reason) (told : ℕ) (before after : List ℕ) : Type 0 where
   pub nodes : List (Why × List LastCall)
   pub are : AreNodes (object_of form) rows (whys_of reasons) nodes
-  pub text_is : after ≡ before ++ open_text (object_of form) told nodes
+  pub text_is : after ≡ before ++ filled_text (object_of form) told nodes

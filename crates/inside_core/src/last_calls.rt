@@ -4,7 +4,7 @@ ghost use Rattle.std.specs.Prelude.{◌≡◌, ◌<◌, ◌≤◌, ◌++◌, ◌
 ghost use Rattle.decl_core.specs.ObjectMap.{object_of};
 ghost use Rattle.word_core.specs.Words.{behind_word, words_text};
 ghost use Rattle.client_core.specs.declared.last.LastEnd.TheVariants as ends;
-ghost use Rattle.client_core.specs.LastCalls.{end_words, last_call, last_end, open_line, open_words, put_first, rows_in, with_last, with_ran};
+ghost use Rattle.client_core.specs.LastCalls.{how_words, last_call, last_end, open_line, open_words, put_first, rows_in, with_last, with_ended};
 ghost use Rattle.inside_core.specs.LastRows.{no_calls, KeepsLast};
 
 use crate::tallies::Tallies;
@@ -174,7 +174,7 @@ impl LastOfObject {
 
     // Calls of the object ran.
     fn put_all(&mut self, object: &Hosted, all: &[Ran])
-        ensures { self.new ≡ with_ran object.now all.now self.old }
+        ensures { self.new ≡ with_ended object.now all.now self.old }
     {
         match all {
             [] => {}
@@ -195,7 +195,7 @@ impl LastOfObject {
 
 // Adds `refused WORD`, behind other words.
 fn push_refused(out: &mut Vec<u8>, word: &StopWord) -> Result<(), AllocError>
-    ensures { OnOk result (out.new.items ≡ out.old.items ++ behind_word (end_words (ends.Refused word.now))) }
+    ensures { OnOk result (out.new.items ≡ out.old.items ++ behind_word (how_words (ends.Refused word.now))) }
 {
     let word = word.text();
     push_more(
@@ -206,7 +206,7 @@ fn push_refused(out: &mut Vec<u8>, word: &StopWord) -> Result<(), AllocError>
 
 // Adds how a call ended, behind other words.
 fn push_end(out: &mut Vec<u8>, end: &LastEnd) -> Result<(), AllocError>
-    ensures { OnOk result (out.new.items ≡ out.old.items ++ behind_word (end_words end.now)) }
+    ensures { OnOk result (out.new.items ≡ out.old.items ++ behind_word (how_words end.now)) }
 {
     match end {
         LastEnd::Done => push_reply(out, &Reply::Done(None)),
