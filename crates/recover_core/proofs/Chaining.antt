@@ -1,10 +1,12 @@
 -- Calls that are kept from one epoch to the next.
-use Rattle.std.proofs.Common.{◌≡◌, ◌≢◌, ℕ, zero, suc, List, [], ◌∷◌, length, take, refl, sym, ap, ◌∙◌, subst}
+use Rattle.std.proofs.Common.{◌≡◌, ◌≢◌, ℕ, zero, suc, List, [], ◌∷◌, ◌++◌, length, take, refl, sym, ap, ◌∙◌, subst}
 use Rattle.std.specs.Prelude.{Bool, true, false}
 use Rattle.guest_core.specs.Bound.{stays}
 use Rattle.guest_core.specs.Guests.{Guests}
 use Rattle.guest_core.specs.declared.kept.RememberedCall.{RememberedCall}
-use Rattle.recover_core.specs.Chain.{AreNewest}
+use Rattle.live_core.specs.declared.front.NamedClient.{NamedClient}
+use Rattle.live_core.specs.declared.front.KeptCall.{KeptCall}
+use Rattle.recover_core.specs.Chain.{AreKnown, AreLinesFor, AreNewest, IsKnown}
 
 take_whole : (kept : List RememberedCall) → take (length kept) kept ≡ kept
 take_whole [] = refl
@@ -34,3 +36,9 @@ some_are_newest v kept few n b is some room off = record {
   last = λ none. last_is_first n kept some (sym is ∙ none);
   all = λ yes_room. absurd (not_both b (room ∙ yes_room) off);
 }
+
+-- one client more that was known
+pub known_step : (v : Guests) (left more : List NamedClient) (c : NamedClient) (kept mine others : List KeptCall) (calls few : List RememberedCall) → left ≡ c ∷ more → kept ≡ mine ++ others →
+    IsKnown v c calls → AreNewest v calls few → AreLinesFor c mine few → AreKnown v more others → AreKnown v left kept
+known_step v left more c kept mine others calls few cut split known newest lines rest =
+    subst (λ (l : List NamedClient). AreKnown v l kept) (sym cut) (mine, others, calls, few, split, known, newest, lines, rest)

@@ -216,6 +216,7 @@ fn known_calls<'a>(guests: &'a Guests, client: &NamedClient) -> Option<&'a [Reme
 
 // Whether clients were known before, with their sessions, keys and kept calls, these in the order of the clients: of each the
 // last one and some before it, or all.
+#[tactic(auto, using(crate::proofs::Chaining::known_step))]
 fn are_known(guests: &Guests, clients: &[NamedClient], kept: &[KeptCall], has_all: bool) -> bool
     requires { has_all ≡ stays guests.now.guests 0 }
     ensures { IsTrue result → AreKnown guests.now clients.now kept.now }
