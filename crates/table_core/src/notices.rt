@@ -3,6 +3,13 @@
 //! Nothing of what a client sent stands in it. All memory for it is taken at the start; of more notices than have room the
 //! newest are known.
 
+ghost use Rattle.std.specs.Prelude.{◌≡◌, ◌⊎◌, ◌%◌, ℕ, List, true, Some, IfSome, slice_get};
+ghost use Rattle.value_core.specs.declared.datum.Datum.{Datum as ADatum};
+ghost use Rattle.decl_core.specs.ObjectMap.{object_of};
+ghost use Rattle.decl_core.specs.HoldMap.{rules_of};
+ghost use Rattle.guest_core.specs.Undo.{IsUndoOf};
+ghost use Rattle.table_core.specs.Notices.{CallIsMade, IsBack, IsBackBy, IsNewestBack, NotesAll, NotesAt, NotesOf, NotesOne, again_in, most_known, noticed, noting};
+
 use apply_core::reply::Reply;
 use client_core::all::AllHeld;
 use client_core::holder::{FIRST_PAUSE, Holder, WhenDue};
@@ -58,7 +65,9 @@ impl Notices {
 }
 
 // One notice more, in the place of the oldest.
-fn push(notices: &mut Notices, one: GivenBack) {
+fn push(notices: &mut Notices, one: GivenBack)
+    ensures { (noticed notices.new ≡ noting one (noticed notices.old)) ⊎ (noticed notices.new ≡ noticed notices.old) }
+{
     let at = (notices.count % 256) as usize;
     if at < notices.rows.len() {
         notices.rows[at] = one;
@@ -67,7 +76,9 @@ fn push(notices: &mut Notices, one: GivenBack) {
 }
 
 // Whether a call that was made for a session has not ended.
-fn is_made(when: WhenDue) -> bool {
+fn is_made(when: WhenDue) -> bool
+    ensures { result ≡ true → CallIsMade when }
+{
     match when {
         WhenDue::Now => true,
         WhenDue::At(_) => false,
@@ -76,7 +87,10 @@ fn is_made(when: WhenDue) -> bool {
 }
 
 // Whether one is of a session, for which a call was made that has not ended.
-fn is_for(row: Holder, session: u32) -> bool {
+fn is_for(row: Holder, session: u32) -> bool
+    ensures own { result ≡ true → row.session ≡ session }
+    ensures made { result ≡ true → CallIsMade row.when }
+{
     if u32::from(row.session) != session {
         return false;
     }
@@ -84,7 +98,9 @@ fn is_for(row: Holder, session: u32) -> bool {
 }
 
 // The one of these that has a session, where a call was made for it that has not ended.
-fn made_for(gone: &[Holder], session: u32) -> Option<Holder> {
+fn made_for(gone: &[Holder], session: u32) -> Option<Holder>
+    ensures { IfSome result (λ g. (k : ℕ) × (slice_get gone.now k ≡ Some g) × (g.session ≡ session) × CallIsMade g.when) }
+{
     for place in 0..gone.len() {
         let row = gone[place];
         if is_for(row, session) {
@@ -95,7 +111,9 @@ fn made_for(gone: &[Holder], session: u32) -> Option<Holder> {
 }
 
 // In how many seconds a call that ended so is made again; `None`: it was done.
-fn again_in(reply: &Reply, pause: u64) -> Option<u64> {
+fn again_in(reply: &Reply, pause: u64) -> Option<u64>
+    ensures { result ≡ again_in reply.now pause }
+{
     match reply {
         Reply::Done(_) => None,
         Reply::Refused(_) => Some(pause),
@@ -104,7 +122,10 @@ fn again_in(reply: &Reply, pause: u64) -> Option<u64> {
 }
 
 // The operation that gives a held call back.
-fn undo_in(object: &Object, rules: &Rules, held: &HeldCall) -> Option<OpId> {
+fn undo_in(object: &Object, rules: &Rules, held: &HeldCall) -> Option<OpId>
+    ensures { IfSome result (λ undo. (arguments : List ADatum)
+        × IsUndoOf (object_of object.now) (rules_of rules.now).holds held.now undo arguments) }
+{
     match undo_of(object, &rules.holds, held) {
         None => None,
         Some(undo) => Some(undo.0),
@@ -127,7 +148,9 @@ fn back_from(
     session: u32,
     again: Option<u64>,
     held: &HeldCall,
-) -> Option<GivenBack> {
+) -> Option<GivenBack>
+    ensures { IfSome result (IsBack (object_of object.now) (rules_of rules.now) session again held.now) }
+{
     match undo_in(object, rules, held) {
         None => None,
         Some(undo) => Some(GivenBack {
@@ -148,7 +171,9 @@ fn back_of(
     at: usize,
     session: u32,
     again: Option<u64>,
-) -> Option<GivenBack> {
+) -> Option<GivenBack>
+    ensures { IfSome result (IsNewestBack (object_of object.now) holding.now session again) }
+{
     match holding.holds().newest(session) {
         None => None,
         Some(held) => back_from(object, holding.rules(), at, session, again, held),
@@ -156,7 +181,9 @@ fn back_of(
 }
 
 // Whether a notice is of the operation of a call that ran.
-fn is_by(one: GivenBack, ran: &Ran) -> bool {
+fn is_by(one: GivenBack, ran: &Ran) -> bool
+    ensures { result ≡ true → one.undo ≡ ran.now.call.operation }
+{
     one.undo == ran.call.operation()
 }
 
@@ -167,7 +194,10 @@ fn back_for(
     at: usize,
     ran: &Ran,
     pause: u64,
-) -> Option<GivenBack> {
+) -> Option<GivenBack>
+    ensures { IfSome result (λ n. IsNewestBack (object_of object.now) holding.now ran.now.call.session
+        (again_in ran.now.reply pause) n × (n.undo ≡ ran.now.call.operation)) }
+{
     match back_of(
         object,
         holding,
@@ -186,7 +216,9 @@ fn back_for(
 }
 
 // A notice of a call of the object at a place that ran, where it was made for a session that is gone.
-fn back_by(object: &Object, holding: &Holding, at: usize, ran: &Ran) -> Option<GivenBack> {
+fn back_by(object: &Object, holding: &Holding, at: usize, ran: &Ran) -> Option<GivenBack>
+    ensures { IfSome result (IsBackBy (object_of object.now) holding.now ran.now) }
+{
     match made_for(holding.gone(), ran.call.session()) {
         None => None,
         Some(gone) => back_for(object, holding, at, ran, gone.pause),
@@ -194,7 +226,9 @@ fn back_by(object: &Object, holding: &Holding, at: usize, ran: &Ran) -> Option<G
 }
 
 // Notices a call that ran.
-fn note_one(notices: &mut Notices, object: &Object, holding: &Holding, at: usize, ran: &Ran) {
+fn note_one(notices: &mut Notices, object: &Object, holding: &Holding, at: usize, ran: &Ran)
+    ensures { NotesOne (object_of object.now) holding.now ran.now (noticed notices.old) (noticed notices.new) }
+{
     match back_by(object, holding, at, ran) {
         None => {}
         Some(one) => push(notices, one),
@@ -202,7 +236,9 @@ fn note_one(notices: &mut Notices, object: &Object, holding: &Holding, at: usize
 }
 
 // Notices calls that ran.
-fn note_all(notices: &mut Notices, object: &Object, holding: &Holding, at: usize, all: &[Ran]) {
+fn note_all(notices: &mut Notices, object: &Object, holding: &Holding, at: usize, all: &[Ran])
+    ensures { NotesAll (object_of object.now) holding.now all.now (noticed notices.old) (noticed notices.new) }
+{
     match all {
         [] => {}
         [first, others @ ..] => {
@@ -213,7 +249,10 @@ fn note_all(notices: &mut Notices, object: &Object, holding: &Holding, at: usize
 }
 
 // The same, where somebody is gone.
-fn note_gone(notices: &mut Notices, object: &Object, holding: &Holding, at: usize, all: &[Ran]) {
+fn note_gone(notices: &mut Notices, object: &Object, holding: &Holding, at: usize, all: &[Ran])
+    ensures { (noticed notices.new ≡ noticed notices.old)
+        ⊎ NotesAll (object_of object.now) holding.now all.now (noticed notices.old) (noticed notices.new) }
+{
     if holding.gone().is_empty() {
         return;
     }
@@ -221,7 +260,9 @@ fn note_gone(notices: &mut Notices, object: &Object, holding: &Holding, at: usiz
 }
 
 // The same of the object at a place.
-fn note_held(notices: &mut Notices, objects: &[Hosted], holding: &Holding, at: usize, all: &[Ran]) {
+fn note_held(notices: &mut Notices, objects: &[Hosted], holding: &Holding, at: usize, all: &[Ran])
+    ensures { NotesOf objects.now holding.now at all.now (noticed notices.old) (noticed notices.new) }
+{
     match objects.get(at) {
         None => {}
         Some(object) => note_gone(notices, object.live().object(), holding, at, all),
@@ -235,7 +276,9 @@ pub(crate) fn note_ran(
     custody: &AllHeld,
     at: usize,
     all: &[Ran],
-) {
+)
+    ensures { NotesAt objects.now custody.now at all.now (noticed notices.old) (noticed notices.new) }
+{
     match custody.at(at) {
         None => {}
         Some(holding) => note_held(notices, objects, holding, at, all),
@@ -276,7 +319,9 @@ pub(crate) fn note_bad(notices: &mut Notices, bad: BadLine, refusal: LineRefusal
 }
 
 /// The notice of a number, where it is known.
-pub(crate) fn notice_at(notices: &Notices, number: u64) -> Option<GivenBack> {
+pub(crate) fn notice_at(notices: &Notices, number: u64) -> Option<GivenBack>
+    ensures { IfSome result (λ n. slice_get (noticed notices.now).rows (number % most_known) ≡ Some n) }
+{
     if number >= notices.count {
         return None;
     }
