@@ -93,7 +93,7 @@ pub(crate) fn is_crowded_by(guests: &Guests, holds: &Holds, name: &Name, second:
     if guests.knows(name) || guests.guests().len() < MOST_NAMES as usize {
         return false;
     }
-    any_keeps(guests.guests(), holds, guests.least(), second)
+    any_keeps(guests.guests(), holds, guests.least_away(), second)
 }
 
 // When a call is due in this second for one that is gone.

@@ -270,7 +270,7 @@ impl Holding {
     }
 
     /// Whether a client of a new name may not come in this second: there are 4,096 names, and one that might be forgotten
-    /// for it, being away for the seconds of [`Guests::least`], holds something.
+    /// for it, being away for the seconds of [`Guests::least_away`], holds something.
     pub fn is_crowded(&self, hosted: &Hosted, name: &Name, second: u64) -> bool
         ensures yes { result ≡ true → IsCrowded self.now.held hosted.now.guests name.now second }
         ensures no { result ≡ false → IsCrowded self.now.held hosted.now.guests name.now second → ⊥ }

@@ -132,7 +132,7 @@ impl Guests {
 
     /// A client comes by its name in the second `now`: it is here from now on. One that was away has its session again. A
     /// new name gets the least free number, and the next place; where there are as many names as may be, it gets the
-    /// place of the client that is away longest, for the seconds of [`Guests::least`] at least, and has no call that waits:
+    /// place of the client that is away longest, for the seconds of [`Guests::least_away`] at least, and has no call that waits:
     /// that one is forgotten, and its number is given to nobody until [`Guests::renew`].
     ///
     /// The errors are those of [`EnterFault`], in their order; they change nothing.
@@ -254,7 +254,7 @@ impl Guests {
     }
 
     /// For how many seconds a client is away at least before it is forgotten for a new one.
-    pub fn least(&self) -> u64
+    pub fn least_away(&self) -> u64
         ensures { result ≡ self.now.least }
     {
         self.least
