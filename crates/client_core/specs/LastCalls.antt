@@ -1,6 +1,6 @@
 -- The last calls that ended of each operation, and of which of them a node is full.
 use Rattle.std.specs.Prelude.{◌≡◌, ℕ, ◌+◌, ◌-◌, ◌^◌, ◌==◌, ◌||◌, Bool, false, if◌then◌else◌, List, [], ◌∷◌, ◌++◌, Option, Some, None}
-use Rattle.std.specs.Prelude.{take, length, map, flat_map, codes, decimal, slice_get, slice_set}
+use Rattle.std.specs.Prelude.{take, length, flat_map, codes, decimal, slice_get, slice_set}
 use Rattle.std.specs.List.Sorted.{IsPermutation, IsNonDecreasingBy}
 use Rattle.path_tree.specs.Path.{Path}
 use Rattle.apply_core.specs.declared.reply.Reply.{Reply}

@@ -15,7 +15,7 @@ use Rattle.stuck_core.specs.Lacks.{Why}
 use Rattle.stuck_core.specs.ReasonViews.{why_of, whys_of}
 use Rattle.stuck_core.specs.Why.{path_line, why_line}
 use Rattle.client_core.specs.declared.last.LastCall.{LastCall}
-use Rattle.client_core.specs.LastCalls.{AreBelow, AreNodes, all_below, node_lines, open_line, filled_text}
+use Rattle.client_core.specs.LastCalls.{AreBelow, AreNodes, all_below, node_lines, open_line}
 use Rattle.inside_core.specs.LastRows.{no_calls, AddsNodes, AddsWhole}
 use Rattle.inside_core.proofs.Adding.{flat_map-append, added_then}
 

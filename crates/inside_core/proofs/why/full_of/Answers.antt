@@ -1,7 +1,6 @@
 use Rattle.std.proofs.Common.{◌∙◌, ap, subst, List, ◌++◌}
 use Rattle.std.specs.Prelude.{Option, option_map}
 use Rattle.path_tree.specs.Path.{Path}
-use Rattle.decl_core.specs.ObjectMap.{object_of}
 use Rattle.client_core.specs.declared.last.LastCall.{LastCall}
 use Rattle.client_core.specs.LastCalls.{AreNewest, filling}
 use Rattle.inside_core.proofs.why.full_of.Goals as goal

@@ -1,4 +1,3 @@
-use Rattle.stuck_core.specs.declared.reason.Reason.{Reason}
 use Rattle.inside_core.proofs.LastOnes.{says_why}
 use Rattle.inside_core.proofs.why.say_why.Goals as goal
 
