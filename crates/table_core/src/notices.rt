@@ -9,6 +9,8 @@ ghost use Rattle.decl_core.specs.ObjectMap.{object_of};
 ghost use Rattle.decl_core.specs.HoldMap.{rules_of};
 ghost use Rattle.guest_core.specs.Undo.{IsUndoOf};
 ghost use Rattle.table_core.specs.Notices.{CallIsMade, IsBack, IsBackBy, IsNewestBack, NotesAll, NotesAt, NotesOf, NotesOne, again_in, most_known, noticed, noting};
+ghost use Rattle.std.specs.Prelude.{◌≡◌, ℕ, true, Some, IfSome, slice_get};
+ghost use Rattle.table_core.specs.Notices.{CallIsMade, again_in};
 
 use apply_core::reply::Reply;
 use client_core::all::AllHeld;
