@@ -3,7 +3,6 @@ pub mod Hints
 pub mod Looks
 pub mod Moves
 pub mod Notices
-pub mod Notices
 pub mod Objects
 pub mod Parts
 pub mod Seen

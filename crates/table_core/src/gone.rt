@@ -18,7 +18,6 @@ ghost use Rattle.client_core.specs.State.{opened_at};
 ghost use Rattle.table_core.specs.Brings.{Brings, SettlesOn};
 ghost use Rattle.table_core.specs.Objects.{IsKnownAt, IsNamed, NoneWaitsAt, SeatsAt};
 ghost use Rattle.table_core.specs.Parts.{AsksCall, TellsUnheld, MayAsk, MayNotAsk, LeavesOf, IsOwedAt, HasCustody, SeatsOr, FreesOr, EndsAll, bare_seat};
-ghost use Rattle.table_core.specs.Notices.{NotesAt, noticed};
 ghost use Rattle.table_core.specs.Seen.{seen};
 
 use crate::making::{Asker, Ready};
@@ -172,9 +171,6 @@ impl Table {
             → Follows at object taken.now.ran.items (seen self.old) (seen self.new)) }
         ensures counts { OnOk result (at < length self.old.tallies.objects.items
             → CountsTaken at taken.now self.old.tallies.objects.items self.new.tallies.objects.items) }
-        // What is noticed is what the calls give back that were made for sessions that are gone.
-        ensures notes { OnOk result (NotesAt self.old.objects.items self.old.custody at taken.now.ran.items
-            (noticed self.old.notices) (noticed self.new.notices)) }
     {
         self.tallies.count(at, taken);
         note_ran(
