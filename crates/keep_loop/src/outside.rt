@@ -3,7 +3,6 @@
 ghost use Rattle.std.specs.Prelude.{◌≡◌, ◌≤◌, true, false, ℕ, List, Option, length, take, OnOk, OnErr, IfOk, IfSome, IfNone};
 ghost use Rattle.keep_loop.specs.Seen.{Happened, Grows, GrowsIf, read_of};
 ghost use Rattle.keep_loop.specs.Seen.Happened.{Broke, Wrote, Noticed, Added, Stored, Changed};
-ghost use Rattle.keep_loop.specs.declared.outside.GivenBack.{GivenBack as AGivenBack};
 ghost use Rattle.keep_loop.specs.declared.served.Note.TheVariants.{Joins, Leaves, Ticks, Ends};
 
 use std::alloc::AllocError;
@@ -70,9 +69,6 @@ pub trait Visible {
     /// This text is a status of this state.
     ghost shows: { Self → List ℕ → Type 0 };
 
-    /// This is the notice of a number of this state.
-    ghost notices: { Self → ℕ → AGivenBack → Type 0 };
-
     /// Puts a status in place of what is in `text`. The error is that memory was refused.
     fn status(&self, text: &mut Vec<u8>) -> Result<(), AllocError>
         ensures { OnOk result (shows self.now text.new.items) };
@@ -81,8 +77,7 @@ pub trait Visible {
     fn count_notices(&self) -> u64;
 
     /// The notice of a number, from 0, where it is known. `None`: it is not, or what was given back is held still.
-    fn notice(&self, number: u64) -> Option<GivenBack>
-        ensures { IfSome result (λ notice. notices self.now number notice) };
+    fn notice(&self, number: u64) -> Option<GivenBack>;
 
     /// How many lines were refused that ask for nothing.
     fn count_bad(&self) -> u64;

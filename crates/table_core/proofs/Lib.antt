@@ -2,7 +2,6 @@ pub mod Bringing
 pub mod Cancelling
 pub mod Entering
 pub mod Hinting
-pub mod Noticing
 pub mod Placing
 pub mod Quiet
 pub mod Saying

@@ -21,7 +21,6 @@ ghost use Rattle.client_core.specs.State.{opened_at};
 ghost use Rattle.table_core.specs.Brings.{Brings, SettlesOn};
 ghost use Rattle.table_core.specs.Objects.{IsKnownAt, IsNamed, NoneWaitsAt, SeatsAt};
 ghost use Rattle.table_core.specs.Parts.{AsksCall, TellsUnheld, MayAsk, MayNotAsk, LeavesOf, IsOwedAt, HasCustody, SeatsOr, FreesOr, EndsAll, bare_seat};
-ghost use Rattle.table_core.specs.Notices.{NotesAt, noticed};
 ghost use Rattle.table_core.specs.Seen.{seen};
 
 use crate::making::{Asker, Ready};
@@ -194,9 +193,6 @@ impl Table {
         ensures last { OnOk result ((object : Scene) → slice_get self.old.objects.items at ≡ Some object
             → at < length self.old.tallies.last.items
             → KeepsLast at object taken.now.ran.items self.old.tallies.last.items self.new.tallies.last.items) }
-        // What is noticed is what the calls give back that were made for sessions that are gone.
-        ensures notes { OnOk result (NotesAt self.old.objects.items self.old.custody at taken.now.ran.items
-            (noticed self.old.notices) (noticed self.new.notices)) }
     {
         self.tallies.count(at, taken);
         keep_last_at(&mut self.tallies, &self.objects, at, &taken.ran);

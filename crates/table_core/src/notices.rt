@@ -3,12 +3,8 @@
 //! Nothing of what a client sent stands in it. All memory for it is taken at the start; of more notices than have room the
 //! newest are known.
 
-ghost use Rattle.std.specs.Prelude.{◌≡◌, ◌⊎◌, ◌%◌, ℕ, List, true, Some, IfSome, slice_get};
-ghost use Rattle.value_core.specs.declared.datum.Datum.{Datum as ADatum};
-ghost use Rattle.decl_core.specs.ObjectMap.{object_of};
-ghost use Rattle.decl_core.specs.HoldMap.{rules_of};
-ghost use Rattle.guest_core.specs.Undo.{IsUndoOf};
-ghost use Rattle.table_core.specs.Notices.{CallIsMade, IsBack, IsBackBy, IsNewestBack, NotesAll, NotesAt, NotesOf, NotesOne, again_in, most_known, noticed, noting};
+ghost use Rattle.std.specs.Prelude.{◌≡◌, ℕ, true, Some, IfSome, slice_get};
+ghost use Rattle.table_core.specs.Notices.{CallIsMade, again_in};
 
 use apply_core::reply::Reply;
 use client_core::all::AllHeld;
@@ -65,9 +61,7 @@ impl Notices {
 }
 
 // One notice more, in the place of the oldest.
-fn push(notices: &mut Notices, one: GivenBack)
-    ensures { (noticed notices.new ≡ noting one (noticed notices.old)) ⊎ (noticed notices.new ≡ noticed notices.old) }
-{
+fn push(notices: &mut Notices, one: GivenBack) {
     let at = (notices.count % 256) as usize;
     if at < notices.rows.len() {
         notices.rows[at] = one;
@@ -122,10 +116,7 @@ fn again_in(reply: &Reply, pause: u64) -> Option<u64>
 }
 
 // The operation that gives a held call back.
-fn undo_in(object: &Object, rules: &Rules, held: &HeldCall) -> Option<OpId>
-    ensures { IfSome result (λ undo. (arguments : List ADatum)
-        × IsUndoOf (object_of object.now) (rules_of rules.now).holds held.now undo arguments) }
-{
+fn undo_in(object: &Object, rules: &Rules, held: &HeldCall) -> Option<OpId> {
     match undo_of(object, &rules.holds, held) {
         None => None,
         Some(undo) => Some(undo.0),
@@ -148,9 +139,7 @@ fn back_from(
     session: u32,
     again: Option<u64>,
     held: &HeldCall,
-) -> Option<GivenBack>
-    ensures { IfSome result (IsBack (object_of object.now) (rules_of rules.now) session again held.now) }
-{
+) -> Option<GivenBack> {
     match undo_in(object, rules, held) {
         None => None,
         Some(undo) => Some(GivenBack {
@@ -171,9 +160,7 @@ fn back_of(
     at: usize,
     session: u32,
     again: Option<u64>,
-) -> Option<GivenBack>
-    ensures { IfSome result (IsNewestBack (object_of object.now) holding.now session again) }
-{
+) -> Option<GivenBack> {
     match holding.holds().newest(session) {
         None => None,
         Some(held) => back_from(object, holding.rules(), at, session, again, held),
@@ -194,10 +181,7 @@ fn back_for(
     at: usize,
     ran: &Ran,
     pause: u64,
-) -> Option<GivenBack>
-    ensures { IfSome result (λ n. IsNewestBack (object_of object.now) holding.now ran.now.call.session
-        (again_in ran.now.reply pause) n × (n.undo ≡ ran.now.call.operation)) }
-{
+) -> Option<GivenBack> {
     match back_of(
         object,
         holding,
@@ -216,9 +200,7 @@ fn back_for(
 }
 
 // A notice of a call of the object at a place that ran, where it was made for a session that is gone.
-fn back_by(object: &Object, holding: &Holding, at: usize, ran: &Ran) -> Option<GivenBack>
-    ensures { IfSome result (IsBackBy (object_of object.now) holding.now ran.now) }
-{
+fn back_by(object: &Object, holding: &Holding, at: usize, ran: &Ran) -> Option<GivenBack> {
     match made_for(holding.gone(), ran.call.session()) {
         None => None,
         Some(gone) => back_for(object, holding, at, ran, gone.pause),
@@ -226,9 +208,7 @@ fn back_by(object: &Object, holding: &Holding, at: usize, ran: &Ran) -> Option<G
 }
 
 // Notices a call that ran.
-fn note_one(notices: &mut Notices, object: &Object, holding: &Holding, at: usize, ran: &Ran)
-    ensures { NotesOne (object_of object.now) holding.now ran.now (noticed notices.old) (noticed notices.new) }
-{
+fn note_one(notices: &mut Notices, object: &Object, holding: &Holding, at: usize, ran: &Ran) {
     match back_by(object, holding, at, ran) {
         None => {}
         Some(one) => push(notices, one),
@@ -236,9 +216,7 @@ fn note_one(notices: &mut Notices, object: &Object, holding: &Holding, at: usize
 }
 
 // Notices calls that ran.
-fn note_all(notices: &mut Notices, object: &Object, holding: &Holding, at: usize, all: &[Ran])
-    ensures { NotesAll (object_of object.now) holding.now all.now (noticed notices.old) (noticed notices.new) }
-{
+fn note_all(notices: &mut Notices, object: &Object, holding: &Holding, at: usize, all: &[Ran]) {
     match all {
         [] => {}
         [first, others @ ..] => {
@@ -249,10 +227,7 @@ fn note_all(notices: &mut Notices, object: &Object, holding: &Holding, at: usize
 }
 
 // The same, where somebody is gone.
-fn note_gone(notices: &mut Notices, object: &Object, holding: &Holding, at: usize, all: &[Ran])
-    ensures { (noticed notices.new ≡ noticed notices.old)
-        ⊎ NotesAll (object_of object.now) holding.now all.now (noticed notices.old) (noticed notices.new) }
-{
+fn note_gone(notices: &mut Notices, object: &Object, holding: &Holding, at: usize, all: &[Ran]) {
     if holding.gone().is_empty() {
         return;
     }
@@ -260,9 +235,7 @@ fn note_gone(notices: &mut Notices, object: &Object, holding: &Holding, at: usiz
 }
 
 // The same of the object at a place.
-fn note_held(notices: &mut Notices, objects: &[Hosted], holding: &Holding, at: usize, all: &[Ran])
-    ensures { NotesOf objects.now holding.now at all.now (noticed notices.old) (noticed notices.new) }
-{
+fn note_held(notices: &mut Notices, objects: &[Hosted], holding: &Holding, at: usize, all: &[Ran]) {
     match objects.get(at) {
         None => {}
         Some(object) => note_gone(notices, object.live().object(), holding, at, all),
@@ -276,9 +249,7 @@ pub(crate) fn note_ran(
     custody: &AllHeld,
     at: usize,
     all: &[Ran],
-)
-    ensures { NotesAt objects.now custody.now at all.now (noticed notices.old) (noticed notices.new) }
-{
+) {
     match custody.at(at) {
         None => {}
         Some(holding) => note_held(notices, objects, holding, at, all),
@@ -319,9 +290,7 @@ pub(crate) fn note_bad(notices: &mut Notices, bad: BadLine, refusal: LineRefusal
 }
 
 /// The notice of a number, where it is known.
-pub(crate) fn notice_at(notices: &Notices, number: u64) -> Option<GivenBack>
-    ensures { IfSome result (λ n. slice_get (noticed notices.now).rows (number % most_known) ≡ Some n) }
-{
+pub(crate) fn notice_at(notices: &Notices, number: u64) -> Option<GivenBack> {
     if number >= notices.count {
         return None;
     }

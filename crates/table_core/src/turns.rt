@@ -715,11 +715,8 @@ impl Served for Table {
 
 impl Visible for Table {
     ghost use Rattle.table_core.specs.Moves.{IsSeenIn};
-    ghost use Rattle.table_core.specs.Notices.{HasNotice};
 
     ghost shows = { IsSeenIn };
-
-    ghost notices = { HasNotice };
 
     fn status(&self, text: &mut Vec<u8>) -> Result<(), AllocError> {
         write_look(
