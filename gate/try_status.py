@@ -311,7 +311,7 @@ def over_http(folder: pathlib.Path) -> str | None:
             return f"the metrics are {asked(port, '/metrics')}"
         code, kind, told = asked(port, "/")
         cells = [[html.unescape(it) for it in re.findall("<td[^>]*>(.*?)</td>", row)] for row in re.findall("<tr[^>]*>(.*?)</tr>", told)[1:]]
-        wanted = [it.split() for it in TABLE.split("\n")[4:7]]
+        wanted = [it.split() for it in TABLE.split("\n")[5:8]]
         found = [[it for it in row if it] for row in cells]
         # An object has its name in its first row alone.
         wanted[1] = wanted[1][1:]

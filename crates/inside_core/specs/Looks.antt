@@ -105,9 +105,9 @@ ShowsAll objects tallies clients custody now k [] = Unit {0}
 ShowsAll objects tallies clients custody now k (s ∷ all) =
     ShowsAt objects tallies clients custody now k s × ShowsAll objects tallies clients custody now (k + 1) all
 
--- what was answered to lines, and how long the calls of these objects took
-abbrev pub answers_text : List Scene → AnswerCounts → List ℕ
-answers_text objects answers = no_words_text answers.words ++ times_text objects answers.times.objects.items
+-- what was answered to lines, and how long calls took
+abbrev pub answers_text : AnswerCounts → List ℕ
+answers_text answers = no_words_text answers.words ++ times_text answers.times.objects.items
 
 -- a text tells of all these objects, in order, what the nodes of their paths have counted, and what was answered
 pub record IsStatus (objects : List Scene) (tallies : List ObjectTally) (answers : AnswerCounts) (clients : ClientPlaces)
@@ -115,4 +115,4 @@ pub record IsStatus (objects : List Scene) (tallies : List ObjectTally) (answers
   pub all : List SeenObject
   pub shows : ShowsAll objects tallies clients custody now 0 all
   pub count : length all ≡ length objects
-  pub text_is : text ≡ objects_text all ++ nodes_text objects ++ answers_text objects answers
+  pub text_is : text ≡ objects_text all ++ nodes_text objects ++ answers_text answers

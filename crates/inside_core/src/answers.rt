@@ -5,8 +5,7 @@ ghost use Rattle.inside_core.specs.Looks.{answers_text};
 
 use crate::called::{CallTimes, push_times};
 use crate::refused::{NoCounts, push_no_words};
-use live_core::hosted::Hosted;
-use std::alloc::{AllocError, Global};
+use std::alloc::AllocError;
 
 /// What was answered since the start: how many lines by each word behind `no`, and how long calls took.
 #[derive(Drop)]
@@ -16,14 +15,9 @@ pub struct AnswerCounts {
 }
 
 // Adds the metrics of what was answered.
-pub(crate) fn push_answers(
-    alloc: Global,
-    out: &mut Vec<u8>,
-    objects: &[Hosted],
-    answers: &AnswerCounts,
-) -> Result<(), AllocError>
-    ensures { OnOk result (out.new.items ≡ out.old.items ++ answers_text objects.now answers.now) }
+pub(crate) fn push_answers(out: &mut Vec<u8>, answers: &AnswerCounts) -> Result<(), AllocError>
+    ensures { OnOk result (out.new.items ≡ out.old.items ++ answers_text answers.now) }
 {
     push_no_words(out, answers.words)?;
-    push_times(alloc, out, objects, &answers.times)
+    push_times(out, &answers.times)
 }

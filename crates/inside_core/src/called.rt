@@ -1,16 +1,21 @@
 //! How long calls took.
 
-ghost use Rattle.std.specs.Prelude.{◌≡◌, ◌<◌, ◌≤◌, ◌-◌, ◌==◌, ◌++◌, ℕ, false, length, slice_get, OnOk, IfOk};
-ghost use Rattle.inside_core.specs.Called.{CountsTime, HasOneTimed, begun_in, object_times, times_lines, times_text};
+ghost use Rattle.std.specs.Prelude.{◌≡◌, ◌<◌, ◌≤◌, ◌-◌, ◌==◌, ◌++◌, ℕ, false, codes, flat_map, length, slice_get, OnOk, IfOk};
+ghost use Rattle.inside_core.specs.Called.{CountsTime, HasOneTimed, IsUntimed, TookOne, begun_in, object_times, times_text};
 ghost use Rattle.inside_core.specs.Metrics.{label_text};
-ghost use Rattle.inside_core.specs.Took.{TookMore};
 
 use crate::durations::push_lines;
 use crate::metric::{MetricKind, push_head, push_label};
 use crate::numbers::Durations;
 use crate::took::{no_durations, note_took};
-use live_core::hosted::Hosted;
 use std::alloc::{AllocError, Global};
+
+/// How long the calls of an object took, and the label that tells of which.
+#[derive(Drop)]
+pub struct TimedObject {
+    pub(crate) label: Vec<u8>,
+    pub(crate) durations: Durations,
+}
 
 /// How long calls took, of each object, and when the last call of each connection was taken, in nanoseconds.
 #[derive(Drop)]
@@ -18,7 +23,7 @@ pub struct CallTimes {
     alloc: Global,
     // Of the one at each place.
     pub(crate) begun: Vec<u64>,
-    pub(crate) objects: Vec<Durations>,
+    pub(crate) objects: Vec<TimedObject>,
 }
 
 // Nothing was taken of so many.
@@ -40,12 +45,37 @@ fn begun_at(begun: &[u64], place: usize) -> u64
     }
 }
 
-// One call more of the object at a place took so many nanoseconds.
-fn note_at(objects: &mut Vec<Durations>, at: usize, nanos: u64)
+// One call more of an object took so many nanoseconds.
+fn note_one(one: &mut TimedObject, nanos: u64)
+    ensures { TookOne nanos one.old one.new }
+{
+    note_took(&mut one.durations, nanos);
+}
+
+// The same of the object at a place.
+fn note_at(objects: &mut Vec<TimedObject>, at: usize, nanos: u64)
     requires { at < length objects.old.items }
     ensures { CountsTime at nanos objects.old.items objects.new.items }
 {
-    note_took(&mut objects[at], nanos);
+    note_one(&mut objects[at], nanos);
+}
+
+// The label of an object of this name.
+fn object_label(alloc: Global, name: &[u8]) -> Result<Vec<u8>, AllocError>
+    ensures { IfOk result (λ label. label.items ≡ label_text (codes "object=\"") name.now) }
+{
+    let mut label = Vec::new(alloc);
+    push_label(&mut label, b"object=\"", name)?;
+    Ok(label)
+}
+
+// An object of this name, of which no call has ended.
+fn untimed(alloc: Global, name: &[u8]) -> Result<TimedObject, AllocError>
+    ensures { IfOk result (IsUntimed name.now) }
+{
+    let label = object_label(alloc, name)?;
+    let durations = no_durations(alloc)?;
+    Ok(TimedObject { label, durations })
 }
 
 impl CallTimes {
@@ -61,12 +91,12 @@ impl CallTimes {
         })
     }
 
-    /// One object more, of which no call has ended. The error is that memory was refused.
-    pub fn add(&mut self) -> Result<(), AllocError>
-        ensures { OnOk result (HasOneTimed self.old.objects.items self.new.objects.items) }
+    /// One object more, of this name, of which no call has ended. The error is that memory was refused.
+    pub fn add(&mut self, name: &[u8]) -> Result<(), AllocError>
+        ensures { OnOk result (HasOneTimed name.now self.old.objects.items self.new.objects.items) }
     {
-        let durations = no_durations(self.alloc)?;
-        self.objects.push(durations)?;
+        let one = untimed(self.alloc, name)?;
+        self.objects.push(one)?;
         Ok(())
     }
 
@@ -94,58 +124,36 @@ impl CallTimes {
             note_at(&mut self.objects, at, took);
         }
     }
-
-    /// How long the calls took of each object.
-    pub(crate) fn objects(&self) -> &[Durations]
-        ensures { result.now ≡ self.now.objects.items }
-    {
-        &self.objects
-    }
 }
 
 // Adds how long the calls of an object took.
-fn push_object(
-    alloc: Global,
-    out: &mut Vec<u8>,
-    object: &Hosted,
-    durations: &Durations,
-) -> Result<(), AllocError>
-    ensures { OnOk result (out.new.items ≡ out.old.items ++ object_times object.now durations.now) }
+fn push_object(out: &mut Vec<u8>, one: &TimedObject) -> Result<(), AllocError>
+    ensures { OnOk result (out.new.items ≡ out.old.items ++ object_times one.now) }
 {
-    let mut label = Vec::new(alloc);
-    push_label(&mut label, b"object=\"", object.name().as_bytes())?;
-    push_lines(out, &label, b"pathserve_call_duration_seconds", durations)
+    push_lines(
+        out,
+        &one.label,
+        b"pathserve_call_duration_seconds",
+        &one.durations,
+    )
 }
 
 // The same of these objects.
-fn push_objects(
-    alloc: Global,
-    out: &mut Vec<u8>,
-    objects: &[Hosted],
-    times: &[Durations],
-) -> Result<(), AllocError>
-    ensures { OnOk result (out.new.items ≡ out.old.items ++ times_lines objects.now times.now) }
+fn push_objects(out: &mut Vec<u8>, objects: &[TimedObject]) -> Result<(), AllocError>
+    ensures { OnOk result (out.new.items ≡ out.old.items ++ flat_map object_times objects.now) }
 {
     match objects {
         [] => Ok(()),
-        [first, more @ ..] => match times {
-            [] => Ok(()),
-            [one, others @ ..] => {
-                push_object(alloc, out, first, one)?;
-                push_objects(alloc, out, more, others)
-            }
-        },
+        [first, more @ ..] => {
+            push_object(out, first)?;
+            push_objects(out, more)
+        }
     }
 }
 
 /// Adds the metric of how long calls took. The error is that memory was refused; how much then stands in `out` is not said.
-pub(crate) fn push_times(
-    alloc: Global,
-    out: &mut Vec<u8>,
-    objects: &[Hosted],
-    times: &CallTimes,
-) -> Result<(), AllocError>
-    ensures { OnOk result (out.new.items ≡ out.old.items ++ times_text objects.now times.now.objects.items) }
+pub(crate) fn push_times(out: &mut Vec<u8>, times: &CallTimes) -> Result<(), AllocError>
+    ensures { OnOk result (out.new.items ≡ out.old.items ++ times_text times.now.objects.items) }
 {
     push_head(
         out,
@@ -153,5 +161,5 @@ pub(crate) fn push_times(
         MetricKind::Histogram,
         b"How long it took from the line that takes a call to the line that ends it.",
     )?;
-    push_objects(alloc, out, objects, times.objects())
+    push_objects(out, &times.objects)
 }

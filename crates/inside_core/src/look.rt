@@ -293,15 +293,14 @@ fn seen_in(
 
 // Adds what the nodes of objects have counted, and what was answered.
 fn push_behind(
-    alloc: Global,
     out: &mut Vec<u8>,
     objects: &[Hosted],
     answers: &AnswerCounts,
 ) -> Result<(), AllocError>
-    ensures { OnOk result (out.new.items ≡ out.old.items ++ (nodes_text objects.now ++ answers_text objects.now answers.now)) }
+    ensures { OnOk result (out.new.items ≡ out.old.items ++ (nodes_text objects.now ++ answers_text answers.now)) }
 {
     push_nodes(out, objects)?;
-    push_answers(alloc, out, objects, answers)
+    push_answers(out, answers)
 }
 
 /// Puts a status in place of what is in `out`: the text of what is told of all objects, of their connections, of the counts
@@ -321,5 +320,5 @@ pub fn write_look(
     let seen = seen_in(alloc, objects, tallies, clients, custody, second)?;
     out.clear();
     push_objects(out, &seen)?;
-    push_behind(alloc, out, objects, answers)
+    push_behind(out, objects, answers)
 }

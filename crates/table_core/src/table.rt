@@ -80,8 +80,8 @@ fn answers_of(
     places: usize,
 ) -> Result<AnswerCounts, AllocError> {
     let mut times = CallTimes::new(alloc, places)?;
-    for _object in objects {
-        times.add()?;
+    for object in objects {
+        times.add(object.name().as_bytes())?;
     }
     Ok(AnswerCounts {
         words: NoCounts::none(),
