@@ -18,6 +18,11 @@ ok_first f [] d r a b c some p q = absurd (omega (arith, some))
 ok_first {X} f (x ∷ xs) d r a b c some p q =
     ok_two r a b c (f x) (flat_map f xs) p (subst (λ (l : List X). OnOk r (c ≡ b ++ flat_map f l)) (take_all (length (x ∷ xs) - 1) xs (omega arith)) q)
 
+-- the same, where the first one is known
+pub ok_first_item : {X : Type 0} {T E : Type 0} (f : X → List ℕ) (xs : List X) (x : X) (r : Result T E) (a b c : List ℕ) → 1 ≤ length xs → x ≡ get_or xs 0 x → b ≡ a ++ f x
+    → OnOk r (c ≡ b ++ flat_map f (take (length xs - 1) (drop 1 xs))) → OnOk r (c ≡ a ++ flat_map f xs)
+ok_first_item f xs x r a b c some is p q = ok_first f xs x r a b c some (p ∙ ap (λ y. a ++ f y) is) q
+
 flat_push : {X : Type 0} (f : X → List ℕ) (xs : List X) (x : X) → flat_map f (xs ++ x ∷ []) ≡ flat_map f xs ++ f x
 flat_push f [] x = append-nil (f x)
 flat_push f (y ∷ xs) x = ap (λ t. f y ++ t) (flat_push f xs x) ∙ sym (append_assoc (f y) (flat_map f xs) (f x))
