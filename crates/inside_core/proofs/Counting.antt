@@ -1,5 +1,5 @@
 -- Counts of calls that ran.
-use Rattle.std.proofs.Common.{◌≡◌, ◌≢◌, ◌<◌, ◌≤◌, ◌∙◌, ap, sym, subst, refl, arith, inl, inr, ℕ, zero, suc, ◌+◌, ◌^◌, List, [], ◌∷◌, ◌++◌, length, eqb-true}
+use Rattle.std.proofs.Common.{◌≡◌, ◌<◌, ◌≤◌, ◌∙◌, ap, sym, subst, refl, arith, inl, inr, ℕ, zero, suc, ◌+◌, ◌^◌, List, [], ◌∷◌, ◌++◌, length, eqb-true}
 use Rattle.std.specs.Prelude.{Bool, true, false, Option, Some, None, slice_get, slice_set, if◌then◌else◌, ◌==◌}
 use Rattle.std.proofs.Math.Nat.{min-eq_left}
 use Rattle.std.proofs.lemmas.Bool.Decides.{eqb_tells}
@@ -11,6 +11,7 @@ use Rattle.live_core.specs.declared.call.Ran.{Ran}
 use Rattle.inside_core.specs.declared.tallies.CallEnds.{CallEnds}
 use Rattle.inside_core.specs.Tallies.{nones, next, more, put_more, counted, counted_all, ends_of, taken_of}
 use Rattle.inside_core.specs.Laws.{is_done, is_refused, is_failed, ends_sum, sum_of, AreKnown, CountsAreOfTheCalls, SumsGrowAsTheHistory, TakenIsCounted}
+use Rattle.inside_core.proofs.Growing.{set_here, set_other, apart}
 
 next_is : (n : ℕ) → n + 1 < 2 ^ 64 → next n ≡ n + 1
 next_is n small = min-eq_left (omega (arith, small))
@@ -46,21 +47,6 @@ sum_in : (es : List CallEnds) (k : ℕ) (e : CallEnds) → slice_get es k ≡ So
 sum_in [] k e there = absurd (grind (arith, there))
 sum_in (y ∷ es) zero e there = omega (arith, ap ends_sum (same_Some y e there))
 sum_in (y ∷ es) (suc k) e there = omega (arith, sum_in es k e there)
-
-set_here : (es : List CallEnds) (k : ℕ) (e x : CallEnds) → slice_get es k ≡ Some e → slice_get (slice_set es k x) k ≡ Some x
-set_here [] k e x there = absurd (grind (arith, there))
-set_here (y ∷ es) zero e x there = refl
-set_here (y ∷ es) (suc k) e x there = set_here es k e x there
-
-set_other : (es : List CallEnds) (i j : ℕ) (x : CallEnds) → i ≢ j → slice_get (slice_set es i x) j ≡ slice_get es j
-set_other [] i j x ne = refl
-set_other (y ∷ es) zero zero x ne = absurd (ne refl)
-set_other (y ∷ es) zero (suc j) x ne = refl
-set_other (y ∷ es) (suc i) zero x ne = refl
-set_other (y ∷ es) (suc i) (suc j) x ne = set_other es i j x (λ e. ne (ap suc e))
-
-apart : (m n : ℕ) → (m == n) ≡ false → m ≢ n
-apart m n h same = elim (eqb_tells m n) [ inl x ↦ absurd (let e : true ≡ false = sym x.0 ∙ h in cc) | inr x ↦ x.1 same ]
 
 -- a call is counted
 put_sum : (es : List CallEnds) (at : ℕ) (reply : Reply) (found : Option CallEnds) → slice_get es at ≡ found → sum_of es + 1 < 2 ^ 64 →

@@ -1,7 +1,8 @@
 -- Rows that change one after the other.
-use Rattle.std.proofs.Common.{◌≡◌, ℕ, zero, suc, ◌+◌, ◌<◌, ◌≤◌, ◌≢◌, List, [], ◌∷◌, ◌++◌, length, map, take, drop, get_or, refl, sym, ap, subst, ◌∙◌, arith}
+use Rattle.std.proofs.Common.{◌≡◌, ℕ, zero, suc, ◌+◌, ◌<◌, ◌≤◌, ◌≢◌, List, [], ◌∷◌, ◌++◌, length, map, take, drop, get_or, refl, sym, ap, subst, ◌∙◌, arith, true, false, inl, inr}
+use Rattle.std.proofs.lemmas.Bool.Decides.{eqb_tells}
 use Rattle.std.proofs.lemmas.List.{append-nil, take_all, drop_all}
-use Rattle.std.specs.Prelude.{Option, Some, slice_get, slice_set}
+use Rattle.std.specs.Prelude.{Option, Some, slice_get, slice_set, ◌==◌}
 use lib.ListN.{set}
 
 step : {X : Type 0} (f : X → X) (k : ℕ) (old : List X) (r : X) → k < length old → r ≡ get_or (map f (take k old) ++ drop k old) k r →
@@ -42,3 +43,6 @@ set_other (y ∷ all) zero zero x ne = absurd (ne refl)
 set_other (y ∷ all) zero (suc j) x ne = refl
 set_other (y ∷ all) (suc i) zero x ne = refl
 set_other (y ∷ all) (suc i) (suc j) x ne = set_other all i j x (λ e. ne (ap suc e))
+
+pub apart : (m n : ℕ) → (m == n) ≡ false → m ≢ n
+apart m n h same = elim (eqb_tells m n) [ inl x ↦ absurd (let e : true ≡ false = sym x.0 ∙ h in cc) | inr x ↦ x.1 same ]
