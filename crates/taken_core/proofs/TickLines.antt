@@ -13,21 +13,21 @@ use Rattle.taken_core.proofs.Places.{cuts}
 abbrev pub told_behind : List ℕ → List (List ℕ) → List ℕ
 told_behind words lines = if has_tick lines then last_tick lines else words
 
-pub behind_none : (lines : List (List ℕ)) → told_behind [] lines ≡ last_tick lines
-behind_none [] = refl
-behind_none (line ∷ lines) = elim (bool_cases (begins_with tick_word line || has_tick lines)) [
-  | inl some ↦ ap (λ b. cond b (last_tick (line ∷ lines)) []) some
-  | inr none ↦ ap (λ b. cond b (last_tick (line ∷ lines)) []) none ∙ sym (none_told line lines none)
-]
+or_none : (a b : Bool) → (a || b) ≡ false → (a ≡ false) × (b ≡ false)
+or_none true b is = absurd (cc is)
+or_none false b is = (refl, is)
 
 none_told : (line : List ℕ) (lines : List (List ℕ)) → (begins_with tick_word line || has_tick lines) ≡ false → last_tick (line ∷ lines) ≡ []
 none_told line lines none =
     let parts = or_none (begins_with tick_word line) (has_tick lines) none in
     ap (λ b. cond b (last_tick lines) (cond (begins_with tick_word line) (tick_words line) [])) parts.1 ∙ ap (λ b. cond b (tick_words line) []) parts.0
 
-or_none : (a b : Bool) → (a || b) ≡ false → (a ≡ false) × (b ≡ false)
-or_none true b is = absurd (cc is)
-or_none false b is = (refl, is)
+pub behind_none : (lines : List (List ℕ)) → told_behind [] lines ≡ last_tick lines
+behind_none [] = refl
+behind_none (line ∷ lines) = elim (bool_cases (begins_with tick_word line || has_tick lines)) [
+  | inl some ↦ ap (λ b. cond b (last_tick (line ∷ lines)) []) some
+  | inr none ↦ ap (λ b. cond b (last_tick (line ∷ lines)) []) none ∙ sym (none_told line lines none)
+]
 
 or_second : (a b : Bool) → b ≡ true → (a || b) ≡ true
 or_second true b is = refl
