@@ -63,8 +63,5 @@ line_none words rest none = ap (λ (l : List ℕ). told_behind words (cut l)) (w
 pub of_file : (file text : List ℕ) → text ≡ recovered file → last_tick (cut (whole text)) ≡ last_tick (cut (recovered file))
 of_file file text same = ap (λ (l : List ℕ). last_tick (cut l)) (ap whole same ∙ (recovered_lines file).ended)
 
-pub shorter : (rest line more : List ℕ) → CutFirst rest line more → length more < length rest
-shorter rest line more c = let some = c.some in omega (arith, some, ap length c.is)
-
 pub short_words : (line : List ℕ) → length line < 9 → [] ≡ tick_words line
-short_words line short = ap (λ (n : ℕ). take n line) (omega (arith, short))
+short_words line short = let none : 0 ≡ length line - 9 = omega (arith, short) in ap (λ (n : ℕ). take n line) none
