@@ -10,3 +10,4 @@ mod Counting
 mod StatusAdding
 mod Awaiting
 mod Growing
+mod Timing
