@@ -169,9 +169,10 @@ fn name_of(object: &Object, op: OpId) -> &[u8] {
 // The calls of an object that are made again and again go on behind those of which its journal tells.
 fn resume_ticks(holding: &mut Holding, hosted: &Hosted, time: StartTime<'_>) {
     for place in 0..holding.rules().everies.len() {
-        let op = holding.rules().everies[place].op;
-        let last = last_told(time.ticks, name_of(hosted.live().object(), op));
-        holding.resumed(place, time.now, last);
+        if let Some(tick) = holding.tick(place) {
+            let last = last_told(time.ticks, name_of(hosted.live().object(), tick.op));
+            holding.resumed(place, time.now, last);
+        }
     }
 }
 
