@@ -2,7 +2,7 @@
 
 usage: gate/public_calls                  looks whether gate/public_calls.txt fits the sources
        gate/public_calls --count [--list] counts: it builds a program that notes which of its functions run, and runs all
-                                          cases on it, some files at once, and gate/try_crash and gate/try_holds
+                                          cases on it, some files at once, and gate/try_holds
 
 gate/public_calls.txt lists each public function that no case runs, with what runs it in its place: a crate with tests
 that call it (`CRATE by NAME`: that call NAME, which does), a part of the gate, or `proof` where nothing runs it, since it
@@ -41,7 +41,7 @@ Looked = tuple[str, str | None]
 PROGRAM = "pathserve"
 TESTS = "_vectors"
 # Parts of the gate that count as cases: what they try no case can say.
-PARTS = ("try_crash", "try_holds")
+PARTS = ("try_holds",)
 # So many of them run at once: beside other parts of the gate, where it is that which runs them.
 LANES = max(2, len(os.sched_getaffinity(0)) // 2)
 # What tells of the enum of a fault or a refusal.

@@ -1,5 +1,5 @@
 -- Items of lists by their places.
-use Rattle.std.proofs.Common.{◌≡◌, ℕ, zero, suc, ◌<◌, ◌≤◌, List, [], ◌∷◌, length, map, take, get_or, Some, None, refl, sym, ap, subst, ◌∙◌, arith}
+use Rattle.std.proofs.Common.{◌≡◌, ℕ, zero, suc, ◌<◌, ◌≤◌, List, [], ◌∷◌, ◌++◌, length, length-append, map, take, get_or, Some, None, refl, sym, ap, subst, ◌∙◌, arith}
 use Rattle.std.specs.Prelude.{All, IfSome, Option, slice_get, slice_set}
 use Rattle.std.proofs.lemmas.Option.{slice_get-get_or, slice_get_read, slice_get_past}
 use Rattle.client_core.specs.declared.ticking.Ticking.{Ticking}
@@ -69,3 +69,7 @@ pub every_found : (found : Option Ticking) (ticking : List Ticking) (everies : L
     → IfSome found (λ t. (e : EveryForm) × (slice_get everies place ≡ Some e) × (t.op ≡ e.op))
 every_found None ticking everies place same is = tt
 every_found (Some t) ticking everies place same is = every_at ticking everies place t same (sym is)
+
+-- behind two words stands less
+pub behind_words : (text word more other rest : List ℕ) → text ≡ word ++ 32 ∷ more → more ≡ other ++ 32 ∷ rest → length rest < length text
+behind_words text word more other rest one two = omega (arith, ap length one, length-append word (32 ∷ more), ap length two, length-append other (32 ∷ rest))

@@ -86,7 +86,7 @@ filling path node [] = []
 filling path node (row ∷ rows) = (if row_fills path node row then calls_in row else []) ++ filling path node rows
 
 -- the newest 16 of calls, the newest first: the one of the greatest number
-pub record AreNewest (all newest : List LastCall) : Type 0 where
+pub record AreLatest (all newest : List LastCall) : Type 0 where
   pub sorted : List LastCall
   pub same : IsPermutation all sorted
   pub falling : IsNonDecreasingBy (λ (c : LastCall). 2 ^ 64 - 1 - c.number) sorted
@@ -94,7 +94,7 @@ pub record AreNewest (all newest : List LastCall) : Type 0 where
 
 -- what is told below the line of a node: where it is full, of what
 abbrev pub AreBelow : ObjectForm → List (List (Option LastCall)) → ℕ → ℕ → Lack → List LastCall → Type 0
-AreBelow o rows path node lacks.Full calls = AreNewest (filling (slice_get o.paths (path - 1)) node rows) calls
+AreBelow o rows path node lacks.Full calls = AreLatest (filling (slice_get o.paths (path - 1)) node rows) calls
 AreBelow o rows path node (lacks.Turn j) calls = calls ≡ []
 
 -- these are nodes, each with the calls that are told below it

@@ -1,6 +1,6 @@
 //! Calls that are made again and again.
 
-ghost use Rattle.std.specs.Prelude.{◌≡◌, ◌≤◌, ◌<◌, ℕ, All, MatchOption, OnOk, IfOk, Some, None, ◌++◌, ◌==◌, [], if◌then◌else◌, map, slice_get, slice_set, take};
+ghost use Rattle.std.specs.Prelude.{◌≡◌, ◌≤◌, ◌<◌, ℕ, All, MatchOption, OnOk, IfOk, IfSome, Some, None, ◌++◌, ◌==◌, [], if◌then◌else◌, length, map, slice_get, slice_set, take};
 ghost use Rattle.decl_core.specs.ObjectMap.{object_of};
 ghost use Rattle.decl_core.specs.HoldMap.{every_of, everies_of};
 ghost use Rattle.client_core.specs.declared.ticking.Ticking.{Ticking as ATicking};
@@ -257,16 +257,32 @@ pub(crate) fn tell_ticks(
     Ok(())
 }
 
+// The first word, what stands behind it, and what stands behind the word that comes then.
+#[tactic(auto, using(crate::proofs::Places::behind_words))]
+fn two_words(text: &[u8]) -> Option<(&[u8], &[u8], &[u8])>
+    ensures { IfSome result (λ parts. length parts.2.now < length text.now) }
+{
+    match split_space(text) {
+        Some((word, more)) => match split_space(more) {
+            Some((_, rest)) => Some((word, more, rest)),
+            None => None,
+        },
+        None => None,
+    }
+}
+
+// What stands behind the word of such words; none where they do not begin with it.
+fn rows_in(words: &[u8]) -> &[u8] {
+    match behind_word(TICK_WORD, words) {
+        Some(rest) => rest,
+        None => &[],
+    }
+}
+
 /// In which second since 1970 the operation of this name was called last, as such words tell; 0: they do not tell of it.
 pub fn last_told(words: &[u8], name: &[u8]) -> u64 {
-    let mut rest = match behind_word(TICK_WORD, words) {
-        Some(rest) => rest,
-        None => return 0,
-    };
-    while let Some((word, more)) = split_space(rest) {
-        let Some((_, next)) = split_space(more) else {
-            return 0;
-        };
+    let mut rest = rows_in(words);
+    while let Some((word, more, next)) = two_words(rest) {
         if word == name {
             return size_in(b"", more).unwrap_or(0);
         }

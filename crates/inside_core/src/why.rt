@@ -11,7 +11,7 @@ ghost use Rattle.stuck_core.specs.ReasonViews.{why_of, whys_of};
 ghost use Rattle.stuck_core.specs.Why.{name_word, needs_words, path_line, why_line};
 ghost use Rattle.stuck_core.specs.declared.reason.Lack.TheVariants as lacks;
 ghost use Rattle.client_core.specs.declared.last.LastCall.{LastCall};
-ghost use Rattle.client_core.specs.LastCalls.{AreBelow, AreNewest, calls_in, filling, fills, is_at, open_line, row_fills};
+ghost use Rattle.client_core.specs.LastCalls.{AreBelow, AreLatest, calls_in, filling, fills, is_at, open_line, row_fills};
 ghost use Rattle.inside_core.specs.LastRows.{AddsNodes, AddsWhole};
 ghost use Rattle.live_core.specs.Hall.{Every};
 ghost use Rattle.live_core.specs.Scene.{is_given, told_of};
@@ -207,7 +207,7 @@ fn copied(alloc: Global, calls: &[LastCall]) -> Result<Vec<LastCall>, AllocError
 
 // The newest 16 of calls.
 fn newest_of(alloc: Global, all: &mut [LastCall]) -> Result<Vec<LastCall>, AllocError>
-    ensures { IfOk result (λ calls. AreNewest all.old calls.items) }
+    ensures { IfOk result (λ calls. AreLatest all.old calls.items) }
 {
     sort(all);
     let first = newest(all);

@@ -166,10 +166,20 @@ fn name_of(object: &Object, op: OpId) -> &[u8] {
     }
 }
 
+// The operation that is called again and again at a place.
+fn called_at(rules: &Rules, place: usize) -> Option<OpId> {
+    match rules.everies.get(place) {
+        Some(every) => Some(every.op),
+        None => None,
+    }
+}
+
 // The calls of an object that are made again and again go on behind those of which its journal tells.
 fn resume_ticks(holding: &mut Holding, hosted: &Hosted, time: StartTime<'_>) {
     for place in 0..holding.rules().everies.len() {
-        let op = holding.rules().everies[place].op;
+        let Some(op) = called_at(holding.rules(), place) else {
+            return;
+        };
         let last = last_told(time.ticks, name_of(hosted.live().object(), op));
         holding.resumed(place, time.now, last);
     }

@@ -237,6 +237,26 @@ fn unopened<R: AllocGlobal + Eprint>(
     JournalsFault::Folder
 }
 
+// These words, where they are words of calls by the clock; else none.
+fn clock_words(words: &[u8]) -> &[u8]
+    ensures { AreTicks result.now }
+{
+    if are_ticks(words) {
+        return words;
+    }
+    &[]
+}
+
+// The words of calls by the clock at a place, or none.
+fn told_at(rows: &[Vec<u8>], at: usize) -> &[u8]
+    ensures { AreTicks result.now }
+{
+    match rows.get(at) {
+        Some(words) => clock_words(words.as_slice()),
+        None => &[],
+    }
+}
+
 // A journal that goes on in order; or why it failed, and its file.
 type OrFailed<T, R> = Result<T, (DeviceError, OwnFile<R>)>;
 
@@ -537,14 +557,6 @@ impl<R: Files + AllocGlobal + Eprint + Drop> Journals<R> {
         is_there
     }
 
-    // The words that a journal tells of calls by the clock; none where it tells of none.
-    fn ticks_at(&self, at: usize) -> &[u8] {
-        match self.ticks.get(at) {
-            Some(words) => words.as_slice(),
-            None => &[],
-        }
-    }
-
     // A journal tells these words of calls by the clock from now on.
     fn note_ticks(&mut self, at: usize, words: Vec<u8>) {
         if let Some(row) = self.ticks.get_mut(at) {
@@ -556,7 +568,7 @@ impl<R: Files + AllocGlobal + Eprint + Drop> Journals<R> {
     /// the next epoch. `false`: they are no such words, or it failed; it is shut then. Standard error is told with which file,
     /// and why, but where memory was refused.
     pub fn tell_ticks(&mut self, at: usize, words: &[u8]) -> bool {
-        if self.ticks_at(at) == words {
+        if told_at(&self.ticks, at) == words {
             return true;
         }
         if !is_tick(words) {
@@ -609,13 +621,7 @@ impl<R: Files + AllocGlobal + Eprint + Drop> Journals<R> {
             self.kept(at, tries);
             return Some(false);
         }
-        let came = match self.ticks.get(at) {
-            Some(words) if are_ticks(words) => {
-                ordered.change(self.alloc, front, words, self.room)
-            }
-            _ => ordered.change(self.alloc, front, &[], self.room),
-        };
-        match came {
+        match ordered.change(self.alloc, front, told_at(&self.ticks, at), self.room) {
             Ok((ordered, went)) => {
                 let _put = self.put(at, Ok(ordered));
                 if !went {

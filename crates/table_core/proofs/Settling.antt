@@ -249,6 +249,9 @@ unheld_told a b old new place brings = brings_as (OnlyTold place not_held_text) 
 pub unheld_refused : (a b : Post) (old new : State) (place : ℕ) → Brings (IsRefused place) a old b new → Brings (TellsUnheld place) a old b new
 unheld_refused a b old new place brings = brings_as (IsRefused place) (TellsUnheld place) a b old new (λ said added is. inr is) brings
 
+pub unheld_told : (a b : Post) (old new : State) (place : ℕ) → Brings (OnlyTold place not_held_text) a old b new → Brings (TellsUnheld place) a old b new
+unheld_told a b old new place brings = brings_as (OnlyTold place not_held_text) (TellsUnheld place) a b old new (λ said added is. inl is) brings
+
 -- whether a session may make a call
 pub may_ask : (s : State) (opened : OpenObject) (operation : Option ℕ) (o : ℕ) (arguments : List Datum) → operation ≡ Some o →
     MayMake (slice_get s.custody opened.object) opened.session o arguments → MayAsk s opened operation arguments

@@ -249,11 +249,13 @@ tick_length : (words : List ℕ) (crc : ℕ) → length (tick_line words crc) �
 unfolding tick_line
 tick_length words crc = length-append words (hex_digits 8 crc ++ 10 ∷ [])
 
+tick_size : (line words : List ℕ) (crc : ℕ) → line ≡ tick_line words crc → length words ≡ length line - 9
+tick_size line words crc is = omega (arith, ap length is, tick_length words crc)
+
 tick_words_are : (line words : List ℕ) (crc : ℕ) → line ≡ tick_line words crc → take (length line - 9) line ≡ words
 unfolding tick_line
 tick_words_are line words crc is =
-    let size : length line - 9 ≡ length words = omega (arith, ap length is, length-append words (hex_digits 8 crc ++ 10 ∷ [])) in
-    ap (λ (l : List ℕ). take (length line - 9) l) is ∙ take_at words (hex_digits 8 crc ++ 10 ∷ []) (length line - 9) (sym size)
+    ap (λ (l : List ℕ). take (length line - 9) l) is ∙ take_at words (hex_digits 8 crc ++ 10 ∷ []) (length line - 9) (tick_size line words crc is)
 
 pub tick_not_fronted : (done : List (List ℕ)) (line : List ℕ) (old : Checked) → Follows done old → old.has_front ≡ false → IsTickRight done line → ⊥
 tick_not_fronted done line old f off r = let one = f.front in let two = r.fronted in absurd (cc (one, two, off))

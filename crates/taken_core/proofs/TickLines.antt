@@ -13,21 +13,21 @@ use Rattle.taken_core.proofs.Places.{cuts}
 abbrev pub told_behind : List ℕ → List (List ℕ) → List ℕ
 told_behind words lines = if has_tick lines then last_tick lines else words
 
-pub behind_none : (lines : List (List ℕ)) → told_behind [] lines ≡ last_tick lines
-behind_none [] = refl
-behind_none (line ∷ lines) = elim (bool_cases (begins_with tick_word line || has_tick lines)) [
-  | inl some ↦ ap (λ b. cond b (last_tick (line ∷ lines)) []) some
-  | inr none ↦ ap (λ b. cond b (last_tick (line ∷ lines)) []) none ∙ sym (none_told line lines none)
-]
+or_none : (a b : Bool) → (a || b) ≡ false → (a ≡ false) × (b ≡ false)
+or_none true b is = absurd (cc is)
+or_none false b is = (refl, is)
 
 none_told : (line : List ℕ) (lines : List (List ℕ)) → (begins_with tick_word line || has_tick lines) ≡ false → last_tick (line ∷ lines) ≡ []
 none_told line lines none =
     let parts = or_none (begins_with tick_word line) (has_tick lines) none in
     ap (λ b. cond b (last_tick lines) (cond (begins_with tick_word line) (tick_words line) [])) parts.1 ∙ ap (λ b. cond b (tick_words line) []) parts.0
 
-or_none : (a b : Bool) → (a || b) ≡ false → (a ≡ false) × (b ≡ false)
-or_none true b is = absurd (cc is)
-or_none false b is = (refl, is)
+pub behind_none : (lines : List (List ℕ)) → told_behind [] lines ≡ last_tick lines
+behind_none [] = refl
+behind_none (line ∷ lines) = elim (bool_cases (begins_with tick_word line || has_tick lines)) [
+  | inl some ↦ ap (λ b. cond b (last_tick (line ∷ lines)) []) some
+  | inr none ↦ ap (λ b. cond b (last_tick (line ∷ lines)) []) none ∙ sym (none_told line lines none)
+]
 
 or_second : (a b : Bool) → b ≡ true → (a || b) ≡ true
 or_second true b is = refl
@@ -63,8 +63,5 @@ line_none words rest none = ap (λ (l : List ℕ). told_behind words (cut l)) (w
 pub of_file : (file text : List ℕ) → text ≡ recovered file → last_tick (cut (whole text)) ≡ last_tick (cut (recovered file))
 of_file file text same = ap (λ (l : List ℕ). last_tick (cut l)) (ap whole same ∙ (recovered_lines file).ended)
 
-pub shorter : (rest line more : List ℕ) → CutFirst rest line more → length more < length rest
-shorter rest line more c = let some = c.some in omega (arith, some, ap length c.is)
-
 pub short_words : (line : List ℕ) → length line < 9 → [] ≡ tick_words line
-short_words line short = ap (λ (n : ℕ). take n line) (omega (arith, short))
+short_words line short = let none : 0 ≡ length line - 9 = omega (arith, short) in ap (λ (n : ℕ). take n line) none

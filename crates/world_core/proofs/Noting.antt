@@ -7,7 +7,7 @@ use Rattle.board_core.specs.declared.event.TraceEvent.{TraceEvent}
 use Rattle.page_core.specs.ObjectCalls.{AcceptedCall}
 use Rattle.guest_core.specs.Held.{HeldCall}
 use Rattle.guest_core.proofs.Ending.{take_whole}
-use Rattle.world_core.specs.HoldDoes.{AreNoted, IsNoted, none_yet, one_more}
+use Rattle.world_core.specs.HoldDoes.{AreEventsNoted, IsNoted, none_yet, one_more}
 
 -- so many events from a place on
 abbrev pub from_to : ℕ → ℕ → List TraceEvent → List TraceEvent
@@ -19,26 +19,26 @@ drop_at [] (suc n) j k x same is = absurd cc
 drop_at (y ∷ xs) (suc n) j zero x same is = absurd (omega (arith, same))
 drop_at (y ∷ xs) (suc n) j (suc k) x same is = drop_at xs n j k x (omega (arith, same)) is
 
-pub noted_none : (holds : List HoldForm) (calls : List AcceptedCall) (trace : List TraceEvent) (from place : ℕ) (held : List HeldCall) → place ≡ from → AreNoted holds calls held (from_to from place trace) held
+pub noted_none : (holds : List HoldForm) (calls : List AcceptedCall) (trace : List TraceEvent) (from place : ℕ) (held : List HeldCall) → place ≡ from → AreEventsNoted holds calls held (from_to from place trace) held
 noted_none holds calls trace from place held same =
     let none : place - from ≡ 0 = omega (arith, same) in
-    subst (λ n. AreNoted holds calls held (take n (drop from trace)) held) (sym none) none_yet
+    subst (λ n. AreEventsNoted holds calls held (take n (drop from trace)) held) (sym none) none_yet
 
 pub noted_more : (holds : List HoldForm) (calls : List AcceptedCall) (trace : List TraceEvent) (from place : ℕ) (event : TraceEvent) (old mid new : List HeldCall) → from ≤ place → slice_get trace place ≡ Some event
-    → AreNoted holds calls old (from_to from place trace) mid → IsNoted holds calls event mid new → AreNoted holds calls old (from_to from (place + 1) trace) new
+    → AreEventsNoted holds calls old (from_to from place trace) mid → IsNoted holds calls event mid new → AreEventsNoted holds calls old (from_to from (place + 1) trace) new
 noted_more holds calls trace from place event old mid new within there before one =
     let less : place + 1 - from ≡ (place - from) + 1 = omega (arith, within) in
     let next = list_next (drop from trace) (place - from) event (drop_at trace from (place - from) place event (omega (arith, within)) there) in
-    subst (λ n. AreNoted holds calls old (take n (drop from trace)) new) (sym less) (subst (λ es. AreNoted holds calls old es new) next (one_more event before one))
+    subst (λ n. AreEventsNoted holds calls old (take n (drop from trace)) new) (sym less) (subst (λ es. AreEventsNoted holds calls old es new) next (one_more event before one))
 
 length_drop : {X : Type 0} (xs : List X) (n : ℕ) → length (drop n xs) ≡ length xs - n
 length_drop xs zero = omega arith
 length_drop [] (suc n) = omega arith
 length_drop (x ∷ xs) (suc n) = omega (arith, length_drop xs n)
 
-pub noted_all : (holds : List HoldForm) (calls : List AcceptedCall) (trace : List TraceEvent) (from place : ℕ) (old new : List HeldCall) → length trace ≤ place → AreNoted holds calls old (from_to from place trace) new → AreNoted holds calls old (drop from trace) new
+pub noted_all : (holds : List HoldForm) (calls : List AcceptedCall) (trace : List TraceEvent) (from place : ℕ) (old new : List HeldCall) → length trace ≤ place → AreEventsNoted holds calls old (from_to from place trace) new → AreEventsNoted holds calls old (drop from trace) new
 noted_all holds calls trace from place old new whole all =
-    subst (λ es. AreNoted holds calls old es new) (take_whole (drop from trace) (place - from) (omega (arith, whole, length_drop trace from))) all
+    subst (λ es. AreEventsNoted holds calls old es new) (take_whole (drop from trace) (place - from) (omega (arith, whole, length_drop trace from))) all
 
 -- at a place of a list something stands
 pub none_there : {X : Type 0} (xs : List X) (k : ℕ) → k < length xs → slice_get xs k ≡ None → ⊥

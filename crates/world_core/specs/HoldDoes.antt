@@ -101,12 +101,12 @@ IsNoted holds calls (End n reply) old new =
     × (new ≡ left ++ begun holds (called_of n (call_at calls n)) reply)
 
 -- what is held after these events, one after the other
-pub data AreNoted (holds : List HoldForm) (calls : List AcceptedCall) (old : List HeldCall) :
+pub data AreEventsNoted (holds : List HoldForm) (calls : List AcceptedCall) (old : List HeldCall) :
     List TraceEvent → List HeldCall → Type 0 where
-  none_yet : AreNoted holds calls old [] old
+  none_yet : AreEventsNoted holds calls old [] old
   one_more : {events : List TraceEvent} {mid new : List HeldCall} (event : TraceEvent) →
-      AreNoted holds calls old events mid → IsNoted holds calls event mid new →
-      AreNoted holds calls old (events ++ event ∷ []) new
+      AreEventsNoted holds calls old events mid → IsNoted holds calls event mid new →
+      AreEventsNoted holds calls old (events ++ event ∷ []) new
 
 -- a call in the name of a session is tried: it is told where it is made, as a line `call sK` would be
 pub record Tries (session : ℕ) (name : List ℕ) (arguments : List Datum) (old : Scene) (text : List ℕ) (new : Scene) :
@@ -142,7 +142,7 @@ pub record HeldDoes (holds : List HoldForm) (said : Said) (old : Ward) (text : L
   pub mid : Scene
   pub first : List ℕ
   pub acts : Acts holds old said first mid new.gone
-  pub held : AreNoted holds mid.board.calls old.held (drop (length old.world.board.trace) mid.board.trace) new.held
+  pub held : AreEventsNoted holds mid.board.calls old.held (drop (length old.world.board.trace) mid.board.trace) new.held
   pub more : List ℕ
   pub back : GiveBack holds new.held mid new.gone more new.world
   pub text_is : text ≡ first ++ more

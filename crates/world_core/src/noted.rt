@@ -7,7 +7,7 @@ ghost use Rattle.desk_core.specs.Told.{called_of};
 ghost use Rattle.guest_core.specs.declared.hold_ends.HoldEnds.TheVariants.{ByDone as DoneAlone};
 ghost use Rattle.guest_core.specs.Held.{HeldCall, Gives, begun};
 ghost use Rattle.decl_core.specs.HoldMap.{holds_of};
-ghost use Rattle.world_core.specs.HoldDoes.{AreNoted, IsNoted};
+ghost use Rattle.world_core.specs.HoldDoes.{AreEventsNoted, IsNoted};
 
 use crate::world::World;
 use apply_core::reply::Reply;
@@ -84,7 +84,7 @@ pub fn catch_up(
     from: usize,
     holds: &mut Holds,
 ) -> Result<(), AllocError>
-    ensures { OnOk result (AreNoted (holds_of rules.now) world.now.board.calls holds.old
+    ensures { OnOk result (AreEventsNoted (holds_of rules.now) world.now.board.calls holds.old
         (drop from world.now.board.trace) holds.new) }
 {
     let desk = world.desk();
