@@ -2,7 +2,7 @@
 use Rattle.std.proofs.Common.{◌≡◌, ℕ, zero, suc, ◌+◌, ◌<◌, ◌≤◌, ◌≢◌, List, [], ◌∷◌, ◌++◌, length, map, take, drop, get_or, refl, sym, ap, subst, ◌∙◌, arith, true, false, inl, inr}
 use Rattle.std.proofs.lemmas.Bool.Decides.{eqb_tells}
 use Rattle.std.proofs.lemmas.List.{append-nil, take_all, drop_all}
-use Rattle.std.specs.Prelude.{Option, Some, slice_get, slice_set, ◌==◌}
+use Rattle.std.specs.Prelude.{Some, slice_get, slice_set, ◌==◌}
 use lib.ListN.{set}
 
 step : {X : Type 0} (f : X → X) (k : ℕ) (old : List X) (r : X) → k < length old → r ≡ get_or (map f (take k old) ++ drop k old) k r →
