@@ -148,8 +148,9 @@ pub fn push_calls(done: &mut Vec<PastEvent>, op: OpId, times: u32) -> Result<(),
 }
 
 /// An object with these values in its parts, of which all this was done before they were made, and so many names before
-/// a new one takes the place of another, which is away for `least` seconds at least. The errors are `NoPast`, where its paths do not let that happen or leave a call
-/// of it running, it has more than 65,536 calls, or a value is not of its part's kind; and `Memory`.
+/// a new one takes the place of another, which is away for `least` seconds at least. The errors are `NoPast`, where its
+/// paths do not let that happen or leave a call of it running, it has more than 65,536 calls, or a value is not of its
+/// part's kind; and `Memory`.
 pub fn begin_first(
     alloc: Global,
     object: Object,
