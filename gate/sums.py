@@ -1,9 +1,8 @@
 """The check lines of an epoch of a kept object, as docs/FORMATS.md has them: they are made here, and looked at.
 
 `front N C` ends a front: N bytes stand before it. `stored B C` ends a round: B bytes of the file were synced when it was
-written. C is the CRC-32C of the front, or of the lines behind the check line before, in 8 digits of hexadecimal. `tick OP T .. C`
-tells when calls were made last by the clock: C is that of the lines behind the check line before, and of its own words. An
-epoch whose first line has no format has none.
+written. C is the CRC-32C of the front, or of the lines behind the check line before, in 8 digits of hexadecimal. An epoch
+whose first line has no format has none.
 """
 import re
 from collections.abc import Iterable, Iterator
@@ -13,7 +12,6 @@ from tools.traced import format_of, is_check
 
 POLYNOMIAL, ONES = 0x82F63B78, 0xFFFFFFFF
 LINE = re.compile(rb"(front|stored) (0|[1-9][0-9]*) ([0-9a-f]{8})")
-TICK = re.compile(rb"(tick (?:[a-z][a-z0-9_]* [1-9][0-9]* )+)([0-9a-f]{8})")
 
 
 def row_of(byte: int) -> int:
@@ -43,11 +41,6 @@ def stored_line(synced: int, lines: bytes) -> bytes:
     return b"stored %d %08x\n" % (synced, crc32c(lines))
 
 
-def tick_line(words: bytes, lines: bytes) -> bytes:
-    """The line with these words that tells of calls by the clock behind these lines."""
-    return words + b"%08x\n" % crc32c(lines + words)
-
-
 def epoch(front: bytes, *rounds: bytes) -> bytes:
     """An epoch with its check lines, of which each round was synced before the next one."""
     text = front + front_line(front)
@@ -63,8 +56,7 @@ def summed(text: bytes) -> bytes:
         if is_check(line) and format_of(text):
             # (what a `stored` line says of syncs stays)
             found, lines = re.match(rb"stored ([0-9]+) ", line), made[begun:]
-            tick = re.match(rb"(tick .* )[^ ]*\n", line)
-            line = tick_line(tick[1], lines) if tick else stored_line(int(found[1]), lines) if found else front_line(made)
+            line = stored_line(int(found[1]), lines) if found else front_line(made)
             begun = len(made) + len(line)
         made += line
     return made
@@ -91,23 +83,15 @@ class Sums:
         """Whether a line, without its LF, is a check line. One that is wrong is told."""
         if not self.size:
             self.has_format = bool(format_of(line))
-        found = (LINE.fullmatch(line) or TICK.fullmatch(line)) if self.has_format else None
+        found = LINE.fullmatch(line) if self.has_format else None
         if self.has_format and is_check(line):
             if not found:
                 raise Wrong(f"{line!r} is no check line")
-            if line.startswith(b"tick "):
-                self.look_at_tick(found[1], int(found[2], 16))
-            else:
-                self.look(found[1] == b"front", int(found[2]), int(found[3], 16))
+            self.look(found[1] == b"front", int(found[2]), int(found[3], 16))
         else:
             self.sum = crc32c(line + b"\n", self.sum)
         self.size += len(line) + 1
         return bool(found)
-
-    def look_at_tick(self, words: bytes, said: int) -> None:
-        check(self.has_front, True, "whether the front has ended before a tick")
-        check(said, crc32c(words, self.sum), "the CRC-32C of a tick")
-        self.sum = 0
 
     def look(self, is_front: bool, number: int, said: int) -> None:
         check(is_front, not self.has_front, "whether it is the end of the front")

@@ -116,7 +116,7 @@ def mounted(size: str = "64m") -> Iterator[tuple[Server, Mounted]]:
 
 def plain(server: Server, name: str) -> int:
     """How many bytes the lines of a journal have, without those by which it checks itself."""
-    return sum(len(it) for it in server.lines(name).splitlines(keepends=True) if not it.startswith((b"front ", b"stored ", b"tick ")))
+    return sum(len(it) for it in server.lines(name).splitlines(keepends=True) if not it.startswith((b"front ", b"stored ")))
 
 
 def is_ready(server: Server, name: str) -> bool:

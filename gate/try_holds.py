@@ -17,7 +17,6 @@ from gate import kept
 from gate.crowd import Crew
 from gate.cutter import Cutter
 from gate.kept import Server
-from gate.sums import crc32c
 from gate.talk import Talk
 from gate.tried import TOP, Wrong, check, holds, until
 
@@ -268,7 +267,7 @@ def a_journal_of_before_is_read_as_it_was_written(folder: pathlib.Path, seconds:
     journal = server.folder / "stuck.journal"
     lines = journal.read_bytes().rstrip(b"\0").splitlines(keepends=True)
     check(lines[0], b"object stuck format 2 epoch 1\n", "line 1")
-    plain = [it for it in lines[1:] if not it.startswith((b"front ", b"stored ", b"tick "))]
+    plain = [it for it in lines[1:] if not it.startswith((b"front ", b"stored "))]
     journal.write_bytes(b"".join([b"object stuck epoch 1\n", *plain]))
     server.start()
     with Talk(server, "open stuck as ann", "opened stuck next 5") as ann:
@@ -450,42 +449,6 @@ def the_clock_goes_by_itself(folder: pathlib.Path, seconds: float) -> None:
     server.revive()
     until(lambda: number(server, "clock", "now") > found, "no tick behind a crash", 10)
     server.ends("clock")
-
-
-def a_crash_makes_no_more_calls_by_the_clock(folder: pathlib.Path, seconds: float) -> None:
-    """The time of the last one stands in the journal, also in the front of the next epoch: the next one comes behind it."""
-    server = Server(folder, CLOCK.replace("every 1", "every 5")).start()
-    until(lambda: number(server, "clock", "now") == 1, "no tick at the first start", 10)
-
-    def last() -> int:
-        found = re.findall(rb"^tick tick ([0-9]+) [0-9a-f]{8}$", server.lines("clock"), re.M)
-        return int(found[-1]) if found else 0
-    until(lambda: last() > 0, "the journal tells of no tick", 10)
-    first = last()
-    holds(abs(time.time() - first) < 5, f"the tick was in second {first}, it is {time.time()}")
-    for _ in range(3):
-        server.revive()
-        found = number(server, "clock", "now")
-        if time.time() < first + 5:
-            check((found, last()), (1, first), "the ticks, and the last one of which the journal tells")
-    until(lambda: number(server, "clock", "now") == 2, "no second tick", 15)
-    holds(time.time() >= first + 5, f"the second tick came {time.time() - first} seconds behind the first")
-    server.end()
-    holds(last() >= first + 5, "the journal tells of no second tick")
-    server.start()
-    check(number(server, "clock", "now"), 2)
-    server.ends("clock")
-    # Where the clock was put back it comes at most so many seconds behind the start.
-    journal = server.folder / "clock.journal"
-    text = journal.read_bytes()
-    lines = text[: text.index(b"\0")]
-    begun = lines.index(b"tick ")
-    words = b"tick tick %d " % (int(time.time()) + 1000)
-    changed = lines[:begun] + words + b"%08x\n" % crc32c(words)
-    journal.write_bytes(changed + bytes(len(text) - len(changed)))
-    server.start()
-    until(lambda: number(server, "clock", "now") >= 3, "no tick behind a clock that was put back", 15)
-    server.kill()
 
 
 def a_lease_and_a_reservation_end_by_their_time(folder: pathlib.Path, seconds: float) -> None:
@@ -765,7 +728,7 @@ TRIALS = [
     a_journal_of_before_is_read_as_it_was_written, a_seat_that_is_paid_stays, who_tells_what_is_held, who_tells_for_how_long,
     who_tells_256_of_what_is_held,
     a_named_call_that_waits_is_asked_again_behind_an_end, a_call_may_be_made_while_all_end,
-    the_clock_goes_by_itself, a_crash_makes_no_more_calls_by_the_clock, a_lease_and_a_reservation_end_by_their_time,
+    the_clock_goes_by_itself, a_lease_and_a_reservation_end_by_their_time,
     a_crash_takes_nothing_and_gives_nothing_twice, what_is_held_goes_over_epochs,
     a_file_without_holds_waits_until_nothing_is_held, an_object_without_holds_has_the_journal_that_it_had,
     connections_are_cut_at_each_byte, clients_die_and_the_server_is_killed,

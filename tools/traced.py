@@ -51,8 +51,8 @@ def format_of(text: bytes) -> int | None:
 
 
 def is_check(line: bytes) -> bool:
-    """Whether a line of an epoch with a format checks others, or tells of calls by the clock, and is none of the object."""
-    return line.startswith((b"front ", b"stored ", b"tick "))
+    """Whether a line of an epoch with a format checks others, and says nothing itself."""
+    return line.startswith((b"front ", b"stored "))
 
 
 @dataclasses.dataclass(slots=True, eq=False)

@@ -12,7 +12,7 @@ use Rattle.client_core.specs.declared.ticking.Ticking.{Ticking}
 use Rattle.client_core.specs.GoneClients.{Each, due_then, later, without}
 use Rattle.client_core.specs.declared.holding.OwedCall.{OwedCall}
 use Rattle.client_core.specs.Holding.{Holding, Ends, IsBusy, IsCrowded, IsDueOf, LooksAt, NothingIsDueOf, with_gone, with_ticking}
-use Rattle.client_core.specs.Ticks.{ChangesAt, IsFirstDue, seated_by, skipped, ticked, unticked}
+use Rattle.client_core.specs.Ticks.{ChangesAt, IsFirstDue, seated_by, ticked, unticked}
 use Rattle.client_core.specs.declared.all.DueCall.{DueCall}
 use Rattle.client_core.specs.declared.all.DueCall.TheVariants.{Gone, Tick}
 use Rattle.client_core.specs.declared.one.HoldNote.{HoldNote}
@@ -70,8 +70,6 @@ Notes (notes.Seated place session) old new =
     (new ≡ with_ticking old new.ticking) × ChangesAt place (seated_by session) old.ticking new.ticking
 Notes (notes.Ticked place second) old new =
     (new ≡ with_ticking old new.ticking) × ChangesAt place (ticked second) old.ticking new.ticking
-Notes (notes.Skipped place second) old new =
-    (new ≡ with_ticking old new.ticking) × ChangesAt place (skipped second) old.ticking new.ticking
 Notes (notes.Unticked place second) old new =
     (new ≡ with_ticking old new.ticking) × ChangesAt place (unticked second) old.ticking new.ticking
 

@@ -226,24 +226,6 @@ impl AllHeld {
         }
     }
 
-    /// Puts words that tell when calls of the object at a place that are made again and again were made last in place of what is
-    /// in `words`: none where none was made. The error is that memory was refused.
-    pub fn tell_ticks(
-        &self,
-        at: usize,
-        objects: &[Hosted],
-        words: &mut Vec<u8>,
-    ) -> Result<(), AllocError> {
-        words.clear();
-        match self.at(at) {
-            None => Ok(()),
-            Some(holding) => match objects.get(at) {
-                None => Ok(()),
-                Some(object) => holding.tell_ticks(object.live().object(), words),
-            },
-        }
-    }
-
     /// The first that is due in this second: of the objects in their order, for sessions that are gone before what is made
     /// again and again.
     pub fn first_due(&self, second: u64) -> Option<DueCall>

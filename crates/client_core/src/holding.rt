@@ -19,7 +19,7 @@ ghost use Rattle.client_core.specs.GoneClients.{Each, due_then, later, without};
 ghost use Rattle.client_core.specs.Holding.{Ends, Goes, HoldsNone, HoldsSome, IsBusy, IsCrowded, IsDueOf, LooksAt};
 ghost use Rattle.client_core.specs.Holding.{NothingIsDueOf, begun_with, told_as, with_gone, with_ticking};
 ghost use Rattle.client_core.specs.Start.{Begins, IsKept};
-ghost use Rattle.client_core.specs.Ticks.{ChangesAt, IsFirstDue, resumes_at, seated_by, skipped as skipped_in, ticked as ticked_in, told_ticks, unticked as unticked_in};
+ghost use Rattle.client_core.specs.Ticks.{ChangesAt, IsFirstDue, seated_by, ticked as ticked_in, unticked as unticked_in};
 
 use crate::away::{is_busy_by, is_crowded_by, look_at_all};
 use crate::holder::{
@@ -27,10 +27,7 @@ use crate::holder::{
 };
 use crate::since::{HeldSince, all_since, note_end};
 use crate::start::{go_all, seat_all, seat_of};
-use crate::ticking::{
-    Ticking, first_due, first_ticks, resume_at, seat_at, skip_at, tell_ticks, tick_at, tick_in,
-    untick_at,
-};
+use crate::ticking::{Ticking, first_due, first_ticks, seat_at, tick_at, tick_in, untick_at};
 use apply_core::reply::Reply;
 use decl_core::hold::{Hold, Rules};
 use decl_core::object::Object;
@@ -361,32 +358,7 @@ impl Holding {
         seat_at(&mut self.ticking, place, session);
     }
 
-    /// The call at a place that is made again and again was made in second `last` since 1970 last, and the server starts in
-    /// second `now`; 0: it was not made yet.
-    pub fn resumed(&mut self, place: usize, now: u64, last: u64)
-        ensures left { self.new ≡ with_ticking self.old self.new.ticking }
-        ensures changes { ChangesAt place (resumes_at now last) self.old.ticking self.new.ticking }
-    {
-        resume_at(&mut self.ticking, place, now, last);
-    }
-
-    /// Puts words that tell when calls that are made again and again were made last in place of what is in `words`: none where
-    /// none was made. The error is that memory was refused.
-    pub fn tell_ticks(&self, object: &Object, words: &mut Vec<u8>) -> Result<(), AllocError>
-        ensures { OnOk result (words.new.items ≡ told_ticks (object_of object.now) self.now.ticking) }
-    {
-        tell_ticks(words, object, &self.ticking)
-    }
-
-    /// The call at a place that is made again and again was not made in this second: the one before it still waited.
-    pub fn skipped(&mut self, place: usize, second: u64)
-        ensures left { self.new ≡ with_ticking self.old self.new.ticking }
-        ensures changes { ChangesAt place (skipped_in second) self.old.ticking self.new.ticking }
-    {
-        skip_at(&mut self.ticking, place, second);
-    }
-
-    /// The call at a place that is made again and again was made in this second.
+    /// The call at a place that is made again and again was made in this second, or still waits.
     pub fn ticked(&mut self, place: usize, second: u64)
         ensures left { self.new ≡ with_ticking self.old self.new.ticking }
         ensures changes { ChangesAt place (ticked_in second) self.old.ticking self.new.ticking }

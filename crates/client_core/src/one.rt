@@ -25,10 +25,8 @@ pub enum HoldNote {
     Frees(u16),
     /// The call at a place is made by this session.
     Seated(usize, u16),
-    /// It was made in this second.
+    /// It was made in this second, or still waits.
     Ticked(usize, u64),
-    /// It was not made in this second: the one before it still waited.
-    Skipped(usize, u64),
     /// It was refused in this second.
     Unticked(usize, u64),
 }
@@ -44,7 +42,6 @@ pub(crate) fn note_one(holding: &mut Holding, note: HoldNote)
         HoldNote::Frees(session) => holding.frees(session),
         HoldNote::Seated(place, session) => holding.seated(place, session),
         HoldNote::Ticked(place, second) => holding.ticked(place, second),
-        HoldNote::Skipped(place, second) => holding.skipped(place, second),
         HoldNote::Unticked(place, second) => holding.unticked(place, second),
     }
 }

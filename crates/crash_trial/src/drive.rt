@@ -108,7 +108,7 @@ fn renew<D: Device>(
     if !is_front(front) {
         return Err(ScenarioStop::Journal);
     }
-    match journal.change(alloc, front, &[], ROOM) {
+    match journal.change(alloc, front, ROOM) {
         Ok(went) => Ok(went),
         Err(_) => Err(ScenarioStop::Journal),
     }
@@ -206,7 +206,7 @@ impl Drive {
         if !is_front(&front) {
             return Ok(None);
         }
-        match Journal::begin(self.alloc, file, &front, &[], ROOM) {
+        match Journal::begin(self.alloc, file, &front, ROOM) {
             Ok(journal) => Ok(Some(journal)),
             Err(_) => Ok(None),
         }

@@ -50,7 +50,7 @@ fn makes_steps(alloc: Global) -> Result<bool, DeviceError> {
         return Ok(false);
     }
     let file = Memory::new(alloc, Vec::new(alloc));
-    let Ok(mut journal) = Journal::begin(alloc, file, b"object a epoch 1\n", &[], 4) else {
+    let Ok(mut journal) = Journal::begin(alloc, file, b"object a epoch 1\n", 4) else {
         return Ok(false);
     };
     journal.run(&steps)?;
@@ -66,7 +66,7 @@ fn makes_rounds(alloc: Global) -> bool {
         return false;
     }
     let file = Memory::new(alloc, Vec::new(alloc));
-    let Ok(mut journal) = Journal::begin(alloc, file, b"object a epoch 1\n", &[], 4) else {
+    let Ok(mut journal) = Journal::begin(alloc, file, b"object a epoch 1\n", 4) else {
         return false;
     };
     let mut answers = Vec::new(alloc);
@@ -76,7 +76,7 @@ fn makes_rounds(alloc: Global) -> bool {
     let Err(RoundFault::NotWritten) = journal.round(&mut Deaf, b"c\n", b"done\n") else {
         return false;
     };
-    let Ok(true) = journal.change(alloc, b"object d epoch 2\n", &[], 1) else {
+    let Ok(true) = journal.change(alloc, b"object d epoch 2\n", 1) else {
         return false;
     };
     let Err(RoundFault::NotStored) = journal.round(&mut answers, b"e\n", b"done\n") else {

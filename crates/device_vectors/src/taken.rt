@@ -5,7 +5,6 @@ use keep_loop::crc::{CRC_START, CrcTable, crc_end};
 use std::alloc::{AllocError, Global};
 use std::process::Abort;
 use taken_core::taken::{TakeFault, line_in_file, take_file};
-use taken_core::ticks::last_ticks;
 
 // What is answered of a file.
 #[derive(Clone, Copy)]
@@ -18,7 +17,7 @@ enum WantedTaking {
 
 use WantedTaking::{Taken, Wrong};
 
-const FILES: [(Bytes, WantedTaking); 22] = [
+const FILES: [(Bytes, WantedTaking); 19] = [
     // As it was written.
     (
         b"object a format 2 epoch 1\npart v 00\nfront 36 bcf7d17e\nstart 1\nstored 54 3afbfc3b\nend 1\nstored 81 260dfb45\n\0\0",
@@ -92,21 +91,6 @@ const FILES: [(Bytes, WantedTaking); 22] = [
         b"object a format 2 epoch 1\npart v 00\nfront 36 bcf7d17e\n\0tart 1\nstored 54 3afbfc3b\nend 1\nstored 81 260dfb45\n\0",
         Wrong(TakeFault::Behind(3, 51)),
     ),
-    // Calls by the clock.
-    (
-        b"object a format 2 epoch 1\npart v 00\nfront 36 bcf7d17e\ntick t 1700000000 39e6e29d\nstart 1\ntick t 1700000060 u 1700000001 96f3817e\nend 1\nstored 54 260dfb45\n",
-        Taken(b"object a epoch 1\npart v 00\nstart 1\nend 1\n"),
-    ),
-    // The time of one was changed.
-    (
-        b"object a format 2 epoch 1\npart v 00\nfront 36 bcf7d17e\ntick t 1700000000 39e6e29d\nstart 1\ntick t 1700000061 u 1700000001 96f3817e\nend 1\nstored 54 260dfb45\n",
-        Wrong(TakeFault::Line(6)),
-    ),
-    // One before the front ends.
-    (
-        b"object a format 2 epoch 1\npart v 00\ntick t 1700000000 39e6e29d\n",
-        Wrong(TakeFault::Line(3)),
-    ),
 ];
 
 // Whether a file is answered so.
@@ -168,13 +152,4 @@ fn crcs(rt: HostRuntime) {
     assert!(rt; crc_of(alloc, &[255; 32]) == Ok(0x62a8_ab43));
     assert!(rt; crc_of(alloc, &up) == Ok(0x46dd_794e));
     assert!(rt; crc_of(alloc, &down) == Ok(0x113f_db5c));
-}
-
-// The last words of calls by the clock are told, and none where there are none.
-#[test]
-fn last_calls_by_the_clock(rt: HostRuntime) {
-    let (ticked, _) = FILES[19];
-    let (bare, _) = FILES[0];
-    assert!(rt; last_ticks(ticked) == b"tick t 1700000060 u 1700000001 ".as_slice());
-    assert!(rt; last_ticks(bare) == b"".as_slice());
 }

@@ -6,7 +6,7 @@ ghost use Rattle.audit_core.specs.Verdicts.{IsLegalTrace};
 ghost use Rattle.keep_loop.specs.Device.{LeavesOnly};
 ghost use Rattle.keep_loop.specs.Journal.{AreLines, Begins};
 ghost use Rattle.keep_loop.specs.Order.{IsInOrder, Holds};
-ghost use Rattle.keep_loop.specs.Taken.{AreTicks, IsFront, Tells};
+ghost use Rattle.keep_loop.specs.Taken.{IsFront, Tells};
 ghost use Rattle.history_law.specs.CrashLaws.{TellsParts, FileIsLeft};
 
 use crate::crash_laws::crash_leaves_legal;
@@ -15,7 +15,7 @@ use keep_loop::journal::Journal;
 use keep_loop::taken::taken_are_lines;
 use std::alloc::Global;
 
-/// Begins the journal of an object anew with this front, these words of calls by the clock, or none, and room for so many bytes behind it, as [`Journal::change`] does.
+/// Begins the journal of an object anew with this front, and room for so many bytes behind it, as [`Journal::change`] does.
 /// Where the text of before is a legal trace of an object whose parts are stored, a crash at any moment leaves of it a
 /// legal trace, with each end that was stored and no end that was not made; or the front. Where the answer is `false`, the
 /// journal holds what it held, and a crash leaves nothing but such a trace.
@@ -23,12 +23,10 @@ pub fn begin_anew<D: Device>(
     alloc: Global,
     journal: &mut Journal<D>,
     front: &[u8],
-    ticks: &[u8],
     room: usize,
 ) -> Result<bool, DeviceError>
     requires in_order { IsInOrder D.seen D.may_leave journal.old }
     requires lines { IsFront front.now }
-    requires ticks { AreTicks ticks.now }
     requires small { length front.now + room < 2 ^ 62 }
 
     ensures in_order { OnOk result (IsInOrder D.seen D.may_leave journal.new) }
@@ -52,6 +50,6 @@ pub fn begin_anew<D: Device>(
     // Called for their contracts alone.
     crash_leaves_legal();
     taken_are_lines();
-    let went = journal.change(alloc, front, ticks, room)?;
+    let went = journal.change(alloc, front, room)?;
     Ok(went)
 }

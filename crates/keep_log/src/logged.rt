@@ -424,14 +424,6 @@ impl<W: Outside + Caused, R: Clock, E: Write> Outside for Logged<W, R, E> {
         done
     }
 
-    fn tell_ticks(&mut self, journal: usize, words: &[u8]) -> Result<(), Fault> {
-        let done = self.inner.tell_ticks(journal, words);
-        if done.is_err() {
-            self.tell_failed(journal, Work::Write);
-        }
-        done
-    }
-
     fn sync(&mut self, journal: usize) -> Result<(), Fault> {
         let done = self.inner.sync(journal);
         if done.is_err() {

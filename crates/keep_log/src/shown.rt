@@ -286,10 +286,6 @@ impl<W: Outside, K: Sink> Outside for Showing<W, K> {
         done
     }
 
-    fn tell_ticks(&mut self, journal: usize, words: &[u8]) -> Result<(), Fault> {
-        self.inner.tell_ticks(journal, words)
-    }
-
     fn sync(&mut self, journal: usize) -> Result<(), Fault> {
         let begun = self.time_before(journal);
         let done = self.inner.sync(journal);

@@ -1,6 +1,6 @@
 -- Check lines: their bytes, and what is read of them.
 use Rattle.std.proofs.Common.{◌≡◌, ◌≢◌, ◌⊎◌, inl, inr, ℕ, zero, suc, ◌+◌, ◌/◌, ◌%◌, ◌^◌, ◌<◌, ◌≤◌, List, [], ◌∷◌, ◌++◌, length, refl, sym, ◌∙◌, ap, subst, arith, rules, append_assoc}
-use Rattle.std.specs.Prelude.{Bool, true, false, cond, ◌==◌, ◌||◌, ◌&&◌, codes, decimal, bit_xor}
+use Rattle.std.specs.Prelude.{Bool, true, false, cond, ◌==◌, ◌||◌, codes, decimal, bit_xor}
 use Rattle.std.proofs.lemmas.List.{append-nil}
 use Rattle.std.proofs.lemmas.List.Elements.{All-head, All-tail}
 use Rattle.std.proofs.lemmas.Bool.{cases_eq}
@@ -8,7 +8,7 @@ use Rattle.std.proofs.lemmas.Bool.Decides.{nat_tests}
 use Rattle.std.proofs.lemmas.Fmt.{decimal_by_steps, decimal_injective}
 use Rattle.keep_loop.specs.Crc.{crc_more}
 use Rattle.keep_loop.specs.Journal.{IsSolid, AreLines, whole}
-use Rattle.keep_loop.specs.Taken.{onto, begins_with, cut, is_check, is_front_line, has_check, hex_digit, hex_digits, check_line, tick_line, front_word, stored_word, tick_word, IsWithin, IsTick, says_stored, IsWord, NoSpace}
+use Rattle.keep_loop.specs.Taken.{onto, begins_with, cut, is_check, is_front_line, has_check, hex_digit, hex_digits, check_line, front_word, stored_word, says_stored, IsWord, NoSpace}
 use Rattle.keep_loop.specs.Order.{SaysAtMost, SayAtMost}
 use Rattle.keep_loop.proofs.Quiet.{IsQuiet, line_ends, none_ends, whole_line}
 use Rattle.keep_loop.proofs.Texts.{cut_end, cut_on}
@@ -119,14 +119,6 @@ pub front_no_stored : (size crc : ℕ) → begins_with stored_word (check_line f
 unfolding check_line
 front_no_stored size crc = refl
 
-pub front_no_tick : (size crc : ℕ) → begins_with tick_word (check_line front_word size crc) ≡ false
-unfolding check_line
-front_no_tick size crc = refl
-
-pub stored_no_tick : (size crc : ℕ) → begins_with tick_word (check_line stored_word size crc) ≡ false
-unfolding check_line
-stored_no_tick size crc = refl
-
 pub stored_is_check : (size crc : ℕ) → is_check (check_line stored_word size crc) ≡ true
 unfolding check_line
 stored_is_check size crc = refl
@@ -201,61 +193,6 @@ pub quiet_says : (size : ℕ) → size < 2 ^ 64 → IsQuiet (says_stored size []
 quiet_says size small =
     quiet_append (stored_word ++ decimal size) (32 ∷ []) (quiet_append stored_word (decimal size) quiet_stored (quiet_marks (decimal size) (marks_decimal size small))) (quiet_space [] tt)
 
--- a line that tells of calls by the clock
-
-quiet_within : (text : List ℕ) → IsWithin text → IsQuiet text
-quiet_within [] within = tt
-quiet_within (byte ∷ text) within = (within.0, within.1, quiet_within text within.2)
-
-pub tick_is : (words : List ℕ) (crc : ℕ) → tick_line words crc ≡ (words ++ hex_digits 8 crc) ++ 10 ∷ []
-unfolding tick_line
-tick_is words crc = sym (append_assoc words (hex_digits 8 crc) (10 ∷ []))
-
-pub quiet_tick : (words : List ℕ) (crc : ℕ) → IsTick words → IsQuiet (words ++ hex_digits 8 crc)
-quiet_tick words crc is = quiet_append words (hex_digits 8 crc) (quiet_within words is.within) (quiet_marks (hex_digits 8 crc) (marks_hex 8 crc))
-
-begins_past : (word text more : List ℕ) → begins_with word text ≡ true → begins_with word (text ++ more) ≡ true
-begins_past [] text more is = refl
-begins_past (w ∷ word) [] more is = absurd (cc is)
-begins_past (w ∷ word) (byte ∷ text) more is = elim (cases_eq w byte) [
-  | inl same ↦ let here : (w == byte) ≡ true = grind (arith, nat_tests) in
-      ap (λ b. b && begins_with word (text ++ more)) here ∙ begins_past word text more (sym (ap (λ b. b && begins_with word text) here) ∙ is)
-  | inr other ↦ let here : (w == byte) ≡ false = grind (arith, nat_tests) in
-      absurd (let e = sym (ap (λ b. b && begins_with word text) here) ∙ is in cc e)
-]
-
-pub tick_begins : (words : List ℕ) (crc : ℕ) → IsTick words → begins_with tick_word (tick_line words crc) ≡ true
-unfolding tick_line
-tick_begins words crc is = begins_past tick_word words (hex_digits 8 crc ++ 10 ∷ []) is.begins
-
--- a line begins with one of these words alone
-byte_of : (w byte : ℕ) (rest : Bool) → ((w == byte) && rest) ≡ true → w ≡ byte
-byte_of w byte rest is = elim (cases_eq w byte) [
-  | inl same ↦ same
-  | inr other ↦ let here : (w == byte) ≡ false = grind (arith, nat_tests) in
-      absurd (let e = sym (ap (λ b. b && rest) here) ∙ is in cc e)
-]
-
-pub tick_no_front : (line : List ℕ) → begins_with tick_word line ≡ true → is_front_line line ≡ false
-tick_no_front [] is = absurd (cc is)
-tick_no_front (byte ∷ line) is =
-    let same = byte_of 116 byte (begins_with (codes "ick ") line) is in
-    subst (λ b. is_front_line (b ∷ line) ≡ false) same refl
-
-pub tick_no_stored : (line : List ℕ) → begins_with tick_word line ≡ true → begins_with stored_word line ≡ false
-tick_no_stored [] is = absurd (cc is)
-tick_no_stored (byte ∷ line) is =
-    let same = byte_of 116 byte (begins_with (codes "ick ") line) is in
-    subst (λ b. begins_with stored_word (b ∷ line) ≡ false) same refl
-
-or_behind : (a b : Bool) → b ≡ true → (a || b) ≡ true
-or_behind true b is = refl
-or_behind false b is = is
-
-pub tick_is_check : (line : List ℕ) → begins_with tick_word line ≡ true → is_check line ≡ true
-tick_is_check line is =
-    or_behind (is_front_line line) (begins_with stored_word line || begins_with tick_word line) (or_behind (begins_with stored_word line) (begins_with tick_word line) is)
-
 -- what lines say was stored
 
 pub at_most_append : (most : ℕ) (a b : List (List ℕ)) → SayAtMost most a → SayAtMost most b → SayAtMost most (a ++ b)
@@ -283,10 +220,6 @@ at_most_plain most (line ∷ lines) none =
 pub at_most_front : (most size crc : ℕ) → SaysAtMost most (check_line front_word size crc)
 at_most_front most size crc n rest small is =
     absurd (let one = front_no_stored size crc in let two = ap (λ l. begins_with stored_word l) is ∙ says_is n rest in cc (one, two))
-
-pub at_most_tick : (most : ℕ) (line : List ℕ) → begins_with tick_word line ≡ true → SaysAtMost most line
-at_most_tick most line is n rest small same =
-    absurd (let one = tick_no_stored line is in let two = ap (λ l. begins_with stored_word l) same ∙ says_is n rest in cc (one, two))
 
 pub at_most_stored : (most crc : ℕ) → most < 2 ^ 64 → SaysAtMost most (check_line stored_word most crc)
 unfolding check_line

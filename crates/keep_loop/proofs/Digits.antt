@@ -2,7 +2,7 @@
 use Rattle.std.proofs.Common.{◌≡◌, ◌≢◌, ℕ, zero, suc, ◌+◌, ◌-◌, ◌/◌, ◌%◌, ◌^◌, ◌<◌, ◌≤◌, List, [], ◌∷◌, ◌++◌, length, refl, sym, ◌∙◌, ap, arith, append_assoc}
 use Rattle.std.specs.Prelude.{Bool, false, decimal}
 use Rattle.std.proofs.lemmas.Fmt.{decimal_step, decimal_digit}
-use Rattle.keep_loop.specs.Taken.{begins_with, check_line, tick_line, hex_digit, hex_digits}
+use Rattle.keep_loop.specs.Taken.{begins_with, check_line, hex_digit, hex_digits}
 
 pub decimal_one : (old : List ℕ) (n : ℕ) → n < 10 → old ++ (48 + n) ∷ [] ≡ old ++ decimal n
 decimal_one old n small = ap (λ (l : List ℕ). old ++ l) (sym (decimal_digit n small))
@@ -21,10 +21,6 @@ unfolding check_line
 check_joined out word size crc =
     append_assoc (((out ++ word) ++ decimal size) ++ 32 ∷ []) (hex_digits 8 crc) (10 ∷ []) ∙ append_assoc ((out ++ word) ++ decimal size) (32 ∷ []) (hex_digits 8 crc ++ 10 ∷ [])
     ∙ ap (λ (l : List ℕ). l ++ 32 ∷ (hex_digits 8 crc ++ 10 ∷ [])) (append_assoc out word (decimal size)) ∙ append_assoc out (word ++ decimal size) (32 ∷ (hex_digits 8 crc ++ 10 ∷ []))
-
-pub tick_joined : (out words : List ℕ) (crc : ℕ) → ((out ++ words) ++ hex_digits 8 crc) ++ 10 ∷ [] ≡ out ++ tick_line words crc
-unfolding tick_line
-tick_joined out words crc = append_assoc (out ++ words) (hex_digits 8 crc) (10 ∷ []) ∙ append_assoc out words (hex_digits 8 crc ++ 10 ∷ [])
 
 pub begins_none : (word text : List ℕ) → 1 ≤ length word → length text ≡ 0 → false ≡ begins_with word text
 begins_none [] text some none = absurd (omega (arith, some))

@@ -10,17 +10,17 @@ use Rattle.keep_loop.specs.Crc.{crc_more, crc_start, crc_of}
 use Rattle.std.specs.Prelude.{Option, Some}
 use Rattle.keep_loop.specs.Device.{Only, IsChanged, Replaces}
 use Rattle.keep_loop.specs.Journal.{has_end, whole, IsSolid, AreLines, recovered, Stands}
-use Rattle.keep_loop.specs.Order.{SayAtMost, Checks, Fills}
-use Rattle.keep_loop.specs.Taken.{cut, begins_with, stored_word, tick_word, is_check, is_front_line, has_check, has_front, plain, since, check_line, front_word, format_words, IsWord, Names, IsRight, AreRight, IsChecked, IsFront, ArePlain, without_form, with_form, with_check, in_file, in_file_ticked, AreTicks, IsTick, tick_line, told, taken, IsTaken, Tells}
+use Rattle.keep_loop.specs.Order.{SayAtMost, Checks}
+use Rattle.keep_loop.specs.Taken.{cut, begins_with, stored_word, is_check, is_front_line, has_check, has_front, plain, since, check_line, front_word, format_words, IsWord, Names, IsRight, AreRight, IsChecked, IsFront, ArePlain, without_form, with_form, with_check, in_file, told, taken, IsTaken, Tells}
 use Rattle.keep_loop.proofs.Lines.{whole_parts, whole_keeps, solid_append, lines_append, no_lines}
 use Rattle.keep_loop.proofs.Quiet.{IsQuiet}
 use Rattle.keep_loop.proofs.Texts.{or_parts, cut_append, concat_cut, plain_append, plain_check, plain_none, front_stays, since_none, since_check, right_append, right_plain, has_front_append, onto_all, IsOne, one_append, cut_onto, behind, head, onto_all_parts}
-use Rattle.keep_loop.proofs.CheckLines.{body, check_is, quiet_front_body, lines_quiet, cut_line, front_is, front_is_check, front_no_stored, front_no_tick, tick_begins, tick_is_check, at_most_append, at_most_plain, at_most_front, at_most_more}
+use Rattle.keep_loop.proofs.CheckLines.{body, check_is, quiet_front_body, lines_quiet, cut_line, front_is, front_is_check, front_no_stored, at_most_append, at_most_plain, at_most_front}
 use Rattle.keep_loop.proofs.Named.{begin, named_parts, form_parts, begin_one, cut_text, cut_first, names_more, solid_format}
-use Rattle.keep_loop.proofs.Told.{leaves_tell, without_with, checked_more}
+use Rattle.keep_loop.proofs.Told.{leaves_tell, without_with}
 use Rattle.keep_loop.proofs.KeptLines.{front_text, changed_from}
 use Rattle.keep_loop.proofs.Begun.{begun_stands}
-use Rattle.keep_loop.proofs.KeptTold.{lines_found, tick_cut, grown, Grown}
+use Rattle.keep_loop.proofs.KeptTold.{lines_found}
 
 -- the end of a text that ends a line, behind a beginning that does not
 
@@ -113,7 +113,7 @@ module _ (front : List ℕ) (is : IsFront front) (small : length (with_form 2 fr
   no_front [] none = refl
   no_front (first ∷ lines) none =
       let parts = or_parts (is_check first) (has_check lines) none in
-      let apart : is_front_line first ≡ false = (or_parts (is_front_line first) (begins_with stored_word first || begins_with tick_word first) parts.0).0 in
+      let apart : is_front_line first ≡ false = (or_parts (is_front_line first) (begins_with stored_word first) parts.0).0 in
       ap (λ b. b || has_front lines) apart ∙ no_front lines parts.1
 
   since_form : since (cut form) ≡ form
@@ -126,7 +126,6 @@ module _ (front : List ℕ) (is : IsFront front) (small : length (with_form 2 fr
       is = ap (λ (l : List ℕ). check_line front_word (length l) (crc_of form)) (sym (concat_cut form)) ∙ ap (λ (l : List ℕ). check_line front_word (length (concat (cut form))) (crc_of l)) (sym since_form);
     };
     stored = λ here. absurd (let n = front_no_stored (length form) (crc_of form) in cc (here, n));
-    tick = λ here. absurd (let n = front_no_tick (length form) (crc_of form) in cc (here, n));
   }
 
   right : AreRight [] (cut (in_file front))
@@ -155,134 +154,60 @@ module _ (front : List ℕ) (is : IsFront front) (small : length (with_form 2 fr
       ap (λ l. without_form 2 (plain l)) cuts ∙ ap (λ (l : List ℕ). without_form 2 l) (plain_append (cut form) (line ∷ []) ∙ ap (λ (l : List ℕ). plain (cut form) ++ l) (plain_check line [] (front_is_check (length form) (crc_of form)))
       ∙ append-nil (plain (cut form)) ∙ plain_none (cut form) form_bare ∙ concat_cut form) ∙ without_with 2 front
 
--- With words of calls by the clock behind it
-pub record Opens (front text : List ℕ) : Type 0 where
-  pub lines : AreLines text
-  pub checked : IsChecked text
-  pub right : AreRight [] (cut text)
-  pub below : (most : ℕ) → most < 2 ^ 64 → length (in_file front) ≤ most → SayAtMost most (cut text)
-  pub since_none : since (cut text) ≡ []
-  pub tells : told text ≡ front
+  module _ (bytes : List ℕ) (room : ℕ) (bytes_are : bytes ≡ in_file front ++ replicate room 0) where
+    text_is : recovered bytes ≡ in_file front
+    text_is = ap recovered bytes_are ∙ front_text (in_file front) room front_lines
 
-opens_bare : (front : List ℕ) (is : IsFront front) (small : length (with_form 2 front) < 2 ^ 64) → Opens front (in_file front)
-opens_bare front is small = record {
-  lines = front_lines front is small;
-  checked = front_checked front is small;
-  right = (front_checked front is small).right;
-  below = λ most fits le. front_below front is small most;
-  since_none = front_since front is small;
-  tells = front_told front is small;
-}
+    disk_is : take (length (in_file front)) bytes ≡ in_file front
+    disk_is = ap (λ (l : List ℕ). take (length (in_file front)) l) bytes_are ∙ take_at (in_file front) (replicate room 0) (length (in_file front)) refl
 
-module _ (front words : List ℕ) (is : IsFront front) (small : length (in_file front) < 2 ^ 64) (form_small : length (with_form 2 front) < 2 ^ 64) (tick : IsTick words) where
-  abbrev ticked : List ℕ
-  ticked = tick_line words (crc_of words)
-
-  bare : Opens front (in_file front)
-  bare = opens_bare front is form_small
-
-  no_plain : ArePlain []
-  no_plain = record { are_lines = no_lines; none = refl }
-
-  fills : Fills [] (length (in_file front)) crc_start (length ticked) ticked crc_start 0
-  fills = record {
-    check = ticked;
-    bytes_are = refl;
-    room = omega arith;
-    is = inr (inr (words, tick, refl, refl));
-  }
-
-  grows : Grown (in_file front) [] (length (in_file front)) crc_start (length ticked) ticked crc_start 0 bare.lines bare.checked no_plain (bare.below (length (in_file front)) small (omega arith)) (ap (λ (l : List ℕ). crc_more crc_start l) (sym bare.since_none)) small (omega arith) fills
-  grows = grown (in_file front) [] (length (in_file front)) crc_start (length ticked) ticked crc_start 0 bare.lines bare.checked no_plain (bare.below (length (in_file front)) small (omega arith)) (ap (λ (l : List ℕ). crc_more crc_start l) (sym bare.since_none)) small (omega arith) fills
-
-  ticked_cut : cut (in_file front ++ ticked) ≡ cut (in_file front) ++ ticked ∷ []
-  ticked_cut = cut_append (in_file front) ticked bare.lines.ended ∙ ap (λ (l : List (List ℕ)). cut (in_file front) ++ l) (tick_cut words (crc_of words) tick)
-
-  pub opens_ticked : Opens front (in_file front ++ ticked)
-  opens_ticked = record {
-    lines = lines_append (in_file front) ticked bare.lines grows.are_lines;
-    checked = checked_more (in_file front) bare.checked ticked bare.lines.ended grows.right;
-    right = grows.right;
-    below = λ most fits le. at_most_more (length (in_file front)) most (cut (in_file front ++ ticked)) le grows.say;
-    since_none = ap since ticked_cut ∙ since_check (cut (in_file front)) ticked (tick_is_check ticked (tick_begins words (crc_of words) tick));
-    tells = grows.tells ∙ append-nil (told (in_file front)) ∙ bare.tells;
-  }
-
-pub opens : (front words : List ℕ) → IsFront front → AreTicks words → length (in_file front) < 2 ^ 64 → length (with_form 2 front) < 2 ^ 64 → Opens front (in_file_ticked front words)
-opens front [] is ticks small form_small = opens_bare front is form_small
-opens front (byte ∷ words) is ticks small form_small = opens_ticked front (byte ∷ words) is small form_small ticks
-
-pub longer : (front words : List ℕ) → length (in_file front) ≤ length (in_file_ticked front words)
-longer front [] = omega arith
-longer front (byte ∷ words) = omega (arith, length-append (in_file front) (tick_line (byte ∷ words) (crc_of (byte ∷ words))))
-
-module _ (front text : List ℕ) (o : Opens front text) (small : length text < 2 ^ 64) (le : length (in_file front) ≤ length text) where
-  module _ (bytes : List ℕ) (room : ℕ) (bytes_are : bytes ≡ text ++ replicate room 0) where
-    text_is : recovered bytes ≡ text
-    text_is = ap recovered bytes_are ∙ front_text text room o.lines
-
-    disk_is : take (length text) bytes ≡ text
-    disk_is = ap (λ (l : List ℕ). take (length text) l) bytes_are ∙ take_at text (replicate room 0) (length text) refl
-
-    pub begun_checks : Checks bytes (length text) crc_start
+    pub begun_checks : Checks bytes (length (in_file front)) crc_start
     begun_checks = record {
-      on_disk = subst IsChecked (sym disk_is) o.checked;
-      right = subst (λ t. AreRight [] (cut t)) (sym text_is) o.right;
-      below = subst (λ t. SayAtMost (length text) (cut t)) (sym text_is) (o.below (length text) small le);
-      crc_is = ap (λ (l : List ℕ). crc_more crc_start l) (sym o.since_none ∙ ap (λ t. since (cut t)) (sym text_is));
+      on_disk = subst IsChecked (sym disk_is) front_checked;
+      right = subst (λ t. AreRight [] (cut t)) (sym text_is) right;
+      below = subst (λ t. SayAtMost (length (in_file front)) (cut t)) (sym text_is) (front_below (length (in_file front)));
+      crc_is = ap (λ (l : List ℕ). crc_more crc_start l) (sym front_since ∙ ap (λ t. since (cut t)) (sym text_is));
     }
 
     pub begun_told : taken bytes ≡ front
-    begun_told = ap told text_is ∙ o.tells
+    begun_told = ap told text_is ∙ front_told
 
-    pub begun_disk : taken (take (length text) bytes) ≡ front
-    begun_disk = ap taken disk_is ∙ ap told (lines_found text o.lines) ∙ o.tells
+    pub begun_disk : taken (take (length (in_file front)) bytes) ≡ front
+    begun_disk = ap taken disk_is ∙ ap told (lines_found (in_file front) front_lines) ∙ front_told
 
     -- a file that has just begun is taken, and tells the front
     pub begun_tells : Tells front bytes
     begun_tells =
-        let file_is : bytes ≡ text ++ [] ++ replicate room 0 = bytes_are ∙ ap (λ (l : List ℕ). l ++ replicate room 0) (sym (append-nil text)) in
-        let none : text ++ [] ≡ text = append-nil text in
-        let tells = leaves_tell text [] [] room o.lines tt o.checked (subst (λ t. AreRight [] (cut t)) (sym none) o.right) (subst (λ t. SayAtMost (length text) (cut t)) (sym none) (o.below (length text) small le)) in
+        let file_is : bytes ≡ in_file front ++ [] ++ replicate room 0 = bytes_are ∙ ap (λ (l : List ℕ). l ++ replicate room 0) (sym (append-nil (in_file front))) in
+        let none : in_file front ++ [] ≡ in_file front = append-nil (in_file front) in
+        let tells = leaves_tell (in_file front) [] [] room front_lines tt front_checked (subst (λ t. AreRight [] (cut t)) (sym none) right) (subst (λ t. SayAtMost (length (in_file front)) (cut t)) (sym none) (front_below (length (in_file front)))) in
         record { is_taken = subst IsTaken (sym file_is) tells.is_taken; are = begun_told }
 
--- A file that was begun with a front and with these words, and how many bytes these have in it
-module _ (bytes front words : List ℕ) (room size : ℕ) (bytes_are : bytes ≡ in_file_ticked front words ++ replicate room 0) (size_is : size ≡ length (in_file_ticked front words)) (is : IsFront front) (ticks : AreTicks words)
-    (fits : length bytes < 2 ^ 63) where
-  text_small : length (in_file_ticked front words) < 2 ^ 63
-  text_small = omega (arith, fits, ap length bytes_are, length-append (in_file_ticked front words) (replicate room 0))
-
-  front_small : length (in_file front) < 2 ^ 63
-  front_small = omega (arith, text_small, longer front words)
-
+-- A file that was begun with a front, and how many bytes the front has in it
+module _ (bytes front : List ℕ) (room size : ℕ) (bytes_are : bytes ≡ in_file front ++ replicate room 0) (size_is : size ≡ length (in_file front)) (is : IsFront front) (fits : length bytes < 2 ^ 63) where
   small : length (with_form 2 front) < 2 ^ 64
   small =
       let line = check_line front_word (length (with_form 2 front)) (crc_of (with_form 2 front)) in
-      omega (arith, front_small, length-append (with_form 2 front) line)
-
-  all : Opens front (in_file_ticked front words)
-  all = opens front words is ticks (omega (arith, front_small)) small
+      omega (arith, fits, ap length bytes_are, length-append (in_file front) (replicate room 0), length-append (with_form 2 front) line)
 
   pub begin_fits : size + room < 2 ^ 63
-  begin_fits = omega (arith, fits, ap length bytes_are, length-append (in_file_ticked front words) (replicate room 0), length-replicate {A = ℕ} room 0, size_is)
+  begin_fits = omega (arith, fits, ap length bytes_are, length-append (in_file front) (replicate room 0), length-replicate {A = ℕ} room 0, size_is)
 
   pub begin_stands : (old new : Option (List ℕ)) → IsChanged (λ _. bytes) old new → (leaves : List ℕ → Type 0) → Only bytes leaves → (file : List ℕ) → new ≡ Some file → Stands file leaves size size room
   begin_stands old new changed leaves only file known =
-      subst (λ n. Stands file leaves n n room) (sym size_is) (begun_stands bytes (in_file_ticked front words) room bytes_are all.lines old new changed leaves only file known)
+      subst (λ n. Stands file leaves n n room) (sym size_is) (begun_stands bytes (in_file front) room bytes_are (front_lines front is small) old new changed leaves only file known)
 
   pub begin_checks : (old new : Option (List ℕ)) → IsChanged (λ _. bytes) old new → (file : List ℕ) → new ≡ Some file → Checks file size crc_start
   begin_checks old new changed file known =
       let was = changed_from (λ _. bytes) old new changed file known in
-      subst (λ f. Checks f size crc_start) (sym was.2) (subst (λ n. Checks bytes n crc_start) (sym size_is)
-      (begun_checks front (in_file_ticked front words) all (omega (arith, text_small)) (longer front words) bytes room bytes_are))
+      subst (λ f. Checks f size crc_start) (sym was.2) (subst (λ n. Checks bytes n crc_start) (sym size_is) (begun_checks front is small bytes room bytes_are))
 
   pub begin_told : taken bytes ≡ front
-  begin_told = begun_told front (in_file_ticked front words) all (omega (arith, text_small)) (longer front words) bytes room bytes_are
+  begin_told = begun_told front is small bytes room bytes_are
 
   pub begin_disk : taken (take size bytes) ≡ front
-  begin_disk = ap (λ (n : ℕ). taken (take n bytes)) size_is ∙ begun_disk front (in_file_ticked front words) all (omega (arith, text_small)) (longer front words) bytes room bytes_are
+  begin_disk = ap (λ (n : ℕ). taken (take n bytes)) size_is ∙ begun_disk front is small bytes room bytes_are
 
   -- a crash leaves what it might have left before, or the front
   pub begin_leaves : (old new : List ℕ → Type 0) → Replaces bytes old new → (c : List ℕ) → new c → old c ⊎ Tells front c
-  begin_leaves old new replaces c left = ⊎_elim (λ before. inl before)
-      (λ e. inr (subst (Tells front) (sym e) (begun_tells front (in_file_ticked front words) all (omega (arith, text_small)) (longer front words) bytes room bytes_are))) (replaces c left)
+  begin_leaves old new replaces c left = ⊎_elim (λ before. inl before) (λ e. inr (subst (Tells front) (sym e) (begun_tells front is small bytes room bytes_are))) (replaces c left)

@@ -7,11 +7,11 @@ use Rattle.std.proofs.lemmas.List.{append-nil, take_at}
 use Rattle.keep_loop.specs.Device.{with_bytes, Writes, Only}
 use Rattle.keep_loop.specs.Crc.{crc_more, crc_start, crc_of}
 use Rattle.keep_loop.specs.Journal.{recovered, whole, AreLines, Begins, IsLoose, Stands}
-use Rattle.keep_loop.specs.Order.{SaysAtMost, SayAtMost, Checks, Fills}
-use Rattle.keep_loop.specs.Taken.{cut, has_check, has_front, is_check, plain, since, check_line, tick_line, hex_digits, stored_word, IsTick, IsRight, AreRight, IsChecked, ArePlain, told, taken, TellsBetween}
+use Rattle.keep_loop.specs.Order.{SayAtMost, Checks, Fills}
+use Rattle.keep_loop.specs.Taken.{cut, has_check, has_front, plain, since, check_line, stored_word, IsRight, AreRight, IsChecked, ArePlain, told, taken, TellsBetween}
 use Rattle.keep_loop.proofs.Lines.{found, begins_on, lines_append, no_lines}
 use Rattle.keep_loop.proofs.Texts.{cut_append, concat_cut, concat_append, plain_append, plain_check, plain_none, front_stays, since_plain, since_check, right_append, right_plain}
-use Rattle.keep_loop.proofs.CheckLines.{body, check_is, quiet_stored_body, lines_quiet, cut_line, crc_append, stored_is, stored_no_front, stored_no_tick, stored_is_check, tick_is, quiet_tick, tick_begins, tick_no_front, tick_no_stored, tick_is_check, at_most_append, at_most_more, at_most_plain, at_most_stored, at_most_tick}
+use Rattle.keep_loop.proofs.CheckLines.{body, check_is, quiet_stored_body, lines_quiet, cut_line, crc_append, stored_is, stored_no_front, stored_is_check, at_most_append, at_most_more, at_most_plain, at_most_stored}
 use Rattle.keep_loop.proofs.Told.{told_past, checked_more, leaves_tell}
 use Rattle.keep_loop.proofs.KeptLines.{text_is, append_leaves, append_file, append_found}
 
@@ -31,14 +31,6 @@ module _ (stored crc : ℕ) (small : stored < 2 ^ 64) where
   round_cut =
       ap cut (check_is stored_word stored crc) ∙ cut_line (body stored_word stored crc) [] (quiet_stored_body stored crc small)
       ∙ ap (λ (l : List ℕ). l ∷ []) (sym (check_is stored_word stored crc))
-
--- the line that tells of calls by the clock
-module _ (words : List ℕ) (crc : ℕ) (tick : IsTick words) where
-  pub tick_lines : AreLines (tick_line words crc)
-  tick_lines = subst AreLines (sym (tick_is words crc)) (lines_quiet (words ++ hex_digits 8 crc) (quiet_tick words crc tick))
-
-  pub tick_cut : cut (tick_line words crc) ≡ tick_line words crc ∷ []
-  tick_cut = ap cut (tick_is words crc) ∙ cut_line (words ++ hex_digits 8 crc) [] (quiet_tick words crc tick) ∙ ap (λ (l : List ℕ). l ∷ []) (sym (tick_is words crc))
 
 -- What a file tells behind lines that were written with their check line
 module _ (text lines : List ℕ) (stored crc checks : ℕ) (bytes : List ℕ) (next left : ℕ) (are : AreLines text) (checked : IsChecked text) (add : ArePlain lines) (below : SayAtMost stored (cut text))
@@ -68,7 +60,6 @@ module _ (text lines : List ℕ) (stored crc checks : ℕ) (bytes : List ℕ) (n
       before_it = omega (arith, here, size_is);
       is = ap (λ (n : ℕ). check_line stored_word stored (bit_xor n 0xFFFFFFFF)) (sym crc_now);
     };
-    tick = λ is. absurd (let n = stored_no_tick stored c in cc (is, n));
   }
 
   cuts : cut (text ++ bytes) ≡ before ++ cut fills.check
@@ -104,55 +95,25 @@ module _ (text lines : List ℕ) (stored crc checks : ℕ) (bytes : List ℕ) (n
         tells = told_past text checked bytes are.ended ∙ ap (λ (l : List ℕ). told text ++ plain (cut l)) bytes_is ∙ ap (λ (l : List ℕ). told text ++ l) plain_lines;
       }
 
-  -- behind a check line
-  grown_behind : (line : List ℕ) → fills.check ≡ line → next ≡ crc_start → cut line ≡ line ∷ [] → AreLines line → is_check line ≡ true → IsRight before line → SaysAtMost stored line → Grown
-  grown_behind line is next_is line_cut line_are check line_right says =
+  grown_checked : fills.check ≡ round_line stored c small → next ≡ crc_start → Grown
+  grown_checked is next_is =
+      let line = round_line stored c small in
       let bytes_is : bytes ≡ lines ++ line = fills.bytes_are ∙ ap (λ (l : List ℕ). lines ++ l) is in
-      let cuts_is : cut (text ++ bytes) ≡ before ++ line ∷ [] = cuts ∙ ap (λ (l : List ℕ). before ++ cut l) is ∙ ap (λ (l : List (List ℕ)). before ++ l) line_cut in
-      let plain_line : plain (line ∷ []) ≡ [] = plain_check line [] check in
+      let cuts_is : cut (text ++ bytes) ≡ before ++ line ∷ [] = cuts ∙ ap (λ (l : List ℕ). before ++ cut l) is ∙ ap (λ (l : List (List ℕ)). before ++ l) (round_cut stored c small) in
+      let plain_line : plain (line ∷ []) ≡ [] = plain_check line [] (stored_is_check stored c) in
       let plain_bytes : plain (cut bytes) ≡ lines =
       ap (λ (l : List ℕ). plain (cut l)) bytes_is ∙ ap plain (cut_append lines line add.are_lines.ended) ∙ plain_append (cut lines) (cut line) ∙ ap (λ (l : List ℕ). l ++ plain (cut line)) plain_lines
-      ∙ ap (λ (l : List (List ℕ)). lines ++ plain l) line_cut ∙ ap (λ (l : List ℕ). lines ++ l) plain_line ∙ append-nil lines in
+      ∙ ap (λ (l : List (List ℕ)). lines ++ plain l) (round_cut stored c small) ∙ ap (λ (l : List ℕ). lines ++ l) plain_line ∙ append-nil lines in
       record {
-        are_lines = subst AreLines (sym bytes_is) (lines_append lines line add.are_lines line_are);
-        right = subst (AreRight []) (sym cuts_is) (right_append [] before (line ∷ []) right_lines (line_right, tt));
-        say = subst (SayAtMost stored) (sym cuts_is) (at_most_append stored before (line ∷ []) below_lines (says, tt));
-        crc_next = next_is ∙ ap (λ (l : List ℕ). crc_more crc_start l) (sym (since_check before line check) ∙ ap since (sym cuts_is));
+        are_lines = subst AreLines (sym bytes_is) (lines_append lines line add.are_lines (round_lines stored c small));
+        right = subst (AreRight []) (sym cuts_is) (right_append [] before (line ∷ []) right_lines (round_right, tt));
+        say = subst (SayAtMost stored) (sym cuts_is) (at_most_append stored before (line ∷ []) below_lines (at_most_stored stored c small, tt));
+        crc_next = next_is ∙ ap (λ (l : List ℕ). crc_more crc_start l) (sym (since_check before line (stored_is_check stored c)) ∙ ap since (sym cuts_is));
         tells = told_past text checked bytes are.ended ∙ ap (λ (l : List ℕ). told text ++ l) plain_bytes;
       }
 
-  grown_checked : fills.check ≡ round_line stored c small → next ≡ crc_start → Grown
-  grown_checked is next_is =
-      grown_behind (round_line stored c small) is next_is (round_cut stored c small) (round_lines stored c small) (stored_is_check stored c) round_right (at_most_stored stored c small)
-
-  -- behind one that tells of calls by the clock
-  module _ (words : List ℕ) (tick : IsTick words) where
-    abbrev tick_crc : ℕ
-    tick_crc = bit_xor (crc_more (crc_more crc lines) words) 0xFFFFFFFF
-
-    abbrev line : List ℕ
-    line = tick_line words tick_crc
-
-    tick_right : IsRight before line
-    tick_right =
-        let begins = tick_begins words tick_crc tick in
-        record {
-          front = λ is. absurd (let n = tick_no_front line begins in cc (is, n));
-          stored = λ is. absurd (let n = tick_no_stored line begins in cc (is, n));
-          tick = λ is. record {
-            fronted = front_stays (cut text) (cut lines) checked.fronted;
-            words = words;
-            is = ap (λ (n : ℕ). tick_line words (bit_xor n 0xFFFFFFFF)) (sym (crc_append crc_start (since before) words ∙ ap (λ (n : ℕ). crc_more n words) crc_now));
-          };
-        }
-
-    pub grown_ticked : fills.check ≡ line → next ≡ crc_start → Grown
-    grown_ticked is next_is =
-        let begins = tick_begins words tick_crc tick in
-        grown_behind line is next_is (tick_cut words tick_crc tick) (tick_lines words tick_crc tick) (tick_is_check line begins) tick_right (at_most_tick stored line begins)
-
   pub grown : Grown
-  grown = ⊎_elim (λ h. grown_bare h.0 h.1) (λ other. ⊎_elim (λ h. grown_checked h.0 h.1) (λ h. grown_ticked h.0 h.1 h.2 h.3) other) fills.is
+  grown = ⊎_elim (λ h. grown_bare h.0 h.1) (λ h. grown_checked h.0 h.1) fills.is
 
 module _ (file : List ℕ) (leaves : List ℕ → Type 0) (st size room crc : ℕ) (s : Stands file leaves st size room) (k : Checks file st crc) where
   -- what stands on the disk, and all

@@ -28,5 +28,4 @@ pub mod Rows
 pub mod Heads
 pub mod TakenLines
 pub mod Taking
-pub mod Ticked
 pub mod Told

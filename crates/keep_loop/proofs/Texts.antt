@@ -6,7 +6,7 @@ use Rattle.std.proofs.lemmas.List.{append-nil}
 use Rattle.std.proofs.lemmas.Bool.{cases_eq}
 use Rattle.std.proofs.lemmas.Bool.Decides.{nat_tests}
 use Rattle.keep_loop.specs.Journal.{has_end, whole}
-use Rattle.keep_loop.specs.Taken.{begins_with, stored_word, tick_word, onto, cut, is_check, is_front_line, has_check, has_front, plain, since, IsRight, AreRight}
+use Rattle.keep_loop.specs.Taken.{begins_with, stored_word, onto, cut, is_check, is_front_line, has_check, has_front, plain, since, IsRight, AreRight}
 use Rattle.keep_loop.proofs.Lines.{bool_cases, whole_parts}
 
 -- lines of a text
@@ -146,7 +146,7 @@ plain_none (line ∷ lines) none =
 
 -- a line that is no check line ends no front
 front_is_check : (line : List ℕ) → is_front_line line ≡ true → is_check line ≡ true
-front_is_check line is = ap (λ b. b || (begins_with stored_word line || begins_with tick_word line)) is
+front_is_check line is = ap (λ b. b || begins_with stored_word line) is
 
 -- what stands behind the last check line
 
@@ -189,9 +189,8 @@ right_append before (line ∷ a) b one two =
 
 right_plain_line : (before : List (List ℕ)) (line : List ℕ) → is_check line ≡ false → IsRight before line
 right_plain_line before line none =
-    let parts = or_parts (is_front_line line) (begins_with stored_word line || begins_with tick_word line) none in
-    let behind = or_parts (begins_with stored_word line) (begins_with tick_word line) parts.1 in
-    record { front = λ is. absurd (cc (is, parts.0)); stored = λ is. absurd (cc (is, behind.0)); tick = λ is. absurd (cc (is, behind.1)) }
+    let parts = or_parts (is_front_line line) (begins_with stored_word line) none in
+    record { front = λ is. absurd (cc (is, parts.0)); stored = λ is. absurd (cc (is, parts.1)) }
 
 pub right_plain : (before lines : List (List ℕ)) → has_check lines ≡ false → AreRight before lines
 right_plain before [] none = tt

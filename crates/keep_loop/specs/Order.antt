@@ -2,7 +2,7 @@
 use Rattle.std.specs.Prelude.{◌≡◌, ◌⊎◌, ◌≤◌, ◌<◌, ◌^◌, ◌+◌, ℕ, List, [], ◌∷◌, ◌++◌, length, take, Option, Some, bit_xor}
 use Rattle.keep_loop.specs.Crc.{crc_more, crc_start}
 use Rattle.keep_loop.specs.Journal.{recovered, Stands}
-use Rattle.keep_loop.specs.Taken.{cut, since, check_line, stored_word, tick_line, says_stored, IsTick, IsChecked, AreRight, taken}
+use Rattle.keep_loop.specs.Taken.{cut, since, check_line, stored_word, says_stored, IsChecked, AreRight, taken}
 use Rattle.keep_loop.specs.declared.journal.Journal.{Journal}
 
 -- a line that says how many bytes were stored says at most so many
@@ -37,13 +37,11 @@ pub record Holds {D : Type 0} (seen : D → Option (List ℕ)) (journal : Journa
   pub lines_are : taken file ≡ lines
   pub stored_are : taken (take journal.stored file) ≡ stored
 
--- What is written next are the lines, and behind them the line that checks them, or the one that tells of calls by the clock,
--- where there is room for it; then this is the number of the lines since the last check line, and so much room is left
+-- What is written next are the lines, and behind them the line that checks them, where there is room for it; then this is the
+-- number of the lines since the last check line, and so much room is left
 pub record Fills (lines : List ℕ) (stored crc checks : ℕ) (bytes : List ℕ) (next left : ℕ) : Type 0 where
   pub check : List ℕ
   pub bytes_are : bytes ≡ lines ++ check
   pub room : length check + left ≡ checks
   pub is : ((check ≡ []) × (next ≡ crc_more crc lines))
-      ⊎ (((check ≡ check_line stored_word stored (bit_xor (crc_more crc lines) 0xFFFFFFFF)) × (next ≡ crc_start))
-      ⊎ ((words : List ℕ) × IsTick words × (check ≡ tick_line words (bit_xor (crc_more (crc_more crc lines) words) 0xFFFFFFFF))
-      × (next ≡ crc_start)))
+      ⊎ ((check ≡ check_line stored_word stored (bit_xor (crc_more crc lines) 0xFFFFFFFF)) × (next ≡ crc_start))

@@ -34,12 +34,9 @@ front_word = codes "front "
 abbrev pub stored_word : List ℕ
 stored_word = codes "stored "
 
-abbrev pub tick_word : List ℕ
-tick_word = codes "tick "
-
--- a line by which a file checks itself: no line of the object
+-- a line by which a file checks itself
 abbrev pub is_check : List ℕ → Bool
-is_check line = begins_with front_word line || (begins_with stored_word line || begins_with tick_word line)
+is_check line = begins_with front_word line || begins_with stored_word line
 
 abbrev pub is_front_line : List ℕ → Bool
 is_front_line line = begins_with front_word line
@@ -78,10 +75,6 @@ hex_digits (suc places) n = hex_digits places (n / 16) ++ hex_digit (n % 16) ∷
 unfoldable pub check_line : List ℕ → ℕ → ℕ → List ℕ
 check_line word size crc = word ++ decimal size ++ 32 ∷ (hex_digits 8 crc ++ 10 ∷ [])
 
--- the line that tells when calls were last made by the clock: these words, and a CRC
-unfoldable pub tick_line : List ℕ → ℕ → List ℕ
-tick_line words crc = words ++ (hex_digits 8 crc ++ 10 ∷ [])
-
 -- what stands behind the last check line of these lines
 abbrev pub since : List (List ℕ) → List ℕ
 since [] = []
@@ -100,18 +93,10 @@ pub record IsRoundRight (before : List (List ℕ)) (line : List ℕ) : Type 0 wh
   pub before_it : stored ≤ length (concat before)
   pub is : line ≡ check_line stored_word stored (crc_of (since before))
 
--- the line that tells of calls by the clock, behind the front: it has the CRC of the lines since the check line before, and of
--- its own words
-pub record IsTickRight (before : List (List ℕ)) (line : List ℕ) : Type 0 where
-  pub fronted : has_front before ≡ true
-  pub words : List ℕ
-  pub is : line ≡ tick_line words (crc_of (since before ++ words))
-
 -- a line behind these is as it was written
 pub record IsRight (before : List (List ℕ)) (line : List ℕ) : Type 0 where
   pub front : is_front_line line ≡ true → IsFrontRight before line
   pub stored : begins_with stored_word line ≡ true → IsRoundRight before line
-  pub tick : begins_with tick_word line ≡ true → IsTickRight before line
 
 -- so is each of these, behind those
 abbrev pub AreRight : List (List ℕ) → List (List ℕ) → Type 0
@@ -169,32 +154,12 @@ with_form zero text = format_words ++ text
 with_form (suc spaces) [] = []
 with_form (suc spaces) (byte ∷ text) = byte ∷ with_form (if byte == 32 then spaces else suc spaces) text
 
--- no byte is 0 or ends a line
-abbrev pub IsWithin : List ℕ → Type 0
-IsWithin [] = Unit {0}
-IsWithin (byte ∷ text) = (byte ≢ 0) × (byte ≢ 10) × IsWithin text
-
--- words of a line that tells of calls by the clock
-pub record IsTick (words : List ℕ) : Type 0 where
-  pub begins : begins_with tick_word words ≡ true
-  pub within : IsWithin words
-
 -- a front as it stands in a file: line 1 tells the form, and the last line checks what stands before it
 abbrev pub with_check : List ℕ → List ℕ
 with_check text = text ++ check_line front_word (length text) (crc_of text)
 
 abbrev pub in_file : List ℕ → List ℕ
 in_file front = with_check (with_form 2 front)
-
--- and behind it these words of calls by the clock, where there are some
-abbrev pub in_file_ticked : List ℕ → List ℕ → List ℕ
-in_file_ticked front [] = in_file front
-in_file_ticked front (byte ∷ words) = in_file front ++ tick_line (byte ∷ words) (crc_of (byte ∷ words))
-
--- words of calls by the clock, or none
-abbrev pub AreTicks : List ℕ → Type 0
-AreTicks [] = Unit {0}
-AreTicks (byte ∷ words) = IsTick (byte ∷ words)
 
 -- the lines that the text of a file tells
 abbrev pub told : List ℕ → List ℕ

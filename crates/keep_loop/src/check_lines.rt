@@ -1,7 +1,7 @@
 //! The lines by which the file of a journal checks itself.
 
-ghost use Rattle.std.specs.Prelude.{◌≡◌, ◌<◌, ◌^◌, ◌||◌, ◌++◌, ◌∷◌, [], List, ℕ, true, Some, OnOk, MatchOption, decimal, bit_xor};
-ghost use Rattle.keep_loop.specs.Taken.{hex_digit, hex_digits, check_line, tick_line, stored_word, tick_word, begins_with, is_check, NoSpace, IsWithin, IsTick, AreTicks};
+ghost use Rattle.std.specs.Prelude.{◌≡◌, ◌<◌, ◌^◌, ◌++◌, ◌∷◌, [], List, ℕ, Some, OnOk, MatchOption, decimal, bit_xor};
+ghost use Rattle.keep_loop.specs.Taken.{hex_digit, hex_digits, check_line, begins_with, is_check, NoSpace};
 
 use crate::crc::crc_end;
 use std::alloc::AllocError;
@@ -12,9 +12,6 @@ pub const FRONT_WORD: &[u8] = b"front ";
 
 /// What the last line of a round begins with.
 pub const STORED_WORD: &[u8] = b"stored ";
-
-/// What a line begins with that tells when calls were last made by the clock.
-pub const TICK_WORD: &[u8] = b"tick ";
 
 // Adds a digit of a hexadecimal number.
 fn push_digit(out: &mut Vec<u8>, digit: u8) -> Result<(), AllocError>
@@ -64,17 +61,6 @@ pub fn push_check(out: &mut Vec<u8>, word: &[u8], size: u64, crc: u32) -> Result
     Ok(out.push(b'\n')?)
 }
 
-/// Adds the line with these words that tells of calls by the clock, and the CRC-32C whose number before the last step is this
-/// one.
-#[tactic(auto, using(crate::proofs::Digits::tick_joined))]
-pub fn push_tick(out: &mut Vec<u8>, words: &[u8], crc: u32) -> Result<(), AllocError>
-    ensures { OnOk result (out.new.items ≡ out.old.items ++ tick_line words.now (bit_xor crc 4294967295)) }
-{
-    out.extend_from_slice(words)?;
-    push_hex(out, crc_end(crc), 8)?;
-    Ok(out.push(b'\n')?)
-}
-
 /// Whether a text begins with a word.
 #[tactic(auto, using(crate::proofs::Digits::begins_none))]
 pub fn begins_with(word: &[u8], text: &[u8]) -> bool
@@ -91,41 +77,7 @@ pub fn begins_with(word: &[u8], text: &[u8]) -> bool
 pub fn is_check(line: &[u8]) -> bool
     ensures { result ≡ is_check line.now }
 {
-    begins_with(FRONT_WORD, line) || is_behind_front(line)
-}
-
-// Whether this line ends a round, or tells of calls by the clock.
-fn is_behind_front(line: &[u8]) -> bool
-    ensures { result ≡ (begins_with stored_word line.now || begins_with tick_word line.now) }
-{
-    begins_with(STORED_WORD, line) || begins_with(TICK_WORD, line)
-}
-
-// Whether no byte is 0 or ends a line.
-fn is_within(bytes: &[u8]) -> bool
-    ensures { result ≡ true → IsWithin bytes.now }
-{
-    match bytes {
-        [] => true,
-        [byte, rest @ ..] => *byte != 0 && *byte != b'\n' && is_within(rest),
-    }
-}
-
-/// Whether these are words of a line that tells of calls by the clock: they begin with `tick `, and no byte is 0 or ends a line.
-pub fn is_tick(words: &[u8]) -> bool
-    ensures { result ≡ true → IsTick words.now }
-{
-    begins_with(TICK_WORD, words) && is_within(words)
-}
-
-/// The same, or none.
-pub fn are_ticks(words: &[u8]) -> bool
-    ensures { result ≡ true → AreTicks words.now }
-{
-    match words {
-        [] => true,
-        [_, ..] => is_tick(words),
-    }
+    begins_with(FRONT_WORD, line) || begins_with(STORED_WORD, line)
 }
 
 /// What stands in a text behind a word with which it begins.

@@ -142,7 +142,7 @@ fn has_check(text: &[u8]) -> bool
     false
 }
 
-/// Whether lines can be added to a journal: they are whole, no byte is 0, and none begins with `front `, `stored ` or `tick `.
+/// Whether lines can be added to a journal: they are whole, no byte is 0, and none begins with `front ` or `stored `.
 pub fn are_plain(bytes: &[u8]) -> bool
     ensures { result ≡ true → ArePlain bytes.now }
 {

@@ -1,17 +1,16 @@
 //! The file of a journal: lines of text, and then bytes that are 0. What a crash leaves of it are whole lines: all that
 //! were stored, and maybe some more of those that were added since, in order.
 
-ghost use Rattle.std.specs.Prelude.{◌≡◌, ◌⊎◌, ◌<◌, ◌≤◌, ◌^◌, ◌+◌, ◌++◌, [], List, ℕ, length, take, bit_xor, IfOk, OnOk, OnErr};
+ghost use Rattle.std.specs.Prelude.{◌≡◌, ◌⊎◌, ◌<◌, ◌≤◌, ◌^◌, ◌+◌, ◌++◌, [], List, ℕ, length, take, IfOk, OnOk, OnErr};
 ghost use Rattle.std.specs.Prelude.{IfErr, IsErrOf, Some, true, false};
 ghost use lib.ListN.{replicate};
 ghost use Rattle.keep_loop.specs.Device.{IsOnDisk, LeavesOnly, Rises};
 ghost use Rattle.keep_loop.specs.Journal.{recovered, AreLines};
 ghost use Rattle.keep_loop.specs.Order.{Fills};
-ghost use Rattle.keep_loop.specs.Crc.{crc_more};
-ghost use Rattle.keep_loop.specs.Taken.{ArePlain, AreTicks, IsFront, IsTick, Tells, TellsBetween, in_file, in_file_ticked, tick_line};
+ghost use Rattle.keep_loop.specs.Taken.{ArePlain, IsFront, Tells, TellsBetween, in_file};
 ghost use Rattle.keep_loop.specs.declared.device.DeviceError.TheVariants.{Full, Failed};
 
-use crate::check_lines::{FRONT_WORD, STORED_WORD, push_check, push_tick};
+use crate::check_lines::{FRONT_WORD, STORED_WORD, push_check};
 use crate::crc::{CRC_START, CrcTable};
 use crate::device::{Device, DeviceError};
 use crate::head::with_form;
@@ -65,23 +64,6 @@ fn fill(
         return Ok((crc, checks));
     }
     Ok((CRC_START, checks - check))
-}
-
-// Puts the line with these words that tells of calls by the clock into a buffer, behind lines of this number, and says how long
-// it is.
-fn fill_tick(
-    table: &CrcTable,
-    buffer: &mut Vec<u8>,
-    words: &[u8],
-    crc: u32,
-) -> Result<usize, AllocError>
-    ensures line { OnOk result (buffer.new.items ≡ tick_line words.now (bit_xor (crc_more crc words.now) 4294967295)) }
-    ensures size { IfOk result (λ size. size ≡ length buffer.new.items) }
-{
-    let crc = table.more(crc, words);
-    buffer.clear();
-    push_tick(buffer, words, crc)?;
-    Ok(buffer.len())
 }
 
 impl<D: Device> Journal<D> {
@@ -150,36 +132,6 @@ impl<D: Device> Journal<D> {
         Ok(())
     }
 
-    /// Adds the line with these words that tells of calls by the clock, which is no line of the object. Where there is no room
-    /// for it nothing changes. It is not on the disk before the next sync. `Err`: what the device said, `Failed` or `Memory`,
-    /// and the file is to be opened again.
-    pub fn tick(&mut self, words: &[u8]) -> Result<(), DeviceError>
-        requires in_order { IsInOrder D.seen D.may_leave self.old }
-        requires words { IsTick words.now }
-
-        ensures in_order { OnOk result (IsInOrder D.seen D.may_leave self.new) }
-        // All lines of the object stay.
-        ensures same { OnOk result ((stored text : List ℕ) → Holds D.seen self.old stored text
-            → Holds D.seen self.new stored text) }
-
-        ensures any_moment { (stored text : List ℕ) → Holds D.seen self.old stored text
-            → LeavesOnly D.moment D.left_since self.old.device self.new.device
-            (λ c. TellsBetween stored text c) }
-
-        ensures full { IsErrOf result Full → ⊥ }
-        ensures failed { IsErrOf result Failed → Rises (D.faults self.old.device) (D.faults self.new.device) }
-    {
-        let size = fill_tick(&self.table, &mut self.buffer, words, self.crc)?;
-        if size > self.checks {
-            return Ok(());
-        }
-        self.device.write_at(self.size, &self.buffer)?;
-        self.size += size;
-        self.checks -= size;
-        self.crc = CRC_START;
-        Ok(())
-    }
-
     /// Stores all lines: from then on each crash leaves a file that has them. `Err`: what the device said, `Failed` or
     /// `Memory`, and the file is to be opened again.
     pub fn sync(&mut self) -> Result<(), DeviceError>
@@ -232,41 +184,20 @@ fn front_of(alloc: Global, table: &CrcTable, front: &[u8]) -> Result<Vec<u8>, Al
     Ok(file)
 }
 
-// The same, and behind it these words of calls by the clock, where there are some.
-fn opened(
-    alloc: Global,
-    table: &CrcTable,
-    front: &[u8],
-    ticks: &[u8],
-) -> Result<Vec<u8>, AllocError>
-    requires { IsFront front.now }
-    ensures { IfOk result (λ file. file.items ≡ in_file_ticked front.now ticks.now) }
-{
-    let mut file = front_of(alloc, table, front)?;
-    match ticks {
-        [] => Ok(file),
-        [_, ..] => {
-            push_tick(&mut file, ticks, table.more(CRC_START, ticks))?;
-            Ok(file)
-        }
-    }
-}
-
-// A file with this front and these words, and so many bytes behind them that are 0, with those for check lines; and how many
-// bytes the front and the words have in it.
+// A file with this front, and so many bytes behind it that are 0, with those for check lines; and how many bytes the front
+// has in it.
 fn file_of(
     alloc: Global,
     table: &CrcTable,
     front: &[u8],
-    ticks: &[u8],
     room: usize,
 ) -> Result<(Vec<u8>, usize), AllocError>
     requires front { IsFront front.now }
     requires small { room < 2 ^ 62 }
-    ensures { IfOk result (λ made. (made.0.items ≡ in_file_ticked front.now ticks.now ++ replicate (room + 2359296) 0)
-        × (made.1 ≡ length (in_file_ticked front.now ticks.now))) }
+    ensures { IfOk result (λ made. (made.0.items ≡ in_file front.now ++ replicate (room + 2359296) 0)
+        × (made.1 ≡ length (in_file front.now))) }
 {
-    let mut file = opened(alloc, table, front, ticks)?;
+    let mut file = front_of(alloc, table, front)?;
     let size = file.len();
     file.resize(size + room + CHECK_ROOM, 0)?;
     Ok((file, size))
@@ -275,19 +206,16 @@ fn file_of(
 impl<D: Device> Journal<D> {
     ghost use Rattle.keep_loop.specs.Order.{IsInOrder, Holds};
 
-    /// Begins a journal with this front, these words of calls by the clock, or none, and room for so many bytes behind them:
-    /// front and room together fewer than 2^62. A crash at any moment leaves what it might have left before, or the front with
-    /// the words. `Err`: `Memory`, or `Failed` where the device failed or
+    /// Begins a journal with this front, and room for so many bytes behind it: together fewer than 2^62. A crash at any
+    /// moment leaves what it might have left before, or the front. `Err`: `Memory`, or `Failed` where the device failed or
     /// could not begin; the device is handed back, and its file is the old one or the new one.
     pub fn begin(
         alloc: Global,
         device: D,
         front: &[u8],
-        ticks: &[u8],
         room: usize,
     ) -> Result<Journal<D>, (DeviceError, D)>
         requires lines { IsFront front.now }
-        requires ticks { AreTicks ticks.now }
         requires small { length front.now + room < 2 ^ 62 }
 
         ensures in_order { IfOk result (λ journal. IsInOrder D.seen D.may_leave journal) }
@@ -302,7 +230,7 @@ impl<D: Device> Journal<D> {
         let Ok(table) = CrcTable::new(alloc) else {
             return Err((DeviceError::Memory, device));
         };
-        let Ok((file, size)) = file_of(alloc, &table, front, ticks, room) else {
+        let Ok((file, size)) = file_of(alloc, &table, front, room) else {
             return Err((DeviceError::Memory, device));
         };
         match device.replace(&file) {
@@ -321,20 +249,13 @@ impl<D: Device> Journal<D> {
         }
     }
 
-    /// Begins the file anew with this front and these words of calls by the clock, or none, in place of all lines, and room for
-    /// so many bytes behind them: front and room together fewer than 2^62. `false`: memory or the disk had no room for it, and the journal is as it was. A crash at any
+    /// Begins the file anew with this front, in place of all lines, and room for so many bytes behind it: together
+    /// fewer than 2^62. `false`: memory or the disk had no room for it, and the journal is as it was. A crash at any
     /// moment leaves lines of before, all that were stored among them, or the front; where it answers `false`, lines of
     /// before. `Err`: `Memory`, or `Failed` of the device; the file is to be opened again.
-    pub fn change(
-        &mut self,
-        alloc: Global,
-        front: &[u8],
-        ticks: &[u8],
-        room: usize,
-    ) -> Result<bool, DeviceError>
+    pub fn change(&mut self, alloc: Global, front: &[u8], room: usize) -> Result<bool, DeviceError>
         requires in_order { IsInOrder D.seen D.may_leave self.old }
         requires lines { IsFront front.now }
-        requires ticks { AreTicks ticks.now }
         requires small { length front.now + room < 2 ^ 62 }
 
         ensures in_order { OnOk result (IsInOrder D.seen D.may_leave self.new) }
@@ -350,7 +271,7 @@ impl<D: Device> Journal<D> {
             (λ c. TellsBetween stored text c))) }
         ensures failed { IsErrOf result Failed → Rises (D.faults self.old.device) (D.faults self.new.device) }
     {
-        let Ok((file, size)) = file_of(alloc, &self.table, front, ticks, room) else {
+        let Ok((file, size)) = file_of(alloc, &self.table, front, room) else {
             return Ok(false);
         };
         match self.device.replace(&file) {

@@ -168,11 +168,6 @@ pub trait Outside {
     fn append(&mut self, journal: usize, lines: &[u8]) -> Result<(), Fault>
         ensures { Grows (Added journal lines.now) (seen self.old) (seen self.new) };
 
-    /// Has a journal tell these words of calls by the clock, in this epoch and at the beginning of the next one, where it does
-    /// not yet: they are no lines of the object.
-    fn tell_ticks(&mut self, journal: usize, words: &[u8]) -> Result<(), Fault>
-        ensures { seen self.new ≡ seen self.old };
-
     /// Stores all that a journal was handed.
     fn sync(&mut self, journal: usize) -> Result<(), Fault>
         ensures ok { OnOk result (Grows (Stored journal) (seen self.old) (seen self.new)) }

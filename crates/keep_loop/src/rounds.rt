@@ -430,50 +430,6 @@ fn store<O: Served, W: Outside>(keep: &Keep<O>, outside: &mut W) -> Result<(), F
     Ok(())
 }
 
-// Has a journal tell when its calls were last made by the clock. What is in `words` counts for nothing.
-fn tell_ticks_of<O: Served, W: Outside>(
-    keep: &Keep<O>,
-    outside: &mut W,
-    journal: usize,
-    words: &mut Vec<u8>,
-) -> Result<(), Fault>
-    ensures { W.seen outside.new ≡ W.seen outside.old }
-{
-    keep.object.ticks(journal, words)?;
-    if words.is_empty() {
-        return Ok(());
-    }
-    outside.tell_ticks(journal, words)
-}
-
-// The same, of all journals.
-fn tell_all_ticks<O: Served, W: Outside>(
-    keep: &Keep<O>,
-    outside: &mut W,
-    words: &mut Vec<u8>,
-) -> Result<(), Fault>
-    ensures { W.seen outside.new ≡ W.seen outside.old }
-{
-    for journal in 0..keep.post.journals() {
-        tell_ticks_of(keep, outside, journal, words)?;
-    }
-    Ok(())
-}
-
-// The same: no line of an object comes of it.
-#[tactic(auto, using(crate::proofs::Kept::keeps_seen, crate::proofs::Kept::fails_quiet))]
-fn tell_ticks<O: Served, W: Outside>(
-    keep: &Keep<O>,
-    outside: &mut W,
-    words: &mut Vec<u8>,
-) -> Result<(), Fault>
-    ensures ok { OnOk result (Keeps (rules_of O.gives O.fronts) (W.seen outside.old) keep.now (W.seen outside.new) keep.now) }
-    ensures err { OnErr result (Fails (rules_of O.gives O.fronts) (W.seen outside.old) keep.now (W.seen outside.new)) }
-{
-    tell_all_ticks(keep, outside, words)?;
-    Ok(())
-}
-
 // Has the object looked at, between two turns.
 #[tactic(auto, using(crate::proofs::Kept::keeps_seen))]
 fn show<O: Served + Visible, W: Outside>(keep: &Keep<O>, outside: &mut W)
@@ -510,7 +466,6 @@ fn round<O: Served + Visible, W: Outside>(
     ensures err { OnErr result (Fails (rules_of O.gives O.fronts) (W.seen outside.old) keep.old (W.seen outside.new)) }
 {
     listen(keep, outside, piece)?;
-    tell_ticks(keep, outside, piece)?;
     settle(keep, outside)?;
     send(keep, outside)?;
     store(keep, outside)?;
@@ -618,7 +573,6 @@ fn serve<O: Served + Visible, W: Outside>(
     for _round in 0..rounds {
         if !go_on(keep, outside, piece)? {
             finish_shown(keep, outside)?;
-            tell_ticks(keep, outside, piece)?;
             return Ok(());
         }
     }

@@ -62,11 +62,6 @@ pub trait Served {
     /// sends no more, and it may not be read, it is over then.
     fn waits(&self, who: u64) -> bool;
 
-    /// Puts words that tell when the calls of a journal's object were last made by the clock in place of what is in `words`: none
-    /// where none was made, else `tick ` and then, each with a space behind it, operations with their times. The error is that
-    /// memory was refused.
-    fn ticks(&self, journal: usize, words: &mut Vec<u8>) -> Result<(), AllocError>;
-
     /// This front stands for what the lines of this journal tell.
     ghost fronts: { Self → ℕ → List ℕ → Type 0 };
 

@@ -5,7 +5,7 @@ ghost use Rattle.answer_core.specs.Status.{IsFault};
 
 use crate::before::strangers;
 use crate::belief::Belief;
-use crate::custody::{AllRules, StartTime, add_held};
+use crate::custody::{AllRules, add_held};
 use crate::cuts::{CutFile, keep_cuts};
 use crate::ending::say;
 use crate::folder::FolderNames;
@@ -13,7 +13,6 @@ use crate::lines::object_line;
 use crate::notes::{note_shared, note_strangers};
 use crate::one::{Begun, StartPlace, begin_one};
 use crate::sources::texts_of;
-use crate::status::seconds_now;
 use crate::stuck::stuck_lines;
 use answer_core::answer::REFUSED;
 use answer_core::explanation::explained;
@@ -31,7 +30,6 @@ use device_core::dir_shelf::DirShelf;
 use guest_core::held::Holds;
 use keep_log::log::Log;
 use live_core::hosted::Hosted;
-use mio_core::journals::FirstLines;
 use std::alloc::{AllocError, Global};
 use std::io::Write;
 use value_core::write_whole;
@@ -47,7 +45,7 @@ pub struct KeptObjects {
     /// What FILE says of each.
     pub texts: Vec<Vec<u8>>,
     /// What the journal of each begins with.
-    pub fronts: Vec<FirstLines>,
+    pub fronts: Vec<Vec<u8>>,
     /// What is held of each; of none where no object has rules.
     pub custody: AllHeld,
 }
@@ -69,13 +67,11 @@ struct KeepStart {
     kept: KeptObjects,
     cuts: Vec<CutFile>,
     told: Vec<u8>,
-    // In which second since 1970 it is.
-    now: u64,
 }
 
 impl KeepStart {
-    // Before the first object, in this second since 1970.
-    fn new(alloc: Global, rules: Vec<Rules>, texts: Vec<Vec<u8>>, now: u64) -> KeepStart {
+    // Before the first object.
+    fn new(alloc: Global, rules: Vec<Rules>, texts: Vec<Vec<u8>>) -> KeepStart {
         KeepStart {
             rules: AllRules::new(rules),
             kept: KeptObjects {
@@ -87,7 +83,6 @@ impl KeepStart {
             },
             cuts: Vec::new(alloc),
             told: Vec::new(alloc),
-            now,
         }
     }
 
@@ -102,7 +97,7 @@ impl KeepStart {
     ) -> Result<(), AllocError> {
         match begun {
             Begun::Told(line) => self.told.extend_from_slice(&line),
-            Begun::Ready(hosted, held, ticks, cut) => {
+            Begun::Ready(hosted, held, cut) => {
                 if let Some(cut) = cut {
                     self.cuts.push(cut)?;
                 }
@@ -111,7 +106,7 @@ impl KeepStart {
                 } else {
                     None
                 };
-                self.add(alloc, hosted, name, ruled, away, &ticks)
+                self.add(alloc, hosted, name, ruled, away)
             }
         }
     }
@@ -125,14 +120,8 @@ impl KeepStart {
         name: String,
         ruled: Option<(Rules, Holds)>,
         away: u64,
-        ticks: &[u8],
     ) -> Result<(), AllocError> {
-        let time = StartTime {
-            away,
-            now: self.now,
-            ticks,
-        };
-        match add(alloc, &mut self.kept, hosted, name, ruled, time)? {
+        match add(alloc, &mut self.kept, hosted, name, ruled, away)? {
             Some(line) => self.told.extend_from_slice(&line),
             None => Ok(()),
         }
@@ -174,7 +163,6 @@ impl KeepStart {
             kept,
             cuts,
             told,
-            now: _,
         } = self;
         if told.is_empty() {
             return Ok((kept, cuts));
@@ -240,7 +228,7 @@ fn begin_all<E: Write, L: Write>(
     let journals = place.names.journals(alloc)?;
     note_shared(place.rt, place.folder, error, log)?;
     note_strangers(alloc, place.folder, &journals, &names, error, log)?;
-    let mut start = KeepStart::new(alloc, rules, texts, seconds_now(place.rt));
+    let mut start = KeepStart::new(alloc, rules, texts);
     begin_each(place, accepted, &mut start, error, log)?;
     match start.end() {
         Ok((kept, cuts)) => {
@@ -259,10 +247,9 @@ fn add(
     mut hosted: Hosted,
     name: String,
     ruled: Option<(Rules, Holds)>,
-    time: StartTime<'_>,
+    away: u64,
 ) -> Result<Option<Vec<u8>>, AllocError> {
     let mut front = Vec::new(alloc);
-    let mut ticks = Vec::new(alloc);
     if !hosted.push_first(&mut front)? {
         let line = object_line(alloc, name.as_str(), b" past does not fit\n")?;
         return Ok(Some(line));
@@ -274,12 +261,11 @@ fn add(
             &mut hosted,
             rules,
             held,
-            time,
+            away,
             &mut front,
-            &mut ticks,
         )?;
     }
-    put(kept, hosted, name, FirstLines { front, ticks })?;
+    put(kept, hosted, name, front)?;
     Ok(None)
 }
 
@@ -288,9 +274,9 @@ fn put(
     kept: &mut KeptObjects,
     hosted: Hosted,
     name: String,
-    first: FirstLines,
+    front: Vec<u8>,
 ) -> Result<(), AllocError> {
-    kept.fronts.push(first)?;
+    kept.fronts.push(front)?;
     kept.names.push(name)?;
     kept.objects.push(hosted)?;
     Ok(())

@@ -4,14 +4,12 @@ use crate::lines::count_lines;
 use crate::one::{LIMITS, NAMES};
 use client_core::all::AllHeld;
 use client_core::holding::Holding;
-use client_core::ticking::last_told;
 use decl_core::hold::Rules;
 use decl_core::object::Object;
 use front_read::hold_lines::push_held;
 use guest_core::held::Holds;
 use keep_core::start::{NotBegun, begin_behind};
 use live_core::hosted::Hosted;
-use path_tree::node::OpId;
 use recover_core::past::{ends_in, play_held};
 use recover_core::recover::{House, RecoverFault};
 use recover_core::text::{HeldFront, cut_held, read_held};
@@ -147,51 +145,19 @@ fn begin_plain(
     }
 }
 
-/// How a start stands in time.
-#[derive(Clone, Copy)]
-pub(crate) struct StartTime<'a> {
-    /// How many seconds who is gone holds something.
-    pub(crate) away: u64,
-    /// In which second since 1970 it is.
-    pub(crate) now: u64,
-    /// The words by which the journal of an object tells of calls by the clock, or none.
-    pub(crate) ticks: &'a [u8],
-}
-
-// The name of an operation; no bytes where there is none.
-fn name_of(object: &Object, op: OpId) -> &[u8] {
-    match object.operations.get(op as usize) {
-        Some(operation) => operation.name.as_bytes(),
-        None => &[],
-    }
-}
-
-// The calls of an object that are made again and again go on behind those of which its journal tells.
-fn resume_ticks(holding: &mut Holding, hosted: &Hosted, time: StartTime<'_>) {
-    for place in 0..holding.rules().everies.len() {
-        let op = holding.rules().everies[place].op;
-        let last = last_told(time.ticks, name_of(hosted.live().object(), op));
-        holding.resumed(place, time.now, last);
-    }
-}
-
 /// Adds what is held of an object that has begun to that of the others, and its lines to its front: who holds something is
-/// gone. What the journal is to tell of calls by the clock is put in place of what is in `ticks`. The error is that memory was
-/// refused.
+/// gone. The error is that memory was refused.
 pub(crate) fn add_held(
     alloc: Global,
     custody: &mut AllHeld,
     hosted: &mut Hosted,
     rules: Rules,
     held: Holds,
-    time: StartTime<'_>,
+    away: u64,
     front: &mut Vec<u8>,
-    ticks: &mut Vec<u8>,
 ) -> Result<(), AllocError> {
-    let mut holding = Holding::new(alloc, rules, held, time.away)?;
+    let mut holding = Holding::new(alloc, rules, held, away)?;
     holding.begin(hosted, 0)?;
-    resume_ticks(&mut holding, hosted, time);
-    holding.tell_ticks(hosted.live().object(), ticks)?;
     push_held(
         front,
         hosted.live().object(),

@@ -32,7 +32,6 @@ use recover_core::recover::RecoverFault;
 use std::io::Write;
 use taken_core::room::is_cut_off;
 use taken_core::taken::{TakeFault, TakenFile, take_file};
-use taken_core::ticks::last_ticks;
 
 /// So many names an object knows before a new one takes the place of another.
 pub(crate) const NAMES: u16 = 4_096;
@@ -43,10 +42,10 @@ pub(crate) const LIMITS: Limits = Limits {
     waiting: 10_000,
 };
 
-/// One object with what is held of it, the words by which its journal tells of calls by the clock, or none, and the file of its
-/// journal where a part of that is cut off; or the line that says why it is not kept.
+/// One object with what is held of it, and the file of its journal where a part of that is cut off; or the line that says why
+/// it is not kept.
 pub(crate) enum Begun {
-    Ready(Hosted, Holds, Vec<u8>, Option<CutFile>),
+    Ready(Hosted, Holds, Option<CutFile>),
     Told(Vec<u8>),
 }
 
@@ -233,8 +232,7 @@ fn begin_taken<L: Write>(
     match begin_held(alloc, object, rules, taken.format, lines, place.forget)? {
         Ok((hosted, held)) => {
             log.recovered(name.as_bytes(), lines.len() as u64, count_lines(lines));
-            let ticks = last_ticks(bytes).to_vec(alloc)?;
-            Ok(Begun::Ready(hosted, held, ticks, cut))
+            Ok(Begun::Ready(hosted, held, cut))
         }
         Err(NotBegun::Refused(fault)) => {
             let said = refused(place, name, text, lines, bytes, fault)?;
@@ -295,7 +293,7 @@ fn begin_new<L: Write>(
     match begin_first(alloc, object, &done, values, NAMES, place.forget, LIMITS) {
         Ok(hosted) => {
             log.begun(name.as_bytes());
-            Ok(Begun::Ready(hosted, Holds::new(alloc), Vec::new(alloc), None))
+            Ok(Begun::Ready(hosted, Holds::new(alloc), None))
         }
         Err(NotBegun::Memory) => Err(ToolFailure::Memory),
         Err(_) => Ok(Begun::Told(object_line(alloc, name, b" past does not fit\n")?)),

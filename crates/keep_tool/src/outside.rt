@@ -20,7 +20,7 @@ use keep_log::shown::Showing;
 use keep_loop::LoopLimits;
 use live_core::hosted::MOST_LINES;
 use mio_core::clock::Intervals;
-use mio_core::journals::{FirstJournals, FirstLines, Journals, JournalsFault};
+use mio_core::journals::{FirstJournals, Journals, JournalsFault};
 use mio_core::stream::ClientListener;
 use mio_core::traces::epoch_of;
 use mio_core::wires::{ServeOptions, WireStart, Wires};
@@ -71,12 +71,12 @@ fn logged_of(alloc: Global, names: &[String]) -> Result<Vec<LoggedJournal>, Allo
 fn journals_of(
     alloc: Global,
     names: &[String],
-    fronts: &[FirstLines],
+    fronts: &[Vec<u8>],
 ) -> Result<Vec<Stored>, AllocError> {
     let mut all = Vec::with_capacity(alloc, names.len())?;
     for at in 0..names.len() {
         let front: &[u8] = match fronts.get(at) {
-            Some(first) => first.front.as_slice(),
+            Some(front) => front,
             None => &[],
         };
         all.push(Stored {
@@ -148,7 +148,7 @@ fn unbegun(fault: JournalsFault) -> ToolFailure
 fn outside_of(
     rt: &HostRuntime,
     names: &[String],
-    fronts: &[FirstLines],
+    fronts: &[Vec<u8>],
     asked: Keeping<'_>,
     watching: Watching,
     listener: ClientListener,
@@ -181,7 +181,7 @@ fn outside_of(
 fn begin_told<W: Write, L: Write>(
     rt: &HostRuntime,
     names: &[String],
-    fronts: &[FirstLines],
+    fronts: &[Vec<u8>],
     asked: Keeping<'_>,
     watching: Watching,
     listener: ClientListener,
@@ -211,7 +211,7 @@ fn begin_told<W: Write, L: Write>(
 pub fn begin_outside<W: Write, L: Write>(
     rt: &HostRuntime,
     names: &[String],
-    fronts: &[FirstLines],
+    fronts: &[Vec<u8>],
     asked: Keeping<'_>,
     watching: Watching,
     listener: ClientListener,

@@ -1,14 +1,13 @@
 //! Journals, each in order or shut for ever, and the files of the epochs that they had before.
 
 ghost use Rattle.std.specs.Prelude.{◌<◌, ◌+◌, ◌^◌, length};
-ghost use Rattle.keep_loop.specs.Taken.{ArePlain, AreTicks, IsFront, IsTick};
+ghost use Rattle.keep_loop.specs.Taken.{ArePlain, IsFront};
 
 use crate::ahead::Ahead;
 use crate::own::OwnFiles;
 use crate::traces::{Traces, epoch_of};
 use cause_core::cause::{Cause, cause_of};
 use cause_core::fault::{FileFault, FileTask, push_fault};
-use keep_loop::check_lines::{are_ticks, is_tick};
 use keep_loop::device::{Device, DeviceError};
 use keep_loop::folder::FolderFile;
 use keep_loop::head::{are_plain, is_front};
@@ -28,15 +27,6 @@ pub struct Ordered<R: Files + AllocGlobal> {
     // Whether lines were added since it was stored.
     is_loose: bool,
     ghost fits: { journal.size + journal.room + journal.checks < 2 ^ 63 },
-}
-
-/// What a journal begins with.
-#[derive(Drop)]
-pub struct FirstLines {
-    /// Its front.
-    pub front: Vec<u8>,
-    /// Words that tell when calls were last made by the clock, or none.
-    pub ticks: Vec<u8>,
 }
 
 // Which epoch a journal tells of, and how many bytes its lines have in the file.
@@ -76,8 +66,6 @@ pub struct Journals<R: Files + AllocGlobal> {
     journals: Vec<Option<Ordered<R>>>,
     // Of each journal.
     lines: Vec<Lines>,
-    // Of each journal the words that it tells of calls by the clock, or none.
-    ticks: Vec<Vec<u8>>,
     traces: Traces<R>,
     // What stands ready for the epochs to come.
     ahead: Ahead<R>,
@@ -96,22 +84,17 @@ fn lines_of(lines: &[u8]) -> Option<Lines> {
     })
 }
 
-// A journal that begins with this front and these words of calls by the clock; or why it cannot, and its file.
+// A journal that begins with this front; or why it cannot, and its file.
 fn begin_one<R: Files + AllocGlobal + Drop>(
     alloc: Global,
     file: OwnFile<R>,
-    first: &FirstLines,
+    front: &[u8],
     room: usize,
 ) -> Result<Ordered<R>, (DeviceError, OwnFile<R>)> {
-    let front = first.front.as_slice();
-    let ticks = first.ticks.as_slice();
-    if !are_ticks(ticks) {
-        return Err((DeviceError::Full, file));
-    }
     if !is_front(front) || front.len() > MOST_ROOM || room > MOST_ROOM {
         return Err((DeviceError::Full, file));
     }
-    match Journal::begin(alloc, file, front, ticks, room) {
+    match Journal::begin(alloc, file, front, room) {
         Ok(journal) => Ok(Ordered {
             journal,
             is_loose: false,
@@ -242,22 +225,15 @@ type OrFailed<T, R> = Result<T, (DeviceError, OwnFile<R>)>;
 
 impl<R: Files + AllocGlobal + Drop> Ordered<R> {
     // Begun anew, or as it was where it could not, and whether it went.
-    fn change(
-        self,
-        alloc: Global,
-        front: &[u8],
-        ticks: &[u8],
-        room: usize,
-    ) -> OrFailed<(Ordered<R>, bool), R>
+    fn change(self, alloc: Global, front: &[u8], room: usize) -> OrFailed<(Ordered<R>, bool), R>
         requires lines { IsFront front.now }
-        requires ticks { AreTicks ticks.now }
         requires small { length front.now + room < 2 ^ 62 }
     {
         let Ordered {
             mut journal,
             is_loose,
         } = self;
-        match journal.change(alloc, front, ticks, room) {
+        match journal.change(alloc, front, room) {
             Ok(went) => Ok((
                 Ordered {
                     journal,
@@ -286,23 +262,6 @@ impl<R: Files + AllocGlobal + Drop> Ordered<R> {
         }
     }
 
-    // With the line of these words, which tells of calls by the clock.
-    fn tick(self, words: &[u8]) -> OrFailed<Ordered<R>, R>
-        requires { IsTick words.now }
-    {
-        let Ordered {
-            mut journal,
-            is_loose: _,
-        } = self;
-        match journal.tick(words) {
-            Ok(()) => Ok(Ordered {
-                journal,
-                is_loose: true,
-            }),
-            Err(error) => Err((error, journal.into_device())),
-        }
-    }
-
     // With all lines on the disk.
     fn sync(self) -> OrFailed<Ordered<R>, R> {
         let Ordered {
@@ -323,7 +282,7 @@ impl<R: Files + AllocGlobal + Drop> Ordered<R> {
 }
 
 impl<R: Files + AllocGlobal + Copy + Eprint + Drop> Journals<R> {
-    /// Journals of these names in a folder, each begun anew with its first lines, and room for so many bytes behind it. An epoch
+    /// Journals of these names in a folder, each begun anew with its front, and room for so many bytes behind it. An epoch
     /// that ends is kept in a file of its own (`traces`); these files have so many bytes at most, all together.
     ///
     /// A failure is `Folder` where a journal could not be opened, read or begun, or its front is none, or too
@@ -332,7 +291,7 @@ impl<R: Files + AllocGlobal + Copy + Eprint + Drop> Journals<R> {
         rt: R,
         folder: &str,
         names: &[String],
-        fronts: &[FirstLines],
+        fronts: &[Vec<u8>],
         room: usize,
         most: u64,
     ) -> Result<Journals<R>, JournalsFault> {
@@ -362,7 +321,6 @@ impl<R: Files + AllocGlobal + Copy + Eprint + Drop> Journals<R> {
             room,
             journals: Vec::new(alloc),
             lines: Vec::new(alloc),
-            ticks: Vec::new(alloc),
             traces,
             ahead,
             cause: Cause::Unknown,
@@ -374,11 +332,11 @@ impl<R: Files + AllocGlobal + Copy + Eprint + Drop> Journals<R> {
         &mut self,
         folder: &str,
         names: &[String],
-        fronts: &[FirstLines],
+        fronts: &[Vec<u8>],
     ) -> Result<(), JournalsFault> {
         for at in 0..names.len() {
             match fronts.get(at) {
-                Some(first) => self.add(folder, names[at].as_str(), first)?,
+                Some(front) => self.add(folder, names[at].as_str(), front.as_slice())?,
                 None => return Err(JournalsFault::Memory),
             }
         }
@@ -398,12 +356,12 @@ impl<R: Files + AllocGlobal + Copy + Eprint + Drop> Journals<R> {
     }
 
     // Begins one more.
-    fn add(&mut self, folder: &str, name: &str, first: &FirstLines) -> Result<(), JournalsFault> {
+    fn add(&mut self, folder: &str, name: &str, front: &[u8]) -> Result<(), JournalsFault> {
         let at = self.journals.len();
         let (file, before) = self.opened(folder, name)?;
         let ending = lines_of(&before[..recovered_len(&before)]);
         let is_linked = self.link(at, ending);
-        let begun = match begin_one(self.alloc, file, first, self.room) {
+        let begun = match begin_one(self.alloc, file, front, self.room) {
             Ok(begun) => begun,
             Err((error, file)) => return Err(unbegun(&self.rt, error, &file)),
         };
@@ -414,10 +372,9 @@ impl<R: Files + AllocGlobal + Copy + Eprint + Drop> Journals<R> {
         self.ahead.changed(at, size, true);
         self.journals.push(Some(begun))?;
         self.lines.push(Lines {
-            epoch: epoch_of(&first.front).unwrap_or(0),
+            epoch: epoch_of(front).unwrap_or(0),
             size: size as u64,
         })?;
-        self.ticks.push(first.ticks.to_vec(self.alloc)?)?;
         Ok(())
     }
 }
@@ -537,46 +494,6 @@ impl<R: Files + AllocGlobal + Eprint + Drop> Journals<R> {
         is_there
     }
 
-    // The words that a journal tells of calls by the clock; none where it tells of none.
-    fn ticks_at(&self, at: usize) -> &[u8] {
-        match self.ticks.get(at) {
-            Some(words) => words.as_slice(),
-            None => &[],
-        }
-    }
-
-    // A journal tells these words of calls by the clock from now on.
-    fn note_ticks(&mut self, at: usize, words: Vec<u8>) {
-        if let Some(row) = self.ticks.get_mut(at) {
-            *row = words;
-        }
-    }
-
-    /// Has a journal tell these words of calls by the clock, where it does not yet: behind what it has, and at the beginning of
-    /// the next epoch. `false`: they are no such words, or it failed; it is shut then. Standard error is told with which file,
-    /// and why, but where memory was refused.
-    pub fn tell_ticks(&mut self, at: usize, words: &[u8]) -> bool {
-        if self.ticks_at(at) == words {
-            return true;
-        }
-        if !is_tick(words) {
-            self.refuse(at);
-            return false;
-        }
-        let Ok(noted) = words.to_vec(self.alloc) else {
-            self.cause = Cause::NoMemory;
-            return false;
-        };
-        let Some(ordered) = self.take(at) else {
-            return false;
-        };
-        let came = ordered.tick(words);
-        let is_there = self.put(at, came);
-        self.grow(at);
-        self.note_ticks(at, noted);
-        is_there
-    }
-
     // Why the journal at a place could not begin anew; the line that tells it is added, where it is known.
     fn why_kept(&self, at: usize, tries: u64, line: &mut Vec<u8>) -> Cause {
         let Some(Some(ordered)) = self.journals.get(at) else {
@@ -609,13 +526,7 @@ impl<R: Files + AllocGlobal + Eprint + Drop> Journals<R> {
             self.kept(at, tries);
             return Some(false);
         }
-        let came = match self.ticks.get(at) {
-            Some(words) if are_ticks(words) => {
-                ordered.change(self.alloc, front, words, self.room)
-            }
-            _ => ordered.change(self.alloc, front, &[], self.room),
-        };
-        match came {
+        match ordered.change(self.alloc, front, self.room) {
             Ok((ordered, went)) => {
                 let _put = self.put(at, Ok(ordered));
                 if !went {

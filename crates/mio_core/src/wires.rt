@@ -374,14 +374,6 @@ impl<R: Files + AllocGlobal + Input + Clock + Eprint + Drop, E: Write + Drop> Ou
         }
     }
 
-    fn tell_ticks(&mut self, journal: usize, words: &[u8]) -> Result<(), Fault> {
-        if self.journals.tell_ticks(journal, words) {
-            Ok(())
-        } else {
-            Err(self.fault(journal))
-        }
-    }
-
     fn sync(&mut self, journal: usize) -> Result<(), Fault> {
         if self.journals.sync(journal) {
             Ok(())

@@ -16,7 +16,6 @@ use keep_tool::outside::{AllOutside, begin_outside, form_of, limits_of};
 use keep_tool::pasts::pasts_in;
 use keep_tool::sources::write_sources;
 use keep_tool::status::seconds_now;
-use mio_core::journals::FirstLines;
 use mio_core::own::OwnFiles;
 use mio_core::stream::ClientListener;
 use std::io::{self, Write};
@@ -37,7 +36,7 @@ fn begin_served<W: Write, E: Write, L: Write>(
     rt: &HostRuntime,
     names: &[String],
     texts: &[Vec<u8>],
-    fronts: &[FirstLines],
+    fronts: &[Vec<u8>],
     asked: Keeping<'_>,
     watching: Watching,
     listener: ClientListener,

@@ -118,10 +118,6 @@ impl Outside for Fake {
         }
     }
 
-    fn tell_ticks(&mut self, _journal: usize, _words: &[u8]) -> Result<(), Fault> {
-        Ok(())
-    }
-
     fn sync(&mut self, journal: usize) -> Result<(), Fault> {
         if self.plan.refuses(LoopCall::Sync, journal).is_some() {
             return Err(Fault::Journal(journal));

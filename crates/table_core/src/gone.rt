@@ -484,7 +484,7 @@ impl Table {
         ensures { OnOk result (SettlesOn post.old (seen self.old) post.new (seen self.new)) }
     {
         if has_waiting(&self.objects, at, session) {
-            self.custody.note(at, HoldNote::Skipped(place, self.second));
+            self.custody.note(at, HoldNote::Ticked(place, self.second));
             return Ok(());
         }
         if self.tick_now(at, place, session, post)? {

@@ -690,10 +690,6 @@ impl Served for Table {
         }
     }
 
-    fn ticks(&self, journal: usize, words: &mut Vec<u8>) -> Result<(), AllocError> {
-        self.custody.tell_ticks(journal, &self.objects, words)
-    }
-
     fn due(&self, front: &mut Vec<u8>) -> Result<Option<usize>, AllocError> {
         match next_front(&self.objects, front) {
             None => Ok(None),

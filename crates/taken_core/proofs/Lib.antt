@@ -5,4 +5,3 @@ pub mod Lost
 pub mod Places
 pub mod Rooms
 pub mod Taking
-pub mod TickLines

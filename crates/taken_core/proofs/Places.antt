@@ -16,7 +16,7 @@ count_check line lines is = ap (λ b. cond b (count_plain lines) (suc (count_pla
 count_other : (line : List ℕ) (lines : List (List ℕ)) → is_check line ≡ false → count_plain (line ∷ lines) ≡ suc (count_plain lines)
 count_other line lines is = ap (λ b. cond b (count_plain lines) (suc (count_plain lines))) is
 
-pub cuts : (rest line more : List ℕ) → CutFirst rest line more → cut (whole rest) ≡ line ∷ cut (whole more)
+cuts : (rest line more : List ℕ) → CutFirst rest line more → cut (whole rest) ≡ line ∷ cut (whole more)
 cuts rest line more c =
     let all : whole rest ≡ line ++ whole more = ap whole c.is ∙ whole_past line more c.ended in
     ap cut all ∙ cut_append line (whole more) c.ended ∙ ap (λ (l : List (List ℕ)). l ++ cut (whole more)) c.alone

@@ -1,12 +1,12 @@
 -- What is known of a file, line by line.
-use Rattle.std.proofs.Common.{◌≡◌, inl, inr, ℕ, ◌+◌, ◌-◌, ◌^◌, ◌<◌, ◌≤◌, List, [], ◌∷◌, ◌++◌, length, take, refl, sym, ◌∙◌, ap, subst, arith, append_assoc, length-append, eqb-true}
+use Rattle.std.proofs.Common.{◌≡◌, inl, inr, ℕ, ◌+◌, ◌-◌, ◌^◌, ◌<◌, ◌≤◌, List, [], ◌∷◌, ◌++◌, length, refl, sym, ◌∙◌, ap, subst, arith, append_assoc, length-append, eqb-true}
 use Rattle.std.specs.Prelude.{Bool, true, false, min, ◌||◌, ◌&&◌, ◌==◌, Option, Some, None, Result, Ok, Err, IfOk, codes, decimal, bit_xor}
 use Rattle.std.specs.List.{concat}
-use Rattle.std.proofs.lemmas.List.{append-nil, take_at}
+use Rattle.std.proofs.lemmas.List.{append-nil}
 use Rattle.keep_loop.specs.Texts.{NoLineFeed}
 use Rattle.keep_loop.specs.Journal.{whole}
 use Rattle.keep_loop.specs.Crc.{crc_more, crc_start, crc_of}
-use Rattle.keep_loop.specs.Taken.{CutFirst, cut, plain, since, begins_with, is_check, is_front_line, has_check, has_front, check_line, tick_line, hex_digits, front_word, stored_word, tick_word, IsFrontRight, IsRoundRight, IsTickRight, IsRight, AreRight}
+use Rattle.keep_loop.specs.Taken.{CutFirst, cut, plain, since, begins_with, is_check, is_front_line, has_check, has_front, check_line, hex_digits, front_word, stored_word, IsFrontRight, IsRoundRight, IsRight, AreRight}
 use Rattle.taken_core.specs.TakeFile.{Follows, Tests, Takes, SaysStored, AreTaken, IsFirstWrong}
 use Rattle.taken_core.specs.declared.checked.Checked.{Checked}
 use Rattle.keep_loop.proofs.Taking.{whole_nothing}
@@ -122,18 +122,12 @@ front_one done line = has_front_append done (line ∷ []) ∙ ap (λ b. has_fron
 plain_one : (done : List (List ℕ)) (line : List ℕ) → plain (done ++ line ∷ []) ≡ plain done ++ plain (line ∷ [])
 plain_one done line = plain_append done (line ∷ [])
 
--- a check line with neither of the two other words
-tick_left : (line : List ℕ) → is_check line ≡ true → is_front_line line ≡ false → begins_with stored_word line ≡ false → begins_with tick_word line ≡ true
-tick_left line check front stored =
-    sym (ap (λ b. b || (begins_with stored_word line || begins_with tick_word line)) front ∙ ap (λ b. b || begins_with tick_word line) stored) ∙ check
-
 right_fronted : (done : List (List ℕ)) (line : List ℕ) → is_check line ≡ true → IsRight done line → (has_front done || is_front_line line) ≡ true
 right_fronted done line check right = elim (bool_cases (is_front_line line)) [
   | inl front ↦ ap (λ b. has_front done || b) front ∙ or_true (has_front done)
-  | inr other ↦ elim (bool_cases (begins_with stored_word line)) [
-    | inl stored ↦ ap (λ b. b || is_front_line line) (right.stored stored).fronted
-    | inr neither ↦ ap (λ b. b || is_front_line line) (right.tick (tick_left line check other neither)).fronted
-  ]
+  | inr other ↦
+      let stored : begins_with stored_word line ≡ true = sym (ap (λ b. b || begins_with stored_word line) other) ∙ check in
+      ap (λ b. b || is_front_line line) (right.stored stored).fronted
 ]
 
 -- a check line that is right
@@ -153,15 +147,10 @@ pub takes_other : (done : List (List ℕ)) (line : List ℕ) (old new : Checked)
     new.plain.items ≡ old.plain.items ++ line → IsRight done line × Follows (done ++ line ∷ []) new
 takes_other done line old new other f crc front plain_is =
     let none : has_check (line ∷ []) ≡ false = ap (λ b. b || false) other in
-    let parts = or_parts (is_front_line line) (begins_with stored_word line || begins_with tick_word line) other in
-    let two = or_parts (begins_with stored_word line) (begins_with tick_word line) parts.1 in
+    let parts = or_parts (is_front_line line) (begins_with stored_word line) other in
     let behind : since (done ++ line ∷ []) ≡ since done ++ line = since_plain done (line ∷ []) none ∙ ap (λ (l : List ℕ). since done ++ l) (append-nil line) in
     let front_is : has_front (done ++ line ∷ []) ≡ has_front done = front_one done line ∙ ap (λ b. has_front done || b) parts.0 ∙ or_false (has_front done) in (
-      record {
-        front = λ is. let no = parts.0 in absurd (cc (is, no));
-        stored = λ is. let no = two.0 in absurd (cc (is, no));
-        tick = λ is. let no = two.1 in absurd (cc (is, no));
-      },
+      record { front = λ is. let no = parts.0 in absurd (cc (is, no)); stored = λ is. let no = parts.1 in absurd (cc (is, no)) },
       record {
         crc = crc ∙ ap (λ (n : ℕ). crc_more n line) f.crc ∙ sym (crc_append crc_start (since done) line) ∙ ap (λ (l : List ℕ). crc_more crc_start l) (sym behind);
         front = front ∙ f.front ∙ sym front_is;
@@ -213,14 +202,11 @@ round_tests (Ok false) line size stored old found known reads set le small not =
 round_tests (Err e) line size stored old found known reads set le small is = tt
 
 -- which check line it is
-pub right_front_line : (done : List (List ℕ)) (line : List ℕ) → is_front_line line ≡ true → begins_with stored_word line ≡ false → begins_with tick_word line ≡ false → IsFrontRight done line → IsRight done line
-right_front_line done line one two three r = record { front = λ is. r; stored = λ is. absurd (cc (is, two)); tick = λ is. absurd (cc (is, three)) }
+pub right_front_line : (done : List (List ℕ)) (line : List ℕ) → is_front_line line ≡ true → begins_with stored_word line ≡ false → IsFrontRight done line → IsRight done line
+right_front_line done line one two r = record { front = λ is. r; stored = λ is. absurd (cc (is, two)) }
 
-pub right_round_line : (done : List (List ℕ)) (line : List ℕ) → is_front_line line ≡ false → begins_with tick_word line ≡ false → IsRoundRight done line → IsRight done line
-right_round_line done line one three r = record { front = λ is. absurd (cc (is, one)); stored = λ is. r; tick = λ is. absurd (cc (is, three)) }
-
-pub right_tick_line : (done : List (List ℕ)) (line : List ℕ) → is_front_line line ≡ false → begins_with stored_word line ≡ false → IsTickRight done line → IsRight done line
-right_tick_line done line one two r = record { front = λ is. absurd (cc (is, one)); stored = λ is. absurd (cc (is, two)); tick = λ is. r }
+pub right_round_line : (done : List (List ℕ)) (line : List ℕ) → is_front_line line ≡ false → IsRoundRight done line → IsRight done line
+right_round_line done line one r = record { front = λ is. absurd (cc (is, one)); stored = λ is. r }
 
 -- a line begins with one word alone
 pub one_word_of : (line : List ℕ) → is_front_line line ≡ true → begins_with stored_word line ≡ false
@@ -229,53 +215,6 @@ one_word_of (byte ∷ line) is =
     let first : (102 == byte) ≡ true = (and_first (102 == byte) (begins_with (codes "ront ") line) is) in
     let same : 102 ≡ byte = eqb-true 102 byte first in
     subst (λ b. begins_with stored_word (b ∷ line) ≡ false) same refl
-
-front_no_tick_of : (line : List ℕ) → is_front_line line ≡ true → begins_with tick_word line ≡ false
-front_no_tick_of [] is = absurd (cc is)
-front_no_tick_of (byte ∷ line) is =
-    let first : (102 == byte) ≡ true = (and_first (102 == byte) (begins_with (codes "ront ") line) is) in
-    let same : 102 ≡ byte = eqb-true 102 byte first in
-    subst (λ b. begins_with tick_word (b ∷ line) ≡ false) same refl
-
-stored_no_tick_of : (line : List ℕ) → begins_with stored_word line ≡ true → begins_with tick_word line ≡ false
-stored_no_tick_of [] is = absurd (cc is)
-stored_no_tick_of (byte ∷ line) is =
-    let first : (115 == byte) ≡ true = (and_first (115 == byte) (begins_with (codes "tored ") line) is) in
-    let same : 115 ≡ byte = eqb-true 115 byte first in
-    subst (λ b. begins_with tick_word (b ∷ line) ≡ false) same refl
-
--- the words of a line that tells of calls by the clock
-tick_length : (words : List ℕ) (crc : ℕ) → length (tick_line words crc) ≡ length words + 9
-unfolding tick_line
-tick_length words crc = length-append words (hex_digits 8 crc ++ 10 ∷ [])
-
-tick_words_are : (line words : List ℕ) (crc : ℕ) → line ≡ tick_line words crc → take (length line - 9) line ≡ words
-unfolding tick_line
-tick_words_are line words crc is =
-    let size : length line - 9 ≡ length words = omega (arith, ap length is, length-append words (hex_digits 8 crc ++ 10 ∷ [])) in
-    ap (λ (l : List ℕ). take (length line - 9) l) is ∙ take_at words (hex_digits 8 crc ++ 10 ∷ []) (length line - 9) (sym size)
-
-pub tick_not_fronted : (done : List (List ℕ)) (line : List ℕ) (old : Checked) → Follows done old → old.has_front ≡ false → IsTickRight done line → ⊥
-tick_not_fronted done line old f off r = let one = f.front in let two = r.fronted in absurd (cc (one, two, off))
-
-pub tick_short : (done : List (List ℕ)) (line : List ℕ) → length line < 9 → IsTickRight done line → ⊥
-tick_short done line short r = absurd (omega (arith, short, ap length r.is, tick_length r.words (crc_of (since done ++ r.words))))
-
-tick_crc : (done : List (List ℕ)) (words : List ℕ) (crc : ℕ) → crc ≡ crc_more crc_start (since done) → bit_xor (crc_more crc words) 0xFFFFFFFF ≡ crc_of (since done ++ words)
-tick_crc done words crc is =
-    ap (λ (n : ℕ). bit_xor (crc_more n words) 0xFFFFFFFF) is ∙ ap (λ (n : ℕ). bit_xor n 0xFFFFFFFF) (sym (crc_append crc_start (since done) words))
-
-pub tick_tests : {E : Type 0} (r : Result Bool E) (line words : List ℕ) (old : Checked) → words ≡ take (length line - 9) line → old.has_front ≡ true →
-    IfOk r (λ is. Tests is (line ≡ tick_line words (bit_xor (crc_more old.crc words) 0xFFFFFFFF))) → IfOk r (λ is. (done : List (List ℕ)) → Follows done old → Tests is (IsTickRight done line))
-tick_tests (Ok true) line words old words_is set is = λ done f. record {
-  fronted = sym f.front ∙ set;
-  words = words;
-  is = is ∙ ap (λ (n : ℕ). tick_line words n) (tick_crc done words old.crc f.crc);
-}
-tick_tests (Ok false) line words old words_is set not = λ done f r.
-    let same : r.words ≡ words = sym (tick_words_are line r.words (crc_of (since done ++ r.words)) r.is) ∙ sym words_is in
-    not (r.is ∙ ap (λ (l : List ℕ). tick_line l (crc_of (since done ++ l))) same ∙ ap (λ (n : ℕ). tick_line words n) (sym (tick_crc done words old.crc f.crc)))
-tick_tests (Err e) line words old words_is set is = tt
 
 -- a line that is right, or not
 pub round_not_fronted : (done : List (List ℕ)) (line : List ℕ) (old : Checked) → Follows done old → old.has_front ≡ false → IsRoundRight done line → ⊥
@@ -292,20 +231,13 @@ round_none done line size found reads none same small r = let some = round_is do
 pub right_front_tests : {E : Type 0} (r : Result Bool E) (line : List ℕ) (size : ℕ) (old : Checked) → is_front_line line ≡ true →
     IfOk r (λ is. (done : List (List ℕ)) → Follows done old → size ≡ length (concat done) → Tests is (IsFrontRight done line)) →
     IfOk r (λ is. (done : List (List ℕ)) → Follows done old → size ≡ length (concat done) → Tests is (IsRight done line))
-right_front_tests (Ok true) line size old front is = λ done f same. right_front_line done line front (one_word_of line front) (front_no_tick_of line front) (is done f same)
+right_front_tests (Ok true) line size old front is = λ done f same. right_front_line done line front (one_word_of line front) (is done f same)
 right_front_tests (Ok false) line size old front not = λ done f same r. not done f same (r.front front)
 right_front_tests (Err e) line size old front is = tt
 
-pub right_round_tests : {E : Type 0} (r : Result Bool E) (line : List ℕ) (size : ℕ) (old : Checked) → is_front_line line ≡ false → begins_with stored_word line ≡ true →
+pub right_round_tests : {E : Type 0} (r : Result Bool E) (line : List ℕ) (size : ℕ) (old : Checked) → is_check line ≡ true → is_front_line line ≡ false →
     IfOk r (λ is. (done : List (List ℕ)) → Follows done old → size ≡ length (concat done) → Tests is (IsRoundRight done line)) →
     IfOk r (λ is. (done : List (List ℕ)) → Follows done old → size ≡ length (concat done) → Tests is (IsRight done line))
-right_round_tests (Ok true) line size old other stored is = λ done f same. right_round_line done line other (stored_no_tick_of line stored) (is done f same)
-right_round_tests (Ok false) line size old other stored not = λ done f same r. not done f same (r.stored stored)
-right_round_tests (Err e) line size old other stored is = tt
-
-pub right_tick_tests : {E : Type 0} (r : Result Bool E) (line : List ℕ) (size : ℕ) (old : Checked) → is_check line ≡ true → is_front_line line ≡ false → begins_with stored_word line ≡ false →
-    IfOk r (λ is. (done : List (List ℕ)) → Follows done old → Tests is (IsTickRight done line)) →
-    IfOk r (λ is. (done : List (List ℕ)) → Follows done old → size ≡ length (concat done) → Tests is (IsRight done line))
-right_tick_tests (Ok true) line size old check other neither is = λ done f same. right_tick_line done line other neither (is done f)
-right_tick_tests (Ok false) line size old check other neither not = λ done f same r. not done f (r.tick (tick_left line check other neither))
-right_tick_tests (Err e) line size old check other neither is = tt
+right_round_tests (Ok true) line size old check other is = λ done f same. right_round_line done line other (is done f same)
+right_round_tests (Ok false) line size old check other not = λ done f same r. not done f same (r.stored (sym (ap (λ b. b || begins_with stored_word line) other) ∙ check))
+right_round_tests (Err e) line size old check other is = tt

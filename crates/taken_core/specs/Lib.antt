@@ -1,3 +1,2 @@
 pub mod TakeFile
 pub mod Room
-pub mod TickLines

@@ -3,13 +3,10 @@
 ghost use Rattle.std.specs.Prelude.{◌≡◌, [], List, ℕ, Some, true, length, bit_xor, IfOk, MatchResult};
 ghost use Rattle.std.specs.List.{concat};
 ghost use Rattle.keep_loop.specs.Journal.{whole};
-ghost use Rattle.keep_loop.specs.Crc.{crc_more};
-ghost use Rattle.keep_loop.specs.Taken.{check_line, tick_line, cut, is_check, IsRight, IsFrontRight, IsRoundRight, IsTickRight};
+ghost use Rattle.keep_loop.specs.Taken.{check_line, cut, is_check, IsRight, IsFrontRight, IsRoundRight};
 ghost use Rattle.taken_core.specs.TakeFile.{Tests, Follows, Takes, AreTaken, IsFirstWrong, SaysStored, counted};
 
-use keep_loop::check_lines::{
-    FRONT_WORD, STORED_WORD, begins_with, is_check, push_check, push_tick, size_in,
-};
+use keep_loop::check_lines::{FRONT_WORD, STORED_WORD, begins_with, is_check, push_check, size_in};
 use keep_loop::crc::{CRC_START, CrcTable};
 use keep_loop::cut::cut_first;
 use std::alloc::{AllocError, Global};
@@ -110,37 +107,6 @@ impl Checked {
         }
     }
 
-    // Whether a line that tells of calls by the clock is right, with these words before its CRC.
-    fn is_tick_spelled(
-        &self,
-        expected: &mut Vec<u8>,
-        line: &[u8],
-        words: &[u8],
-    ) -> Result<bool, AllocError>
-        ensures { IfOk result (λ is. Tests is (line.now ≡ tick_line words.now (bit_xor (crc_more self.now.crc words.now) 4294967295))) }
-    {
-        expected.clear();
-        push_tick(expected, words, self.table.more(self.crc, words))?;
-        let own = expected.as_slice();
-        if line == own {
-            return Ok(true);
-        }
-        Ok(false)
-    }
-
-    // Whether a line that tells of calls by the clock is right behind others.
-    fn is_tick_right(&self, expected: &mut Vec<u8>, line: &[u8]) -> Result<bool, AllocError>
-        ensures { IfOk result (λ is. (done : List (List ℕ)) → Follows done self.now → Tests is (IsTickRight done line.now)) }
-    {
-        if !self.has_front {
-            return Ok(false);
-        }
-        if line.len() < 9 {
-            return Ok(false);
-        }
-        self.is_tick_spelled(expected, line, &line[..line.len() - 9])
-    }
-
     // Whether a check line is right behind lines of so many bytes.
     fn is_right(&self, expected: &mut Vec<u8>, line: &[u8], size: u64) -> Result<bool, AllocError>
         requires { is_check line.now ≡ true }
@@ -150,10 +116,7 @@ impl Checked {
         if begins_with(FRONT_WORD, line) {
             return self.is_front_right(expected, line, size);
         }
-        if begins_with(STORED_WORD, line) {
-            return self.is_round_right(expected, line, size);
-        }
-        self.is_tick_right(expected, line)
+        self.is_round_right(expected, line, size)
     }
 
     // Takes one more line, with its line feed, behind lines of so many bytes. False: it is not right.

@@ -11,4 +11,3 @@ mod format;
 pub mod recover;
 pub mod room;
 pub mod taken;
-pub mod ticks;
