@@ -12,7 +12,7 @@ use Rattle.word_core.specs.Events.{Called}
 use Rattle.guest_core.specs.declared.hold_ends.HoldEnds.TheVariants.{ByDone}
 use Rattle.guest_core.specs.Held.{HeldCall, Fits, Gives, GivesBy, GivesOne, NoneFits, begun, begun_by, ended_so, hold_ended, hold_of_op}
 use Rattle.client_core.specs.declared.since.HeldSince.{HeldSince}
-use Rattle.client_core.specs.Since.{AreFirst, AreSince, IsFirstOther, IsIn, IsNext, KeepsSince, LeavesOther, numbers_known, numbers_of, since_second}
+use Rattle.client_core.specs.Since.{AreFrontNumbers, AreSince, IsFirstOther, IsSinceIn, IsNextHeld, KeepsSince, LeavesOther, numbers_known, numbers_of, since_second}
 use Rattle.client_core.proofs.Places.{all_places}
 
 -- the number of the call that is held at a place
@@ -98,12 +98,12 @@ record NextNumbers (number : ℕ) (ms hs : List ℕ) : Type 0 where
   more : (hs ≡ left) ⊎ (hs ≡ left ++ number ∷ [])
 
 abbrev LeftNumbers : List ℕ → List ℕ → List ℕ → Type 0
-LeftNumbers ms hs mid = ((j : ℕ) × IsFirstOther ms hs j × (mid ≡ out j ms)) ⊎ (AreFirst ms hs × (mid ≡ ms))
+LeftNumbers ms hs mid = ((j : ℕ) × IsFirstOther ms hs j × (mid ≡ out j ms)) ⊎ (AreFrontNumbers ms hs × (mid ≡ ms))
 
 long : (xs ys : List ℕ) (n : ℕ) → ys ≡ xs ++ n ∷ [] → length ys ≡ length xs + 1
 long xs ys n is = ap length is ∙ length-append xs (n ∷ [])
 
-all_first : (ms hs : List ℕ) → AreFirst ms hs → ms ≡ take (length ms) hs
+all_first : (ms hs : List ℕ) → AreFrontNumbers ms hs → ms ≡ take (length ms) hs
 all_first ms hs first = sym (take_all (length ms) ms (omega arith)) ∙ first
 
 next_are : (number : ℕ) (ms hs mid new : List ℕ) → NextNumbers number ms hs → LeftNumbers ms hs mid → (length mid < length hs → new ≡ mid ++ number ∷ []) → (length hs ≤ length mid → new ≡ mid) → new ≡ hs
@@ -143,7 +143,7 @@ next_are number ms hs mid new next leaves adds stays = by next.gone next.more le
         same (is ∙ all_first ms hs first ∙ take_all (length ms) hs (omega (arith, b, d, e)))
 
 -- of each call that is held it is known since when
-pub are_since : (number : ℕ) (old mid new : List HeldSince) (was held : List HeldCall) (fresh : HeldSince) → fresh.number ≡ number → IsNext number was held → AreSince old was → LeavesOther old held mid →
+pub are_since : (number : ℕ) (old mid new : List HeldSince) (was held : List HeldCall) (fresh : HeldSince) → fresh.number ≡ number → IsNextHeld number was held → AreSince old was → LeavesOther old held mid →
     (length mid < length held → new ≡ mid ++ fresh ∷ []) → (length held ≤ length mid → new ≡ mid) → AreSince new held
 are_since number old mid new was held fresh numbered next are leaves adds stays =
     next_are number (numbers_known old) (numbers_of held) (numbers_known mid) (numbers_known new)
@@ -189,15 +189,15 @@ are_since number old mid new was held fresh numbered next are leaves adds stays 
         push (y ∷ xs) = ap (λ zs. y.number ∷ zs) (push xs)
 
 -- what is known stood there before, or is since this second
-pub each_in : (number second : ℕ) (old : List HeldSince) → All (λ (s : HeldSince). IsIn s old ⊎ (s ≡ since_second number second)) old
-each_in number second old = all_places (λ (s : HeldSince). IsIn s old ⊎ (s ≡ since_second number second)) old (λ k s there. inl (k, there))
+pub each_in : (number second : ℕ) (old : List HeldSince) → All (λ (s : HeldSince). IsSinceIn s old ⊎ (s ≡ since_second number second)) old
+each_in number second old = all_places (λ (s : HeldSince). IsSinceIn s old ⊎ (s ≡ since_second number second)) old (λ k s there. inl (k, there))
 
 pub each_since : (number second : ℕ) (old mid new : List HeldSince) (held : List HeldCall) → LeavesOther old held mid → (length mid < length held → new ≡ mid ++ since_second number second ∷ []) →
-    (length held ≤ length mid → new ≡ mid) → All (λ (s : HeldSince). IsIn s old ⊎ (s ≡ since_second number second)) new
+    (length held ≤ length mid → new ≡ mid) → All (λ (s : HeldSince). IsSinceIn s old ⊎ (s ≡ since_second number second)) new
 each_since number second old mid new held leaves adds stays = last (leb_tells (length held) (length mid))
   where
     is : HeldSince → Type 0
-    is s = IsIn s old ⊎ (s ≡ since_second number second)
+    is s = IsSinceIn s old ⊎ (s ≡ since_second number second)
 
     middle : LeavesOther old held mid → All is mid
     middle (inl (k, other, left)) = subst (All is) (sym (left ∙ out_is k old)) (All-out is k old (each_in number second old))
@@ -224,7 +224,7 @@ begun_of (Some r) c (Done d) left new is = inr (_, refl, is)
 begun_of (Some r) c (Refused word) left new is = inl (is ∙ append-nil left)
 begun_of (Some r) c (Failed failure) left new is = inl (is ∙ append-nil left)
 
-pub next_held : (holds : List HoldForm) (c : Called) (reply : Reply) (old new : List HeldCall) → (left : List HeldCall) × Gives ByDone holds c reply old left × (new ≡ left ++ begun holds c reply) → IsNext c.number old new
+pub next_held : (holds : List HoldForm) (c : Called) (reply : Reply) (old new : List HeldCall) → (left : List HeldCall) × Gives ByDone holds c reply old left × (new ≡ left ++ begun holds c reply) → IsNextHeld c.number old new
 next_held holds c reply old new (left, gives, is) =
     record { left = left; gone = next_of holds (ended_so ByDone reply (hold_ended holds c.operation)) c reply old left gives; more = begun_of (hold_of_op holds c.operation) c reply left new is }
 
@@ -250,11 +250,11 @@ gives_at holds to c told reply held old left new e f g is =
 pub keeps_since : (holds : List HoldForm) (c : Called) (reply : Reply) (number second op : ℕ) (was new all : List HeldCall) (before rows after : List HeldSince) (may : Bool) →
     c.number ≡ number → op ≡ c.operation → rows ≡ before → all ≡ new → (left : List HeldCall) × Gives ByDone holds c reply was left × (new ≡ left ++ begun holds c reply) →
     (may ≡ false → hold_of_op holds op ≡ None) → (may ≡ false → hold_ended holds op ≡ None) →
-    ((w : List HeldCall) → (may ≡ false → all ≡ w) → IsNext number w all → AreSince rows w → AreSince after all) → All (λ (s : HeldSince). IsIn s rows ⊎ (s ≡ since_second number second)) after →
+    ((w : List HeldCall) → (may ≡ false → all ≡ w) → IsNextHeld number w all → AreSince rows w → AreSince after all) → All (λ (s : HeldSince). IsSinceIn s rows ⊎ (s ≡ since_second number second)) after →
     KeepsSince number second before was after new
 keeps_since holds c reply number second op was new all before rows after may numbered op_is rows_are all_are ended begins ends are each = record {
   are = λ a. subst (AreSince after) all_are
       (are was (λ no. all_are ∙ same_held holds c reply was new (subst (λ o. hold_of_op holds o ≡ None) op_is (begins no)) (subst (λ o. hold_ended holds o ≡ None) op_is (ends no)) ended)
-      (subst (IsNext number was) (sym all_are) (subst (λ n. IsNext n was new) numbered (next_held holds c reply was new ended))) (subst (λ l. AreSince l was) (sym rows_are) a));
-  each = subst (λ l. All (λ (s : HeldSince). IsIn s l ⊎ (s ≡ since_second number second)) after) rows_are each;
+      (subst (IsNextHeld number was) (sym all_are) (subst (λ n. IsNextHeld n was new) numbered (next_held holds c reply was new ended))) (subst (λ l. AreSince l was) (sym rows_are) a));
+  each = subst (λ l. All (λ (s : HeldSince). IsSinceIn s l ⊎ (s ≡ since_second number second)) after) rows_are each;
 }

@@ -40,8 +40,8 @@ held_line o holds row =
     ++ away_words row.away))))
 
 -- so long it is held, where it is known since when
-abbrev pub seconds_of : ℕ → Option HeldSince → Option ℕ
-seconds_of now since = option_map (λ (s : HeldSince). now - s.second) since
+abbrev pub held_seconds : ℕ → Option HeldSince → Option ℕ
+held_seconds now since = option_map (λ (s : HeldSince). now - s.second) since
 
 -- it may be longer: it was held before the start
 abbrev pub is_least_of : Option HeldSince → Bool
@@ -84,7 +84,7 @@ timed_of h = timed_from 0 h.since h.held
 -- a row is of this call in this second
 pub record IsHeldRow (now : ℕ) (object : Scene) (h : Holding) (t : Timed) (row : HeldRow) : Type 0 where
   pub call : row.call ≡ t.0
-  pub seconds : row.seconds ≡ seconds_of now t.1
+  pub seconds : row.seconds ≡ held_seconds now t.1
   pub least : row.is_least ≡ is_least_of t.1
   pub name : IsNameOf object.guests (seat_of t.0.session) row.name
   pub away : IsAwayOf now h.away h.gone (seat_of t.0.session) row.away
@@ -96,6 +96,6 @@ AreHeldRows now object h (t ∷ ts) (r ∷ rows) = IsHeldRow now object h t r ×
 AreHeldRows now object h ts rows = ⊥
 
 -- the holds of an object; none, where it says nothing of them
-abbrev pub rules_by : Option Holding → List HoldForm
-rules_by None = []
-rules_by (Some h) = h.rules.holds
+abbrev pub holding_rules : Option Holding → List HoldForm
+holding_rules None = []
+holding_rules (Some h) = h.rules.holds

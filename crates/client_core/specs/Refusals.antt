@@ -42,14 +42,14 @@ AreListed sign room (name ∷ names) text =
 abbrev pub TellsNames : List (List ℕ) → List ℕ → Type 0
 TellsNames names hint = (listed : List ℕ) × AreListed (codes " ") 980 names listed × (hint ≡ codes "there are" ++ listed)
 
-abbrev pub kind_text : Elem → List ℕ
-kind_text elem.Integer = codes " : integer"
-kind_text elem.Text = codes " : text"
+abbrev pub elem_text : Elem → List ℕ
+elem_text elem.Integer = codes " : integer"
+elem_text elem.Text = codes " : text"
 
 -- parameters, the first behind this sign and each other one behind `; `
 abbrev pub listed_params : List ℕ → List (List ℕ × Elem) → List ℕ
 listed_params sign [] = []
-listed_params sign (p ∷ params) = sign ++ (p.0 ++ (kind_text p.1 ++ listed_params (codes "; ") params))
+listed_params sign (p ∷ params) = sign ++ (p.0 ++ (elem_text p.1 ++ listed_params (codes "; ") params))
 
 abbrev pub params_text : List (List ℕ × Elem) → List ℕ
 params_text [] = []
@@ -57,7 +57,7 @@ params_text (p ∷ params) = listed_params (codes "(") (p ∷ params) ++ codes "
 
 abbrev pub result_text : Option Elem → List ℕ
 result_text None = []
-result_text (Some sort) = kind_text sort
+result_text (Some sort) = elem_text sort
 
 -- an operation as it is declared: `OP(NAME : KIND; ..)`, with the kind of its reply behind that
 abbrev pub declared_text : OperationForm → List ℕ

@@ -23,17 +23,17 @@ abbrev pub AreSince : List HeldSince → List HeldCall → Type 0
 AreSince since held = numbers_known since ≡ numbers_of held
 
 -- this stands among these
-abbrev pub IsIn : HeldSince → List HeldSince → Type 0
-IsIn s since = (k : ℕ) × (slice_get since k ≡ Some s)
+abbrev pub IsSinceIn : HeldSince → List HeldSince → Type 0
+IsSinceIn s since = (k : ℕ) × (slice_get since k ≡ Some s)
 
 -- Behind the end of the call of this number, in this second: of each call that is held it is known as before since when,
 -- and the call that ended is held since now.
 pub record KeepsSince (number second : ℕ) (before : List HeldSince) (was : List HeldCall) (after : List HeldSince) (held : List HeldCall) : Type 0 where
   pub are : AreSince before was → AreSince after held
-  pub each : All (λ (s : HeldSince). IsIn s before ⊎ (s ≡ since_second number second)) after
+  pub each : All (λ (s : HeldSince). IsSinceIn s before ⊎ (s ≡ since_second number second)) after
 
 -- One call at most is held no more of those that were, and one of this number at most is held that was not.
-pub record IsNext (number : ℕ) (was held : List HeldCall) : Type 0 where
+pub record IsNextHeld (number : ℕ) (was held : List HeldCall) : Type 0 where
   pub left : List HeldCall
   pub gone : (left ≡ was) ⊎ ((k : ℕ) × (k < length was) × (left ≡ take k was ++ drop (k + 1) was))
   pub more : (held ≡ left) ⊎ ((h : HeldCall) × (h.number ≡ number) × (held ≡ left ++ h ∷ []))
@@ -45,11 +45,11 @@ pub record IsFirstOther (some those : List ℕ) (place : ℕ) : Type 0 where
   pub other : slice_get some place ≢ slice_get those place
 
 -- these numbers are those that stand before all others there
-abbrev pub AreFirst : List ℕ → List ℕ → Type 0
-AreFirst some those = take (length some) some ≡ take (length some) those
+abbrev pub AreFrontNumbers : List ℕ → List ℕ → Type 0
+AreFrontNumbers some those = take (length some) some ≡ take (length some) those
 
 -- the first that is of another call than it should be is left out, where there is one
 abbrev pub LeavesOther : List HeldSince → List HeldCall → List HeldSince → Type 0
 LeavesOther old held new =
     ((k : ℕ) × IsFirstOther (numbers_known old) (numbers_of held) k × (new ≡ take k old ++ drop (k + 1) old))
-    ⊎ (AreFirst (numbers_known old) (numbers_of held) × (new ≡ old))
+    ⊎ (AreFrontNumbers (numbers_known old) (numbers_of held) × (new ≡ old))

@@ -20,7 +20,7 @@ use Rattle.stuck_core.specs.Who.{Sitting, Refused, who_line, seat_line, waits_li
 use Rattle.stuck_core.specs.List.{list_text}
 use Rattle.decl_core.specs.HoldForm.{HoldForm}
 use Rattle.client_core.specs.Holding.{Holding}
-use Rattle.client_core.specs.HeldRows.{AreHeldRows, HeldRow, Timed, held_line, rules_by, timed_of}
+use Rattle.client_core.specs.HeldRows.{AreHeldRows, HeldRow, Timed, held_line, holding_rules, timed_of}
 use Rattle.client_core.specs.Views.{custodies_of}
 use Rattle.client_core.specs.State.{Peer, State, opened_in, opened_at}
 use Rattle.client_core.specs.Deeds.{Texts, Deed, OnlyTold}
@@ -149,9 +149,9 @@ held_in from last held = flat_map (λ (t : Timed). if is_between from last t.0.s
 
 -- The rows of the first 256 of what these sessions hold, where this is known of what is held of an object, in this second;
 -- of one of which nothing may be held there are none.
-abbrev pub AreHeldBy : ℕ → Scene → ℕ → Option ℕ → Option Holding → List HeldRow → Type 0
-AreHeldBy now object from last None rows = rows ≡ []
-AreHeldBy now object from last (Some h) rows = AreHeldRows now object h (take 256 (held_in from last (timed_of h))) rows
+abbrev pub AreToldHeld : ℕ → Scene → ℕ → Option ℕ → Option Holding → List HeldRow → Type 0
+AreToldHeld now object from last None rows = rows ≡ []
+AreToldHeld now object from last (Some h) rows = AreHeldRows now object h (take 256 (held_in from last (timed_of h))) rows
 
 -- the whole of an answer: so many lines, those of sessions, those of calls that wait, and behind them what is held
 abbrev pub who_held_text : ObjectForm → List HoldForm → List Sitting → List Refused → List HeldRow → List ℕ
@@ -169,8 +169,8 @@ pub record IsWho (crowd : Crowd) (object : Scene) (holding : Option Holding) (fr
   pub calls : List Refused
   pub are_calls : AreWaits crowd (take 256 all) object (waiting_in from (last_told all) object.hall.waiting) calls
   pub held : List HeldRow
-  pub are_held : AreHeldBy crowd.now object from (last_told all) holding held
-  pub text_is : text ≡ who_held_text (object_of object.hall.object) (rules_by holding) seats calls held
+  pub are_held : AreToldHeld crowd.now object from (last_told all) holding held
+  pub text_is : text ≡ who_held_text (object_of object.hall.object) (holding_rules holding) seats calls held
 
 -- the object that is open
 abbrev pub form_at : List Scene → Option ℕ → Option ObjectForm
@@ -195,12 +195,12 @@ pub record SeesWhy (place number : ℕ) (old : State) (said added : Texts) (new 
   pub only : OnlyTold place text old said added new
 
 -- The second in which one looks, and what is known of what is held of each object: since when, and who is gone.
-pub record Known : Type 0 where
+pub record KnownHeld : Type 0 where
   pub now : ℕ
   pub custody : List Holding
 
 -- or who is there, where these clients are, and this is known of what is held
-pub record SeesWho (people : List Person) (known : Known) (place from : ℕ) (old : State) (said added : Texts) (new : State) : Type 0 where
+pub record SeesWho (people : List Person) (known : KnownHeld) (place from : ℕ) (old : State) (said added : Texts) (new : State) : Type 0 where
   pub opened : OpenObject
   pub by : opened_at old place ≡ Some opened
   pub object : Scene
@@ -218,11 +218,11 @@ pub record SeesList (place : ℕ) (old : State) (said added : Texts) (new : Stat
   pub only : OnlyTold place text old said added new
 
 -- where these clients are, and this is known of what is held
-abbrev pub SeesOf : List Person → Known → ℕ → Sight → Deed
+abbrev pub SeesOf : List Person → KnownHeld → ℕ → Sight → Deed
 SeesOf people known place (insides.Why number) = SeesWhy place number
 SeesOf people known place (insides.Who from) = SeesWho people known place from
 SeesOf people known place insides.List = SeesList place
 
 -- the same, of clients that are not named here, and of what is known then
 abbrev pub Sees : ℕ → Sight → Deed
-Sees place inside old said added new = (people : List Person) × (known : Known) × SeesOf people known place inside old said added new
+Sees place inside old said added new = (people : List Person) × (known : KnownHeld) × SeesOf people known place inside old said added new

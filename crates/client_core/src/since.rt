@@ -3,7 +3,7 @@
 ghost use Rattle.std.specs.Prelude.{◌≡◌, ◌≢◌, ◌≤◌, ◌<◌, ◌++◌, ◌∷◌, [], ◌⊎◌, ℕ, All, List, IfOk, IfSome, Some, None, true, false, length, map, slice_get, vec_capacity, vec_len};
 ghost use Rattle.guest_core.specs.Held.{HeldCall as AHeldCall};
 ghost use Rattle.client_core.specs.declared.since.HeldSince.{HeldSince as ASince};
-ghost use Rattle.client_core.specs.Since.{AreFirst, AreSince, IsFirstOther, IsIn, IsNext, LeavesOther, numbers_known, numbers_of, since_second};
+ghost use Rattle.client_core.specs.Since.{AreFrontNumbers, AreSince, IsFirstOther, IsSinceIn, IsNextHeld, LeavesOther, numbers_known, numbers_of, since_second};
 ghost use Rattle.client_core.specs.Since.{since_start as since_start_in};
 
 use guest_core::held::HeldCall;
@@ -60,7 +60,7 @@ fn is_at(held: &[HeldCall], place: usize, number: u64) -> bool
 // The first place at which something is known of another call than the one that is held there.
 fn first_other(rows: &[HeldSince], held: &[HeldCall]) -> Option<usize>
     ensures some { IfSome result (IsFirstOther (numbers_known rows.now) (numbers_of held.now)) }
-    ensures none { result ≡ None → AreFirst (numbers_known rows.now) (numbers_of held.now) }
+    ensures none { result ≡ None → AreFrontNumbers (numbers_known rows.now) (numbers_of held.now) }
 {
     for place in 0..rows.len() {
         if !is_at(held, place, rows[place].number) {
@@ -109,9 +109,9 @@ pub(crate) fn note_end(
     second: u64,
 )
     requires { vec_len rows.old < vec_capacity rows.old }
-    ensures are { (was : List AHeldCall) → (may_change ≡ false → held.now ≡ was) → IsNext number was held.now →
+    ensures are { (was : List AHeldCall) → (may_change ≡ false → held.now ≡ was) → IsNextHeld number was held.now →
         AreSince rows.old.items was → AreSince rows.new.items held.now }
-    ensures each { All (λ (s : ASince). IsIn s rows.old.items ⊎ (s ≡ since_second number second)) rows.new.items }
+    ensures each { All (λ (s : ASince). IsSinceIn s rows.old.items ⊎ (s ≡ since_second number second)) rows.new.items }
 {
     if !may_change {
         return;

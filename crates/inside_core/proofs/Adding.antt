@@ -8,7 +8,7 @@ use Rattle.word_core.specs.Events.{Called}
 use Rattle.live_core.specs.Scene.{Scene}
 use Rattle.client_core.specs.declared.client.OpenObject.{OpenObject}
 use Rattle.client_core.specs.Holding.{Holding}
-use Rattle.client_core.specs.HeldRows.{held_line, rules_by}
+use Rattle.client_core.specs.HeldRows.{held_line, holding_rules}
 use Rattle.stuck_core.specs.Who.{Sitting, Refused, seat_line, waits_line, who_line}
 use Rattle.client_core.specs.ToldInside.{Crowd, IsSeatOf, AreSeats, IsWaitOf, AreWaits, AreSitting, last_told, is_between, waiting_in, IsWho}
 use Rattle.inside_core.specs.Adds.{AddsSeats, AddsWaits, AddsHeldBy}
@@ -168,7 +168,7 @@ who_is crowd object holding from all n m count seats waits lines head text are o
     waiting = flat_map (λ c. flat_map (waits_line (object_of object.hall.object) c.call) c.whys) two.rows
 
     holds : List ℕ
-    holds = flat_map (held_line (object_of object.hall.object) (rules_by holding)) three.rows
+    holds = flat_map (held_line (object_of object.hall.object) (holding_rules holding)) three.rows
 
     so : count ≡ many
     so = let a = seats_count crowd (take 256 all) one.rows one.are in let b = two.count in let d = three.count in omega (arith, total, a, b, d)

@@ -8,11 +8,11 @@ use Rattle.client_core.specs.declared.client.OpenObject.{OpenObject}
 use Rattle.client_core.specs.declared.clients.ClientPlaces.{ClientPlaces}
 use Rattle.client_core.specs.People.{people_of}
 use Rattle.client_core.specs.Holding.{Holding}
-use Rattle.client_core.specs.HeldRows.{AreHeldRows, HeldRow, Timed, held_line, rules_by}
+use Rattle.client_core.specs.HeldRows.{AreHeldRows, HeldRow, Timed, held_line, holding_rules}
 use Rattle.stuck_core.specs.Who.{Sitting, Refused, seat_line, waits_line}
 use Rattle.client_core.specs.State.{peers_of}
 use Rattle.stuck_core.specs.ReasonViews.{whys_of}
-use Rattle.client_core.specs.ToldInside.{Crowd, AreHeldBy, AreSeats, AreWaits, AreWhys}
+use Rattle.client_core.specs.ToldInside.{Crowd, AreToldHeld, AreSeats, AreWaits, AreWhys}
 use Rattle.inside_core.specs.declared.who.Refusing.{Refusing}
 use Rattle.inside_core.specs.declared.who.Whom.{Whom}
 
@@ -43,9 +43,9 @@ pub record AddsHeld (now : ℕ) (object : Scene) (h : Holding) (held : List Time
 -- those of the first 256 of what these sessions hold, where this is known of what is held of the object
 pub record AddsHeldBy (now : ℕ) (object : Scene) (from : ℕ) (last : Option ℕ) (holding : Option Holding) (n : ℕ) (before after : List ℕ) : Type 0 where
   pub rows : List HeldRow
-  pub are : AreHeldBy now object from last holding rows
+  pub are : AreToldHeld now object from last holding rows
   pub count : n ≡ length rows
-  pub added : after ≡ before ++ flat_map (held_line (object_of object.hall.object) (rules_by holding)) rows
+  pub added : after ≡ before ++ flat_map (held_line (object_of object.hall.object) (holding_rules holding)) rows
 
 -- what is known of operations are the nodes that refuse a start of them now
 abbrev pub AreKnown : Scene → List Refusing → Type 0

@@ -6,7 +6,7 @@ ghost use Rattle.word_core.specs.Words.{behind_word, words_text};
 ghost use Rattle.stuck_core.specs.Who.{client_words, time_words};
 ghost use Rattle.check_core.specs.HeldTold.{holds_words};
 ghost use Rattle.live_core.specs.Calls.{seat_of as seat_in};
-ghost use Rattle.client_core.specs.HeldRows.{IsAwayOf, IsNameOf, away_of, away_words, is_least_of, least_words, may_be_away, seconds_of};
+ghost use Rattle.client_core.specs.HeldRows.{IsAwayOf, IsNameOf, away_of, away_words, is_least_of, least_words, may_be_away, held_seconds};
 ghost use Rattle.client_core.specs.HeldRows.{timed_of};
 ghost use Rattle.client_core.specs.ToldInside.{held_in};
 ghost use Rattle.inside_core.specs.Adds.{AddsHeld, AddsHeldBy};
@@ -44,7 +44,7 @@ fn push_call_of(
 // Adds ` for T`, where it is known, and ` at least`, where it may be longer.
 fn push_since(out: &mut Vec<u8>, since: Option<HeldSince>, second: u64) -> Result<(), AllocError>
     ensures { OnOk result (out.new.items ≡ out.old.items
-        ++ (behind_word (time_words (seconds_of second since)) ++ behind_word (least_words (is_least_of since)))) }
+        ++ (behind_word (time_words (held_seconds second since)) ++ behind_word (least_words (is_least_of since)))) }
 {
     match since {
         None => Ok(()),

@@ -16,7 +16,7 @@ use Rattle.client_core.specs.Refusals.IsHint.{objects as of_objects, operations 
 use Rattle.client_core.specs.State.{State, opened_at}
 use Rattle.live_core.specs.Scene.{Scene}
 use Rattle.table_core.specs.Brings.{Brings}
-use Rattle.table_core.specs.Hints.{AddsListed, IsHintAt, IsHintOf, names_of}
+use Rattle.table_core.specs.Hints.{AddsListed, IsHintAt, IsHintOf, scene_names}
 use Rattle.table_core.proofs.Bringing.{brings_as}
 
 -- no name is listed
@@ -79,7 +79,7 @@ mapped_there f all xs at x same within is =
     slice_get-map f xs at ∙ ap (λ o. option_map f o) (ap (λ l. slice_get l at) (sym same) ∙ slice_get-get_or all at x within ∙ ap Some (sym is))
 
 -- that of all objects
-pub if_names : (hint : Option (Vec ℕ)) (s : State) (place : ℕ) → IfSome hint (λ text. TellsNames (names_of s.objects) text.items) →
+pub if_names : (hint : Option (Vec ℕ)) (s : State) (place : ℕ) → IfSome hint (λ text. TellsNames (scene_names s.objects) text.items) →
     IfSome hint (λ text. IsHint s place (lines.Refused refusals.NoObject) text.items)
 if_names None s place is = is
 if_names (Some text) s place is = of_objects refl is

@@ -17,14 +17,14 @@ use Rattle.client_core.specs.State.{State, opened_at}
 use Rattle.client_core.specs.Deeds.{Texts, OnlyTold}
 use Rattle.client_core.specs.Refusals.{IsRefusal}
 use Rattle.client_core.specs.Asked.{IsRefused, AnswersInside}
-use Rattle.client_core.specs.ToldInside.{Crowd, Known, IsWhy, IsWho, IsList, object_in}
+use Rattle.client_core.specs.ToldInside.{Crowd, KnownHeld, IsWhy, IsWho, IsList, object_in}
 use Rattle.table_core.specs.Brings.{Brings}
 use Rattle.table_core.specs.Looks.{LooksOf}
 use Rattle.table_core.specs.Parts.{Shows, ShowsText}
 use Rattle.table_core.proofs.Bringing.{brings_as, refuses}
 
 -- the one that looks is told what it asks to see of these clients, or of any
-pub answers_inside : (a b : Post) (old new : State) (people : List Person) (known : Known) (place : ℕ) (inside : Sight) →
+pub answers_inside : (a b : Post) (old new : State) (people : List Person) (known : KnownHeld) (place : ℕ) (inside : Sight) →
     Brings (LooksOf people known place inside) a old b new → Brings (AnswersInside place inside) a old b new
 answers_inside a b old new people known place inside brings =
     brings_as (LooksOf people known place inside) (AnswersInside place inside) a b old new (λ said added is. of said added is) brings
@@ -34,14 +34,14 @@ answers_inside a b old new people known place inside brings =
     of said added (inr refused) = inr refused
 
 -- a text, or why not, is told to one that asks for it
-told_or : (people : List Person) (known : Known) (place : ℕ) (inside : Sight) (text : List ℕ) (old new : State) (said added : Texts) →
+told_or : (people : List Person) (known : KnownHeld) (place : ℕ) (inside : Sight) (text : List ℕ) (old new : State) (said added : Texts) →
     (OnlyTold place text old said added new → LooksOf people known place inside old said added new) → ShowsText place text old said added new →
     LooksOf people known place inside old said added new
 told_or people known place inside text old new said added each (inl only) = each only
 told_or people known place inside text old new said added each (inr refused) = inr refused
 
 -- it is refused
-pub look_refused : (a b : Post) (old new : State) (people : List Person) (known : Known) (place : ℕ) (inside : Sight) (line : ReplyLine) → IsRefusal line →
+pub look_refused : (a b : Post) (old new : State) (people : List Person) (known : KnownHeld) (place : ℕ) (inside : Sight) (line : ReplyLine) → IsRefusal line →
     Brings (OnlyTold place (line_text line)) a old b new → Brings (LooksOf people known place inside) a old b new
 look_refused a b old new people known place inside line is brings =
     brings_as (IsRefused place) (LooksOf people known place inside) a b old new (λ said added refused. inr refused) (refuses a b old new place line is brings)
@@ -55,7 +55,7 @@ show_refused a b old new place text line is brings =
 pub show_told : (a b : Post) (old new : State) (place : ℕ) (text : List ℕ) → Brings (OnlyTold place text) a old b new → Brings (ShowsText place text) a old b new
 show_told a b old new place text brings = brings_as (OnlyTold place text) (ShowsText place text) a b old new (λ said added only. inl only) brings
 
-pub why_shown : (a b : Post) (old new : State) (people : List Person) (known : Known) (place number : ℕ) (opened : OpenObject) (text : Result (Vec ℕ) AllocError) → Some opened ≡ opened_at old place →
+pub why_shown : (a b : Post) (old new : State) (people : List Person) (known : KnownHeld) (place number : ℕ) (opened : OpenObject) (text : Result (Vec ℕ) AllocError) → Some opened ≡ opened_at old place →
     IfOk text (λ t. (object : Scene) × (slice_get old.objects opened.object ≡ Some object) × IsWhy object number t.items) →
     Brings (Shows place text) a old b new → Brings (LooksOf people known place (insides.Why number)) a old b new
 why_shown a b old new people known place number opened (Ok t) by (object, there, is) brings =
@@ -65,7 +65,7 @@ why_shown a b old new people known place number opened (Ok t) by (object, there,
 why_shown a b old new people known place number opened (Err e) by is brings =
     brings_as (IsRefused place) (LooksOf people known place (insides.Why number)) a b old new (λ said added refused. inr refused) brings
 
-pub who_shown : (a b : Post) (old new : State) (people : List Person) (known : Known) (place from : ℕ) (opened : OpenObject) (text : Result (Vec ℕ) AllocError) → Some opened ≡ opened_at old place → custodies_of known.custody ≡ old.custody →
+pub who_shown : (a b : Post) (old new : State) (people : List Person) (known : KnownHeld) (place from : ℕ) (opened : OpenObject) (text : Result (Vec ℕ) AllocError) → Some opened ≡ opened_at old place → custodies_of known.custody ≡ old.custody →
     IfOk text (λ t. (object : Scene) × (slice_get old.objects opened.object ≡ Some object) × IsWho (record { peers = old.peers; people = people; now = known.now; at = opened.object }) object (slice_get known.custody opened.object) from t.items) →
     Brings (Shows place text) a old b new → Brings (LooksOf people known place (insides.Who from)) a old b new
 who_shown a b old new people known place from opened (Ok t) by same (object, there, is) brings =
@@ -75,7 +75,7 @@ who_shown a b old new people known place from opened (Ok t) by same (object, the
 who_shown a b old new people known place from opened (Err e) by same is brings =
     brings_as (IsRefused place) (LooksOf people known place (insides.Who from)) a b old new (λ said added refused. inr refused) brings
 
-pub list_shown : (a b : Post) (old new : State) (people : List Person) (known : Known) (place : ℕ) (at : Option ℕ) (text : Result (Vec ℕ) AllocError) → at ≡ object_in (opened_at old place) →
+pub list_shown : (a b : Post) (old new : State) (people : List Person) (known : KnownHeld) (place : ℕ) (at : Option ℕ) (text : Result (Vec ℕ) AllocError) → at ≡ object_in (opened_at old place) →
     IfOk text (λ t. IsList old.objects at t.items) → Brings (Shows place text) a old b new → Brings (LooksOf people known place insides.List) a old b new
 list_shown a b old new people known place at (Ok t) same is brings =
     brings_as (ShowsText place t.items) (LooksOf people known place insides.List) a b old new

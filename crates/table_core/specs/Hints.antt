@@ -9,8 +9,8 @@ use Rattle.live_core.specs.Scene.{Scene}
 use Rattle.client_core.specs.Refusals.{AreListed, TellsNames, declared_text}
 
 -- the names of objects
-abbrev pub names_of : List Scene → List (List ℕ)
-names_of objects = map (λ (o : Scene). o.hall.object.name) objects
+abbrev pub scene_names : List Scene → List (List ℕ)
+scene_names objects = map (λ (o : Scene). o.hall.object.name) objects
 
 -- those of operations
 abbrev pub names_in : List OperationForm → List (List ℕ)

@@ -8,9 +8,9 @@ ghost use Rattle.session_text.specs.declared.line.ReplyLine.TheVariants as lines
 ghost use Rattle.session_text.specs.Lines.{line_text};
 ghost use Rattle.client_core.specs.Deeds.{OnlyTold};
 ghost use Rattle.client_core.specs.Asked.{IsRefused};
-ghost use Rattle.client_core.specs.Refusals.{IsHint, IsRefusal, TellsNames, declared_text, kind_text, listed_params, params_text, refusal_text, result_text, without_feed};
+ghost use Rattle.client_core.specs.Refusals.{IsHint, IsRefusal, TellsNames, declared_text, elem_text, listed_params, params_text, refusal_text, result_text, without_feed};
 ghost use Rattle.table_core.specs.Brings.{Brings};
-ghost use Rattle.table_core.specs.Hints.{AddsListed, IsDeclared, IsHintAt, IsHintOf, names_in, names_of};
+ghost use Rattle.table_core.specs.Hints.{AddsListed, IsDeclared, IsHintAt, IsHintOf, names_in, scene_names};
 ghost use Rattle.table_core.specs.Seen.{seen};
 
 use crate::peers::opened_at;
@@ -76,7 +76,7 @@ fn push_objects(
     room: usize,
     objects: &[Hosted],
 ) -> Result<(), AllocError>
-    ensures { OnOk result (AddsListed sign.now room (names_of objects.now) out.old.items out.new.items) }
+    ensures { OnOk result (AddsListed sign.now room (scene_names objects.now) out.old.items out.new.items) }
 {
     match objects.split_first() {
         None => Ok(()),
@@ -120,7 +120,7 @@ fn push_operations(
 
 // `there are NAME, NAME ..`, of objects.
 fn objects_text(alloc: Global, objects: &[Hosted]) -> Result<Vec<u8>, AllocError>
-    ensures { IfOk result (λ text. TellsNames (names_of objects.now) text.items) }
+    ensures { IfOk result (λ text. TellsNames (scene_names objects.now) text.items) }
 {
     let mut text = Vec::new(alloc);
     text.extend_from_slice(b"there are")?;
@@ -139,7 +139,7 @@ fn operations_text(alloc: Global, object: &Object) -> Result<Vec<u8>, AllocError
 }
 
 fn kind_of(kind: Elem) -> &'static [u8]
-    ensures { result.now ≡ kind_text kind }
+    ensures { result.now ≡ elem_text kind }
 {
     match kind {
         Elem::Integer => b" : integer",
@@ -149,7 +149,7 @@ fn kind_of(kind: Elem) -> &'static [u8]
 
 // Adds a parameter behind a sign.
 fn push_param(out: &mut Vec<u8>, sign: &[u8], param: &Param) -> Result<(), AllocError>
-    ensures { OnOk result (out.new.items ≡ out.old.items ++ (sign.now ++ (param.now.name ++ kind_text param.now.kind))) }
+    ensures { OnOk result (out.new.items ≡ out.old.items ++ (sign.now ++ (param.now.name ++ elem_text param.now.kind))) }
 {
     out.extend_from_slice(sign)?;
     out.extend_from_slice(param.name.as_bytes())?;
@@ -347,7 +347,7 @@ impl Table {
 
     // Which objects there are.
     fn object_names(&self) -> Option<Vec<u8>>
-        ensures { IfSome result (λ hint. TellsNames (names_of self.now.objects.items) hint.items) }
+        ensures { IfSome result (λ hint. TellsNames (scene_names self.now.objects.items) hint.items) }
     {
         match objects_text(self.alloc, &self.objects) {
             Ok(text) => Some(text),

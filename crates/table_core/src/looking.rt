@@ -9,7 +9,7 @@ ghost use Rattle.client_core.specs.Asked.{AnswersInside};
 ghost use Rattle.client_core.specs.ToldInside.{IsWhy, IsWho, object_in};
 ghost use Rattle.client_core.specs.State.{opened_in, peers_of};
 ghost use Rattle.table_core.specs.Brings.{Brings};
-ghost use Rattle.table_core.specs.Looks.{LooksOf, known_of};
+ghost use Rattle.table_core.specs.Looks.{LooksOf, table_known};
 ghost use Rattle.table_core.specs.Parts.{Shows, ShowsText};
 ghost use Rattle.table_core.specs.Seen.{seen};
 
@@ -93,7 +93,7 @@ impl Table {
         inside: Sight,
         post: &mut Post,
     ) -> Result<(), AllocError>
-        ensures { OnOk result (Brings (LooksOf (people_of self.old.clients) (known_of self.old) place inside) post.old
+        ensures { OnOk result (Brings (LooksOf (people_of self.old.clients) (table_known self.old) place inside) post.old
             (seen self.old) post.new (seen self.new)) }
     {
         match inside {
@@ -113,7 +113,7 @@ impl Table {
     }
 
     fn look_why(&mut self, place: usize, told: u64, post: &mut Post) -> Result<(), AllocError>
-        ensures { OnOk result (Brings (LooksOf (people_of self.old.clients) (known_of self.old) place (insides.Why told)) post.old
+        ensures { OnOk result (Brings (LooksOf (people_of self.old.clients) (table_known self.old) place (insides.Why told)) post.old
             (seen self.old) post.new (seen self.new)) }
     {
         let Some(opened) = opened_at(&self.clients, place) else {
@@ -133,7 +133,7 @@ impl Table {
     }
 
     fn look_who(&mut self, place: usize, from: u64, post: &mut Post) -> Result<(), AllocError>
-        ensures { OnOk result (Brings (LooksOf (people_of self.old.clients) (known_of self.old) place (insides.Who from)) post.old
+        ensures { OnOk result (Brings (LooksOf (people_of self.old.clients) (table_known self.old) place (insides.Who from)) post.old
             (seen self.old) post.new (seen self.new)) }
     {
         let Some(opened) = opened_at(&self.clients, place) else {
@@ -164,7 +164,7 @@ impl Table {
     }
 
     fn look_list(&mut self, place: usize, post: &mut Post) -> Result<(), AllocError>
-        ensures { OnOk result (Brings (LooksOf (people_of self.old.clients) (known_of self.old) place insides.List) post.old
+        ensures { OnOk result (Brings (LooksOf (people_of self.old.clients) (table_known self.old) place insides.List) post.old
             (seen self.old) post.new (seen self.new)) }
     {
         let at = object_of(&self.clients, place);

@@ -5,7 +5,7 @@ use Rattle.guest_core.specs.Guests.{Guests}
 use Rattle.live_core.specs.Calls.{seat_of}
 use Rattle.live_core.specs.Scene.{Scene}
 use Rattle.client_core.specs.Holding.{Holding}
-use Rattle.client_core.specs.HeldRows.{HeldRow, IsAwayOf, IsNameOf, is_least_of, seconds_of}
+use Rattle.client_core.specs.HeldRows.{HeldRow, IsAwayOf, IsNameOf, is_least_of, held_seconds}
 use Rattle.inside_core.proofs.Holding.{held_one, line_made}
 use Rattle.inside_core.proofs.held.push_row.Goals as goal
 
@@ -16,7 +16,7 @@ returns c =
     let now = c.args.whom.second in
     let row : HeldRow = record {
       call = c.args.held.now;
-      seconds = seconds_of now c.args.since;
+      seconds = held_seconds now c.args.since;
       is_least = is_least_of c.args.since;
       name = option_map (λ n. n.now) c.name_in-name.result;
       away = c.away_in-away.result;
