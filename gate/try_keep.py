@@ -9,6 +9,7 @@ import resource
 import shutil
 import socket
 import subprocess
+import time
 from collections.abc import Callable, Iterable, Iterator, Sequence
 
 from gate import served
@@ -29,6 +30,13 @@ CELL = """object cell;
   var v : array [1] of integer;
   entry procedure set(x : integer); begin v[0] := x end;
   entry function get : integer; begin get := v[0] end;
+end;
+"""
+SLOT = """object slot;
+  path 1:(grab; free) end;
+  entry procedure grab; begin end;
+  entry procedure free; begin end;
+  hold grab until free;
 end;
 """
 POOL = """object {};
@@ -257,13 +265,36 @@ def of_a_name_the_last_16_calls_are_known(place: Place) -> None:
 
 
 def an_object_knows_4096_names(place: Place) -> None:
-    """A further one is not let in as long as none has been away for an hour; those that are known are."""
+    """A further one is not let in as long as none has been away for an hour; those that are known are. Behind a start that
+    says `--forget 3` it is three seconds later, and the first one goes for it; no other goes before its place is needed."""
     place.file.write_text(CELL, encoding="ascii")
     with place.served("keep", "--sync", "1000") as say:
         for turn in range(4_096):
             check(say(f"open cell as n{turn}", "call #1 get")[:2], ["opened cell next 1", f"accepted {turn + 1}"])
         heard = [say(f"open cell as {name}")[0] for name in ("n4096", "n0", "n4095")]
         check(heard, ["no Full", "opened cell next 2", "opened cell next 2"])
+    begun = time.monotonic()
+    with place.served("keep", "--sync", "1000", "--forget", "3") as say:
+        while (said := say("open cell as n4096")[0]) == "no Full" and time.monotonic() - begun < SECONDS:
+            time.sleep(0.1)
+        check((said, time.monotonic() - begun >= 3), ("opened cell next 1", True), "the further one, not before its time")
+        heard = [say(f"open cell as {name}")[0].split()[-1] for name in ("n1", "n4095", "n0", "n2", "n4", "n1")]
+        check(heard, ["2", "2", "1", "1", "2", "2"], "the next keys")
+
+
+def a_name_that_holds_keeps_its_place(place: Place) -> None:
+    """Nor does another one go for a new name while one that was away as long holds something."""
+    place.file.write_text(SLOT, encoding="ascii")
+    with place.served("keep", "--sync", "1000", "--forget", "1", "--away", "86400") as say:
+        check(say("open slot as ann", "call grab")[:3], ["opened slot next 1", "accepted 1", "done 1"])
+        for turn in range(4_095):
+            check(say(f"open slot as n{turn}")[0], "opened slot next 1")
+        time.sleep(2)
+        heard = [say(f"open slot as {name}")[0] for name in ("bob", "n0", "ann")]
+        check(heard, ["no Full", "opened slot next 1", "opened slot next 2"], "while it holds")
+        check(say("open slot as ann", "call free")[:3], ["opened slot next 2", "accepted 2", "done 2"])
+        heard = [say(f"open slot as {name}")[0] for name in ("bob", "ann")]
+        check(heard, ["opened slot next 1", "opened slot next 3"], "when it holds nothing")
 
 
 def the_limit_of_open_files_is_raised(place: Place) -> None:
@@ -401,6 +432,7 @@ TRIES = [
     ended_epochs_are_kept_up_to_a_size,
     of_a_name_the_last_16_calls_are_known,
     an_object_knows_4096_names,
+    a_name_that_holds_keeps_its_place,
     the_limit_of_open_files_is_raised,
     the_tool_of_before_calls_the_program,
 ]

@@ -41,10 +41,10 @@ holds_cases (h ∷ held) session = elim (holds_cases held session) [
 ]
 
 -- who is forgotten for a new name holds nothing
-pub none_kept : (held : List HeldCall) (v : Guests) (name : List ℕ) (second : ℕ) → (IsCrowded held v name second → ⊥) → IsUnknown v name → 4096 ≤ length v.guests → (p : ℕ) (g : Guest) → IsLongestAway v.guests second p g → HoldsNone held g.session
+pub none_kept : (held : List HeldCall) (v : Guests) (name : List ℕ) (second : ℕ) → (IsCrowded held v name second → ⊥) → IsUnknown v name → 4096 ≤ length v.guests → (p : ℕ) (g : Guest) → IsLongestAway v.guests v.least second p g → HoldsNone held g.session
 none_kept held v name second none unknown full p g longest = elim (holds_cases held g.session) [
   | inl nothing ↦ nothing
-  | inr some ↦ absurd (none (record { unknown = unknown; full = full; place = p; guest = g; there = longest.there; keeps = record { since = longest.since; away = longest.may.away; hour = longest.may.hour; holds = some } }))
+  | inr some ↦ absurd (none (record { unknown = unknown; full = full; place = p; guest = g; there = longest.there; keeps = record { since = longest.since; away = longest.may.away; long = longest.may.long; holds = some } }))
 ]
 
 -- what is due gives back the newest

@@ -111,11 +111,11 @@ pub record IsBusy (gone : List Holder) (v : Guests) (name : List ℕ) : Type 0 w
   pub by : IsNamed v holder.session place guest
   pub named : guest.name ≡ name
 
--- a client holds something, and might be forgotten, did it hold nothing: it is away for an hour
-pub record KeepsPlace (held : List HeldCall) (second : ℕ) (g : Guest) : Type 0 where
+-- a client holds something, and might be forgotten, did it hold nothing: it is away for so many seconds at least
+pub record KeepsPlace (held : List HeldCall) (least second : ℕ) (g : Guest) : Type 0 where
   pub since : ℕ
   pub away : g.away ≡ Some since
-  pub hour : since + 3600 ≤ second
+  pub long : since + least ≤ second
   pub holds : HoldsSome held g.session
 
 -- a new name may not come: all places are taken, and a client that might be forgotten for it holds something
@@ -125,7 +125,7 @@ pub record IsCrowded (held : List HeldCall) (v : Guests) (name : List ℕ) (seco
   pub place : ℕ
   pub guest : Guest
   pub there : slice_get v.guests place ≡ Some guest
-  pub keeps : KeepsPlace held second guest
+  pub keeps : KeepsPlace held v.least second guest
 
 -- When a call is due for a session in this second: one whose second has come is due now; where one that was made for it
 -- waits no more, and did not end, it is due again a second later.

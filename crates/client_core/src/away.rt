@@ -15,9 +15,6 @@ use guest_core::held::Holds;
 use live_core::hosted::Hosted;
 use path_tree::name::Name;
 
-// A client that is away for so many seconds may be forgotten, unless it holds something.
-const LEAST_AWAY: u64 = 3_600;
-
 // Whether a call that was made for the client of this name waits, by what is known of one that is gone.
 fn is_of(guests: &Guests, one: Holder, name: &Name) -> bool
     ensures yes { result ≡ true → (one.when ≡ ItWaits) × ((p : ℕ) × (g : AGuest) × IsNamed guests.now one.session p g
@@ -49,23 +46,23 @@ pub(crate) fn is_busy_by(guests: &Guests, gone: &[Holder], name: &Name) -> bool
     false
 }
 
-// Whether a client is away for an hour.
-fn is_long_away(guest: &Guest, second: u64) -> bool
-    ensures yes { result ≡ true → (since : ℕ) × (guest.now.away ≡ Some since) × (since + 3600 ≤ second) }
-    ensures no { result ≡ false → (since : ℕ) → guest.now.away ≡ Some since → since + 3600 ≤ second → ⊥ }
+// Whether a client is away for so many seconds at least.
+fn is_long_away(guest: &Guest, least: u64, second: u64) -> bool
+    ensures yes { result ≡ true → (since : ℕ) × (guest.now.away ≡ Some since) × (since + least ≤ second) }
+    ensures no { result ≡ false → (since : ℕ) → guest.now.away ≡ Some since → since + least ≤ second → ⊥ }
 {
     match guest.away() {
         None => false,
-        Some(since) => since <= second && second - since >= LEAST_AWAY,
+        Some(since) => since <= second && second - since >= least,
     }
 }
 
-// Whether a client that is away for an hour holds something.
-fn keeps_place(guest: &Guest, holds: &Holds, second: u64) -> bool
-    ensures yes { result ≡ true → KeepsPlace holds.now second guest.now }
-    ensures no { result ≡ false → KeepsPlace holds.now second guest.now → ⊥ }
+// Whether a client that is away for so many seconds at least holds something.
+fn keeps_place(guest: &Guest, holds: &Holds, least: u64, second: u64) -> bool
+    ensures yes { result ≡ true → KeepsPlace holds.now least second guest.now }
+    ensures no { result ≡ false → KeepsPlace holds.now least second guest.now → ⊥ }
 {
-    if !is_long_away(guest, second) {
+    if !is_long_away(guest, least, second) {
         return false;
     }
     match holds.newest(u32::from(guest.session())) {
@@ -74,14 +71,14 @@ fn keeps_place(guest: &Guest, holds: &Holds, second: u64) -> bool
     }
 }
 
-// Whether one of these clients is away for an hour and holds something.
-fn any_keeps(guests: &[Guest], holds: &Holds, second: u64) -> bool
-    ensures yes { result ≡ true → (place : ℕ) × (g : AGuest) × (slice_get guests.now place ≡ Some g) × KeepsPlace holds.now second g }
-    ensures no { result ≡ false → (place : ℕ) (g : AGuest) → slice_get guests.now place ≡ Some g → KeepsPlace holds.now second g → ⊥ }
+// Whether one of these clients is away for so many seconds at least and holds something.
+fn any_keeps(guests: &[Guest], holds: &Holds, least: u64, second: u64) -> bool
+    ensures yes { result ≡ true → (place : ℕ) × (g : AGuest) × (slice_get guests.now place ≡ Some g) × KeepsPlace holds.now least second g }
+    ensures no { result ≡ false → (place : ℕ) (g : AGuest) → slice_get guests.now place ≡ Some g → KeepsPlace holds.now least second g → ⊥ }
 {
     for place in 0..guests.len() {
         let guest = &guests[place];
-        if keeps_place(guest, holds, second) {
+        if keeps_place(guest, holds, least, second) {
             return true;
         }
     }
@@ -96,7 +93,7 @@ pub(crate) fn is_crowded_by(guests: &Guests, holds: &Holds, name: &Name, second:
     if guests.knows(name) || guests.guests().len() < MOST_NAMES as usize {
         return false;
     }
-    any_keeps(guests.guests(), holds, second)
+    any_keeps(guests.guests(), holds, guests.least_away(), second)
 }
 
 // When a call is due in this second for one that is gone.

@@ -267,13 +267,13 @@ impl Holding {
     }
 
     /// Whether a client of a new name may not come in this second: there are 4,096 names, and one that might be forgotten
-    /// for it, being away for an hour, holds something.
+    /// for it, being away for the seconds of [`Guests::least_away`], holds something.
     pub fn is_crowded(&self, hosted: &Hosted, name: &Name, second: u64) -> bool
         ensures yes { result ≡ true → IsCrowded self.now.held hosted.now.guests name.now second }
         ensures no { result ≡ false → IsCrowded self.now.held hosted.now.guests name.now second → ⊥ }
         // So who is forgotten for a new name holds nothing.
         ensures kept { result ≡ false → IsUnknown hosted.now.guests name.now → 4096 ≤ length hosted.now.guests.guests →
-            (p : ℕ) (g : AGuest) → IsLongestAway hosted.now.guests.guests second p g → HoldsNone self.now.held g.session }
+            (p : ℕ) (g : AGuest) → IsLongestAway hosted.now.guests.guests hosted.now.guests.least second p g → HoldsNone self.now.held g.session }
     {
         is_crowded_by(hosted.guests(), &self.holds, name, second)
     }

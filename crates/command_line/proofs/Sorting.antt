@@ -11,17 +11,18 @@ use Rattle.command_line.specs.declared.watching.Which.{Which}
 use Rattle.command_line.specs.declared.watching.Which.TheVariants as options
 use Rattle.command_line.specs.Watching.{AsksKeep, flag_of, head_of, IsHyphen, IsNot, IsValueOf, Sorted, only, with_value, IsApart, alone, over, next, last, joined, other, texts, sorted_of, ahead, Given, Rests, Goes, Ends}
 
-abbrev six : List Text → List Text → List Text → List Text → List Text → List Text → Sorted
-six a b c d e f = record { status = a; log = b; away = c; cut = d; known = e; words = f }
+abbrev seven : List Text → List Text → List Text → List Text → List Text → List Text → List Text → Sorted
+seven a b c d e f g = record { status = a; log = b; away = c; forget = d; cut = e; known = f; words = g }
 
-all_six : (a b c d e f g h i j k l : List Text) → a ≡ g → b ≡ h → c ≡ i → d ≡ j → e ≡ k → f ≡ l → six a b c d e f ≡ six g h i j k l
-all_six a b c d e f g h i j k l p q r s t u = λ x. six (p x) (q x) (r x) (s x) (t x) (u x)
+all_seven : (a b c d e f g h i j k l m n : List Text) → a ≡ h → b ≡ i → c ≡ j → d ≡ k → e ≡ l → f ≡ m → g ≡ n → seven a b c d e f g ≡ seven h i j k l m n
+all_seven a b c d e f g h i j k l m n o p q r s t u = λ x. seven (o x) (p x) (q x) (r x) (s x) (t x) (u x)
 
 -- what is found of options is as it was
 pub record Stays (old new : Apart) : Type 0 where
   pub status : new.status.items ≡ old.status.items
   pub log : new.log.items ≡ old.log.items
   pub away : new.away.items ≡ old.away.items
+  pub forget : new.forget.items ≡ old.forget.items
   pub cut : new.cut.items ≡ old.cut.items
   pub known : new.known.items ≡ old.known.items
 
@@ -41,16 +42,16 @@ ended found = append-nil (texts found)
 
 nothing_more : (found : Apart) → ahead found (only []) ≡ sorted_of found
 nothing_more found =
-    all_six (texts found.status.items ++ []) (texts found.log.items ++ []) (texts found.away.items ++ []) (texts found.cut.items ++ []) (texts found.known.items ++ []) (texts found.words.items ++ [])
-    (texts found.status.items) (texts found.log.items) (texts found.away.items) (texts found.cut.items) (texts found.known.items) (texts found.words.items)
-    (ended found.status.items) (ended found.log.items) (ended found.away.items) (ended found.cut.items) (ended found.known.items) (ended found.words.items)
+    all_seven (texts found.status.items ++ []) (texts found.log.items ++ []) (texts found.away.items ++ []) (texts found.forget.items ++ []) (texts found.cut.items ++ []) (texts found.known.items ++ []) (texts found.words.items ++ [])
+    (texts found.status.items) (texts found.log.items) (texts found.away.items) (texts found.forget.items) (texts found.cut.items) (texts found.known.items) (texts found.words.items)
+    (ended found.status.items) (ended found.log.items) (ended found.away.items) (ended found.forget.items) (ended found.cut.items) (ended found.known.items) (ended found.words.items)
 
 -- the words that are found are others
 with_words : (old new : Apart) (s : Sorted) (words : List Text) → Stays old new → texts old.words.items ++ words ≡ texts new.words.items ++ s.words → ahead old (record s { words = words }) ≡ ahead new s
 with_words old new s words same is =
-    all_six (texts old.status.items ++ s.status) (texts old.log.items ++ s.log) (texts old.away.items ++ s.away) (texts old.cut.items ++ s.cut) (texts old.known.items ++ s.known) (texts old.words.items ++ words)
-    (texts new.status.items ++ s.status) (texts new.log.items ++ s.log) (texts new.away.items ++ s.away) (texts new.cut.items ++ s.cut) (texts new.known.items ++ s.known) (texts new.words.items ++ s.words)
-    (stayed old.status.items new.status.items s.status same.status) (stayed old.log.items new.log.items s.log same.log) (stayed old.away.items new.away.items s.away same.away)
+    all_seven (texts old.status.items ++ s.status) (texts old.log.items ++ s.log) (texts old.away.items ++ s.away) (texts old.forget.items ++ s.forget) (texts old.cut.items ++ s.cut) (texts old.known.items ++ s.known) (texts old.words.items ++ words)
+    (texts new.status.items ++ s.status) (texts new.log.items ++ s.log) (texts new.away.items ++ s.away) (texts new.forget.items ++ s.forget) (texts new.cut.items ++ s.cut) (texts new.known.items ++ s.known) (texts new.words.items ++ s.words)
+    (stayed old.status.items new.status.items s.status same.status) (stayed old.log.items new.log.items s.log same.log) (stayed old.away.items new.away.items s.away same.away) (stayed old.forget.items new.forget.items s.forget same.forget)
     (stayed old.cut.items new.cut.items s.cut same.cut) (stayed old.known.items new.known.items s.known same.known) is
 
 -- nothing is found with this word
@@ -62,11 +63,11 @@ pub goes_joined : (which : Which) (w value : Text) (old new : Apart) → w ≡ h
 goes_joined which w value old new is given = λ rest s apart. (with_value which value s, subst (λ l. IsApart (l ∷ rest) (with_value which value s)) (sym is) (joined which value apart), given s)
 
 -- another word
-pub goes_other : (w : Bor Text) (old new : Apart) → w.now ≢ codes "--" → IsNot options.Status w.now → IsNot options.Log w.now → IsNot options.Away w.now → IsNot options.Cut w.now →
+pub goes_other : (w : Bor Text) (old new : Apart) → w.now ≢ codes "--" → IsNot options.Status w.now → IsNot options.Log w.now → IsNot options.Away w.now → IsNot options.Forget w.now → IsNot options.Cut w.now →
     IsNot options.Known w.now → Stays old new → new.words.items ≡ old.words.items ++ w ∷ [] → Goes stages.Plain w.now old new stages.Plain
-goes_other w old new dashes no_status no_log no_away no_cut no_known same push = λ rest s apart. (
+goes_other w old new dashes no_status no_log no_away no_forget no_cut no_known same push = λ rest s apart. (
   record s { words = w.now ∷ s.words },
-  other dashes no_status no_log no_away no_cut no_known apart,
+  other dashes no_status no_log no_away no_forget no_cut no_known apart,
   with_words old new s (w.now ∷ s.words) same (pushed old.words.items new.words.items w w.now s.words refl push),
 )
 
@@ -119,14 +120,14 @@ asks_keep (v ∷ w ∷ words) d b two is = (λ t. ap Some (is.0 t), λ e. is.1 (
 abbrev pub Gathers : List Text → OptionStage → Apart → List Text → Type 0
 Gathers all stage found rest = (s : Sorted) → Rests stage rest s → (t : Sorted) × IsApart all t × (t ≡ ahead found s)
 
-pub nothing_found : (all : List Text) (found : Apart) → found.status.items ≡ [] → found.log.items ≡ [] → found.away.items ≡ [] → found.cut.items ≡ [] → found.known.items ≡ [] → found.words.items ≡ [] →
+pub nothing_found : (all : List Text) (found : Apart) → found.status.items ≡ [] → found.log.items ≡ [] → found.away.items ≡ [] → found.forget.items ≡ [] → found.cut.items ≡ [] → found.known.items ≡ [] → found.words.items ≡ [] →
     Gathers all stages.Plain found all
-nothing_found all found status log away cut known words = λ s apart. (
+nothing_found all found status log away forget cut known words = λ s apart. (
   s,
   apart,
-  all_six s.status s.log s.away s.cut s.known s.words (texts found.status.items ++ s.status) (texts found.log.items ++ s.log) (texts found.away.items ++ s.away) (texts found.cut.items ++ s.cut)
+  all_seven s.status s.log s.away s.forget s.cut s.known s.words (texts found.status.items ++ s.status) (texts found.log.items ++ s.log) (texts found.away.items ++ s.away) (texts found.forget.items ++ s.forget) (texts found.cut.items ++ s.cut)
       (texts found.known.items ++ s.known) (texts found.words.items ++ s.words)
-      (ap (λ l. texts l ++ s.status) (sym status)) (ap (λ l. texts l ++ s.log) (sym log)) (ap (λ l. texts l ++ s.away) (sym away)) (ap (λ l. texts l ++ s.cut) (sym cut))
+      (ap (λ l. texts l ++ s.status) (sym status)) (ap (λ l. texts l ++ s.log) (sym log)) (ap (λ l. texts l ++ s.away) (sym away)) (ap (λ l. texts l ++ s.forget) (sym forget)) (ap (λ l. texts l ++ s.cut) (sym cut))
       (ap (λ l. texts l ++ s.known) (sym known)) (ap (λ l. texts l ++ s.words) (sym words)),
 )
 

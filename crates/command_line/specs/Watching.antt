@@ -1,4 +1,4 @@
--- What a kept server is to tell of itself, how long who is gone keeps what it holds, and what a start believes.
+-- What a kept server is to tell of itself, how long who is gone keeps what it holds and its name, and what a start believes.
 use Rattle.std.specs.Prelude.{◌≡◌, ◌≢◌, ℕ, List, [], ◌∷◌, ◌++◌, Some, codes, get_or, map, slice_get, ⊤}
 use Rattle.std.specs.Borrow.{Bor}
 use Rattle.command_line.specs.Forms.{Text, IsNumber, number_of}
@@ -13,11 +13,12 @@ use Rattle.command_line.specs.declared.watching.Watching.{Watching}
 use Rattle.command_line.specs.declared.watching.Which.{Which}
 use Rattle.command_line.specs.declared.watching.Which.TheVariants as options
 
--- the five options, alone and in front of a value
+-- the six options, alone and in front of a value
 abbrev pub flag_of : Which → Text
 flag_of options.Status = codes "--status"
 flag_of options.Log = codes "--log"
 flag_of options.Away = codes "--away"
+flag_of options.Forget = codes "--forget"
 flag_of options.Cut = codes "--accept-cut"
 flag_of options.Known = codes "--known"
 
@@ -25,6 +26,7 @@ abbrev pub head_of : Which → Text
 head_of options.Status = codes "--status="
 head_of options.Log = codes "--log="
 head_of options.Away = codes "--away="
+head_of options.Forget = codes "--forget="
 head_of options.Cut = codes "--accept-cut="
 head_of options.Known = codes "--known="
 
@@ -38,29 +40,32 @@ IsPartAs which w (parts.Flag found) = (found ≡ which) × (w ≡ flag_of which)
 IsPartAs which w (parts.Given found value) = (found ≡ which) × (w ≡ head_of which ++ value.now)
 IsPartAs which w parts.Other = IsNot which w
 
--- it is this option of the five, or none
+-- it is this option of the six, or none
 abbrev pub IsPart : Text → OptionPart → Type 0
 IsPart w (parts.Flag which) = w ≡ flag_of which
 IsPart w (parts.Given which value) = w ≡ head_of which ++ value.now
-IsPart w parts.Other = IsNot options.Status w × IsNot options.Log w × IsNot options.Away w × IsNot options.Cut w × IsNot options.Known w
+IsPart w parts.Other =
+    IsNot options.Status w × IsNot options.Log w × IsNot options.Away w × IsNot options.Forget w × IsNot options.Cut w × IsNot options.Known w
 
 -- Words that are sorted: the values of each option, in order, and the other words.
 pub record Sorted : Type 0 where
   pub status : List Text
   pub log : List Text
   pub away : List Text
+  pub forget : List Text
   pub cut : List Text
   pub known : List Text
   pub words : List Text
 
 abbrev pub only : List Text → Sorted
-only words = record { status = []; log = []; away = []; cut = []; known = []; words = words }
+only words = record { status = []; log = []; away = []; forget = []; cut = []; known = []; words = words }
 
 -- one value more in front
 abbrev pub with_value : Which → Text → Sorted → Sorted
 with_value options.Status value s = record s { status = value ∷ s.status }
 with_value options.Log value s = record s { log = value ∷ s.log }
 with_value options.Away value s = record s { away = value ∷ s.away }
+with_value options.Forget value s = record s { forget = value ∷ s.forget }
 with_value options.Cut value s = record s { cut = value ∷ s.cut }
 with_value options.Known value s = record s { known = value ∷ s.known }
 
@@ -73,6 +78,7 @@ abbrev pub IsValueOf : Which → Text → Type 0
 IsValueOf options.Status w = ⊤
 IsValueOf options.Log w = ⊤
 IsValueOf options.Away w = ⊤
+IsValueOf options.Forget w = ⊤
 IsValueOf options.Cut w = ⊤
 IsValueOf options.Known w = IsHyphen w → ⊥
 
@@ -85,8 +91,8 @@ pub data IsApart : List Text → Sorted → Type 0 where
   alone : {w : Text} {rest : List Text} {s : Sorted} → IsHyphen w → IsApart (w ∷ rest) s → IsApart (flag_of options.Known ∷ w ∷ rest) (with_value options.Known [] s)
   last : (which : Which) → IsApart (flag_of which ∷ []) (with_value which [] (only []))
   joined : (which : Which) (value : Text) {rest : List Text} {s : Sorted} → IsApart rest s → IsApart ((head_of which ++ value) ∷ rest) (with_value which value s)
-  other : {w : Text} {rest : List Text} {s : Sorted} → w ≢ codes "--" → IsNot options.Status w → IsNot options.Log w → IsNot options.Away w → IsNot options.Cut w → IsNot options.Known w →
-      IsApart rest s →
+  other : {w : Text} {rest : List Text} {s : Sorted} → w ≢ codes "--" → IsNot options.Status w → IsNot options.Log w → IsNot options.Away w → IsNot options.Forget w →
+      IsNot options.Cut w → IsNot options.Known w → IsApart rest s →
       IsApart (w ∷ rest) (record s { words = w ∷ s.words })
 
 -- these words ask for `keep`
@@ -106,6 +112,7 @@ sorted_of apart = record {
   status = texts apart.status.items;
   log = texts apart.log.items;
   away = texts apart.away.items;
+  forget = texts apart.forget.items;
   cut = texts apart.cut.items;
   known = texts apart.known.items;
   words = texts apart.words.items;
@@ -117,6 +124,7 @@ ahead found s = record {
   status = texts found.status.items ++ s.status;
   log = texts found.log.items ++ s.log;
   away = texts found.away.items ++ s.away;
+  forget = texts found.forget.items ++ s.forget;
   cut = texts found.cut.items ++ s.cut;
   known = texts found.known.items ++ s.known;
   words = texts found.words.items ++ s.words;
@@ -162,7 +170,13 @@ SaysAway [] n = n ≡ 30
 SaysAway (w ∷ []) n = IsNumber 0 86400 w × (n ≡ number_of w)
 SaysAway (v ∷ w ∷ words) n = ⊥
 
+abbrev pub SaysForget : List Text → ℕ → Type 0
+SaysForget [] n = n ≡ 3600
+SaysForget (w ∷ []) n = IsNumber 1 86400 w × (n ≡ number_of w)
+SaysForget (v ∷ w ∷ words) n = ⊥
+
 -- what is asked for
 abbrev pub IsWatched : Sorted → Watching → Type 0
 IsWatched s watching =
     SaysStatus s.status watching.status × SaysLog s.log watching.log × SaysAway s.away watching.away
+    × SaysForget s.forget watching.forget

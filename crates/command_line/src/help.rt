@@ -399,6 +399,9 @@ pub const STATUS_IS: &str = "S is a number of seconds, 1 to 86400, given once";
 /// What is said of a word that should say how long a client may be away.
 pub const AWAY_IS: &str = "S is a number of seconds, 0 to 86400, given once";
 
+/// What is said of a word that should say how long a name stays at least.
+pub const FORGET_IS: &str = "S is a number of seconds, 1 to 86400, given once";
+
 /// What is said of a word that should say up to which line a journal is taken.
 pub const CUT_IS: &str = "it is NAME:N, with the number N of a line, 1 to 4294967295";
 
@@ -413,6 +416,7 @@ pub const KEEP_MORE: &str =
     "      --status <S>                 DIR/status.prom is written each S seconds, 1 to 86400
       --log <WORD>                 A log on standard error: `text`, `json`, else `none`
       --away <S>                   Away, a named client holds for S seconds, 0 to 86400; 30
+      --forget <S>                 A name away for S seconds may go, 1 to 86400; 3600
       --known [NAME,..]            Objects without a journal are refused: all, or these
       --accept-cut <NAME:N>        Of NAME.journal no line behind line N counts
 

@@ -1,5 +1,5 @@
-//! What a kept server is to tell of itself, how long who is gone keeps what it holds, and what a start believes: the
-//! options `--status S`, `--log WORD`, `--away S`, `--accept-cut NAME:N` and `--known` of `keep`.
+//! What a kept server is to tell of itself, how long who is gone keeps what it holds and its name, and what a start
+//! believes: the options `--status S`, `--log WORD`, `--away S`, `--forget S`, `--accept-cut NAME:N` and `--known` of `keep`.
 //!
 //! They are taken out of the words of a command line, and the parser has the others (`request`): so it is as if they were
 //! not there.
@@ -8,10 +8,10 @@ ghost use Rattle.std.specs.Prelude.{◌≡◌, ◌≢◌, ◌↔◌, ◌++◌, �
 ghost use Rattle.command_line.specs.Forms.{IsNumber, Text, number_of};
 ghost use Rattle.command_line.specs.Watching.{texts, flag_of, head_of, IsHyphen, IsPart, IsPartAs, IsApart, IsTakenApart, IsValueOf};
 ghost use Rattle.command_line.specs.Watching.{AsksKeep, sorted_of};
-ghost use Rattle.command_line.specs.Watching.{Ends, Given, Goes, IsFormOf, IsNot, IsWatched, SaysAway, SaysLog, SaysStatus};
+ghost use Rattle.command_line.specs.Watching.{Ends, Given, Goes, IsFormOf, IsNot, IsWatched, SaysAway, SaysForget, SaysLog, SaysStatus};
 ghost use Rattle.command_line.specs.declared.watching.LogForm.{LogForm as ALogForm};
 ghost use Rattle.command_line.specs.declared.watching.OptionStage.TheVariants.{Plain, Waits};
-ghost use Rattle.command_line.specs.declared.watching.Which.TheVariants.{Away, Cut, Known, Status, Log};
+ghost use Rattle.command_line.specs.declared.watching.Which.TheVariants.{Away, Cut, Forget, Known, Status, Log};
 ghost use Rattle.command_line.specs.declared.watching.Watching.{Watching as AWatching};
 
 use crate::help;
@@ -38,6 +38,9 @@ pub struct Watching {
     /// A client with a name may be away for so many seconds before what it holds is given back: 0 to 86400; 30 where that
     /// is not said.
     pub away: u32,
+    /// A client with a name that holds nothing is away for so many seconds at least where a new name takes its place: 1 to
+    /// 86400; 3600 where that is not said.
+    pub forget: u32,
 }
 
 /// A value that is not what it should be: the word, its option, and what it should be.
@@ -48,13 +51,14 @@ pub struct OddOption<'a> {
     pub means: &'a str,
 }
 
-/// The words of a command line, taken apart: the values of `--status`, of `--log`, of `--away`, of `--accept-cut` and of
-/// `--known`, in order, and the other words.
+/// The words of a command line, taken apart: the values of `--status`, of `--log`, of `--away`, of `--forget`, of
+/// `--accept-cut` and of `--known`, in order, and the other words.
 #[derive(Drop)]
 pub struct Apart<'a> {
     status: Vec<&'a str>,
     log: Vec<&'a str>,
     away: Vec<&'a str>,
+    forget: Vec<&'a str>,
     cut: Vec<&'a str>,
     known: Vec<&'a str>,
     words: Vec<&'a str>,
@@ -65,17 +69,21 @@ const MOST_SECONDS: u32 = 86_400;
 // How long a client with a name may be away where that is not said.
 const USUAL_AWAY: u32 = 30;
 
-// One of the five options.
+// How long a client is away at least before it is forgotten for a new name, where that is not said.
+const USUAL_FORGET: u32 = 3_600;
+
+// One of the six options.
 #[derive(Clone, Copy)]
 enum Which {
     Status,
     Log,
     Away,
+    Forget,
     Cut,
     Known,
 }
 
-// What a word is: one of the five options, the same with a value behind its `=`, or another word.
+// What a word is: one of the six options, the same with a value behind its `=`, or another word.
 #[derive(Clone, Copy)]
 enum OptionPart<'a> {
     Flag(Which),
@@ -91,7 +99,7 @@ enum OptionStage {
     Over,
 }
 
-// How many seconds a word says, if it is a value of `--status`.
+// How many seconds a word says, if it is a value of `--status` or of `--forget`.
 fn seconds_in(word: &str) -> Option<u32>
     ensures some { IfSome result (λ n. IsNumber 1 86400 word.now × (n ≡ number_of word.now)) }
     ensures none { result ≡ None → IsNumber 1 86400 word.now → ⊥ }
@@ -137,6 +145,7 @@ fn flag(which: Which) -> &'static str
         Which::Status => "--status",
         Which::Log => "--log",
         Which::Away => "--away",
+        Which::Forget => "--forget",
         Which::Cut => "--accept-cut",
         Which::Known => "--known",
     }
@@ -149,6 +158,7 @@ fn head(which: Which) -> &'static str
         Which::Status => "--status=",
         Which::Log => "--log=",
         Which::Away => "--away=",
+        Which::Forget => "--forget=",
         Which::Cut => "--accept-cut=",
         Which::Known => "--known=",
     }
@@ -188,10 +198,14 @@ fn part_in<'a>(word: &'a str) -> OptionPart<'a>
             OptionPart::Other => match part_as(word, Which::Away) {
                 OptionPart::Flag(which) => OptionPart::Flag(which),
                 OptionPart::Given(which, value) => OptionPart::Given(which, value),
-                OptionPart::Other => match part_as(word, Which::Cut) {
+                OptionPart::Other => match part_as(word, Which::Forget) {
                     OptionPart::Flag(which) => OptionPart::Flag(which),
                     OptionPart::Given(which, value) => OptionPart::Given(which, value),
-                    OptionPart::Other => part_as(word, Which::Known),
+                    OptionPart::Other => match part_as(word, Which::Cut) {
+                        OptionPart::Flag(which) => OptionPart::Flag(which),
+                        OptionPart::Given(which, value) => OptionPart::Given(which, value),
+                        OptionPart::Other => part_as(word, Which::Known),
+                    },
                 },
             },
         },
@@ -213,6 +227,10 @@ fn give<'a>(found: &mut Apart<'a>, which: Which, value: &'a str) -> Result<(), A
         }
         Which::Away => {
             found.away.push(value)?;
+            Ok(())
+        }
+        Which::Forget => {
+            found.forget.push(value)?;
             Ok(())
         }
         Which::Cut => {
@@ -237,6 +255,7 @@ fn pass<'a>(found: &mut Apart<'a>, word: &'a str) -> Result<OptionStage, AllocEr
     requires status { IsNot Status word.now }
     requires log { IsNot Log word.now }
     requires away { IsNot Away word.now }
+    requires forget { IsNot Forget word.now }
     requires cut { IsNot Cut word.now }
     requires known { IsNot Known word.now }
     ensures { IfOk result (λ next. Goes Plain word.now found.old found.new next) }
@@ -286,6 +305,7 @@ fn stands_alone(which: Which, word: &str) -> bool
         Which::Status => false,
         Which::Log => false,
         Which::Away => false,
+        Which::Forget => false,
         Which::Cut => false,
     }
 }
@@ -369,6 +389,14 @@ fn odd_away<'a>(word: &'a str) -> OddOption<'a> {
     }
 }
 
+fn odd_forget<'a>(word: &'a str) -> OddOption<'a> {
+    OddOption {
+        word,
+        option: "--forget <S>",
+        means: help::FORGET_IS,
+    }
+}
+
 // How many seconds the values of `--status` say; 0 where there is none.
 fn status_in<'a>(values: &[&'a str]) -> Result<u32, OddOption<'a>>
     ensures ok { IfOk result (λ n. SaysStatus (texts values.now) n) }
@@ -414,6 +442,21 @@ fn away_in<'a>(values: &[&'a str]) -> Result<u32, OddOption<'a>>
     }
 }
 
+// How many seconds the values of `--forget` say; 3600 where there is none.
+fn forget_in<'a>(values: &[&'a str]) -> Result<u32, OddOption<'a>>
+    ensures ok { IfOk result (λ n. SaysForget (texts values.now) n) }
+    ensures odd { IfErr result (λ odd. (n : ℕ) → SaysForget (texts values.now) n → ⊥) }
+{
+    match values {
+        [] => Ok(USUAL_FORGET),
+        [word] => match seconds_in(word) {
+            Some(seconds) => Ok(seconds),
+            None => Err(odd_forget(word)),
+        },
+        [_, word, ..] => Err(odd_forget(word)),
+    }
+}
+
 impl<'a> Apart<'a> {
     /// The values of `--accept-cut`, in order.
     pub fn cuts(&self) -> &[&'a str]
@@ -429,7 +472,7 @@ impl<'a> Apart<'a> {
         &self.known
     }
 
-    /// The words without the five options.
+    /// The words without the six options.
     pub fn words(&self) -> &[&'a str]
         ensures { texts result.now ≡ (sorted_of self.now).words }
     {
@@ -444,7 +487,13 @@ impl<'a> Apart<'a> {
         let status = status_in(&self.status)?;
         let log = log_in(&self.log)?;
         let away = away_in(&self.away)?;
-        Ok(Watching { status, log, away })
+        let forget = forget_in(&self.forget)?;
+        Ok(Watching {
+            status,
+            log,
+            away,
+            forget,
+        })
     }
 }
 
@@ -472,6 +521,7 @@ fn gathered<'a>(alloc: Global, words: &'a [&'a str]) -> Result<Apart<'a>, AllocE
         status: Vec::new(alloc),
         log: Vec::new(alloc),
         away: Vec::new(alloc),
+        forget: Vec::new(alloc),
         cut: Vec::new(alloc),
         known: Vec::new(alloc),
         words: Vec::new(alloc),
@@ -486,7 +536,7 @@ fn gathered<'a>(alloc: Global, words: &'a [&'a str]) -> Result<Apart<'a>, AllocE
     Ok(found)
 }
 
-/// Takes the words of a command line apart: those of `keep` have the five options no more, each with the word behind it or
+/// Takes the words of a command line apart: those of `keep` have the six options no more, each with the word behind it or
 /// behind its `=`; a word that begins with a hyphen is no value of `--known`; behind `--` stand no options. The error is
 /// that memory was refused.
 pub fn taken_apart<'a>(alloc: Global, words: &'a [&'a str]) -> Result<Apart<'a>, AllocError>
@@ -501,6 +551,7 @@ pub fn taken_apart<'a>(alloc: Global, words: &'a [&'a str]) -> Result<Apart<'a>,
         status: Vec::new(alloc),
         log: Vec::new(alloc),
         away: Vec::new(alloc),
+        forget: Vec::new(alloc),
         cut: Vec::new(alloc),
         known: Vec::new(alloc),
         words: others,

@@ -144,7 +144,7 @@ fn hosted_of(alloc: Global, object: Object) -> Result<Option<Hosted>, AllocError
     };
     let begun = HostedStart {
         live,
-        guests: Guests::new(alloc, LIMITS.sessions, 64)?,
+        guests: Guests::new(alloc, LIMITS.sessions, 64, 3_600)?,
         past: Vec::new(alloc),
         epoch: 1,
         source,

@@ -60,6 +60,7 @@ impl From<AllocError> for TrialFault {
 const HOUSE: House = House {
     sessions: LIMITS.sessions,
     names: 64,
+    least: 3_600,
     now: 0,
 };
 

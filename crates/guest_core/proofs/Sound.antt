@@ -178,8 +178,8 @@ none_at_all most (suc s) p is = none_named most s p is
 no_guest : (p : ℕ) (g : Guest) → slice_get [] p ≡ Some g → ⊥
 no_guest p g is = cc
 
-pub sound_new : (most names : ℕ) → IsSound (record { guests = []; seats = free_seats most; most = names })
-sound_new most names = record {
+pub sound_new : (most names away : ℕ) → IsSound (record { guests = []; seats = free_seats most; most = names; least = away })
+sound_new most names away = record {
   seated = λ p g is. absurd (no_guest p g is);
   named = λ s p is. absurd (none_at_all most s p is);
   once = λ p q g h is at same. absurd (no_guest p g is);

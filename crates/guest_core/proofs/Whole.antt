@@ -17,7 +17,7 @@ abbrev with_guests : Guests → List Guest → Guests
 with_guests v gs = record v { guests = gs }
 
 abbrev with_both : Guests → List Guest → List SeatHolder → Guests
-with_both v gs seats = record { guests = gs; seats = seats; most = v.most }
+with_both v gs seats = record { guests = gs; seats = seats; most = v.most; least = v.least }
 
 pub place_within : (v : Guests) (session place : ℕ) → IsSound v → slice_get v.seats session ≡ Some (Named place) → place < length v.guests
 place_within v session place sound seat = let k = sound.named session place seat in get_within v.guests place k.0 k.1
@@ -167,24 +167,24 @@ more_refused old new name session second unknown room free is = (unknown, λ ful
     by (inl none) = none session free.free
     by (inr full) = absurd (omega (arith, room, full.0))
 
-pub instead_entered : (old new : Guests) (name : List ℕ) (session second p : ℕ) (f : Guest) → IsUnknown old name → old.most ≤ length old.guests → IsLeastFree old.seats session → IsLongestAway old.guests second p f
+pub instead_entered : (old new : Guests) (name : List ℕ) (session second p : ℕ) (f : Guest) → IsUnknown old name → old.most ≤ length old.guests → IsLeastFree old.seats session → IsLongestAway old.guests old.least second p f
     → new ≡ with_other old p f (guest_of name session None 1) → Enters old name second (Ok (entered_so session 1 true)) new
 instead_entered old new name session second p f unknown full free longest is = inr (record { unknown = unknown; free = free; place = inr (full, (p, f, longest, is)); next_is = refl; is_new = refl })
 
-pub instead_refused : (old new : Guests) (name : List ℕ) (session second p : ℕ) (f : Guest) → IsUnknown old name → IsLeastFree old.seats session → IsLongestAway old.guests second p f → new ≡ old → Enters old name second (Err Memory) new
+pub instead_refused : (old new : Guests) (name : List ℕ) (session second p : ℕ) (f : Guest) → IsUnknown old name → IsLeastFree old.seats session → IsLongestAway old.guests old.least second p f → new ≡ old → Enters old name second (Err Memory) new
 instead_refused old new name session second p f unknown free longest is = (unknown, λ full. by full, is)
   where
     by : IsFull old second → ⊥
     by (inl none) = none session free.free
     by (inr full) = full.1 p longest.since f longest.there longest.may
 
-pub none_entered : (old new : Guests) (name : List ℕ) (second : ℕ) → IsUnknown old name → old.most ≤ length old.guests → NoneMayForget old.guests second → new ≡ old → Enters old name second (Err Full) new
+pub none_entered : (old new : Guests) (name : List ℕ) (second : ℕ) → IsUnknown old name → old.most ≤ length old.guests → NoneMayForget old.guests old.least second → new ≡ old → Enters old name second (Err Full) new
 none_entered old new name second unknown full none is = (unknown, inr (full, none), is)
 
-pub sound_begin : (roll : List Guest) (seats : List SeatHolder) (most names : ℕ) → roll ≡ [] → seats ≡ free_seats most → IsSound (record { guests = roll; seats = seats; most = names })
-sound_begin roll seats most names none free =
-    subst (λ gs. IsSound (record { guests = gs; seats = seats; most = names })) (sym none)
-    (subst (λ ss. IsSound (record { guests = []; seats = ss; most = names })) (sym free) (sound_new most names))
+pub sound_begin : (roll : List Guest) (seats : List SeatHolder) (most names away : ℕ) → roll ≡ [] → seats ≡ free_seats most → IsSound (record { guests = roll; seats = seats; most = names; least = away })
+sound_begin roll seats most names away none free =
+    subst (λ gs. IsSound (record { guests = gs; seats = seats; most = names; least = away })) (sym none)
+    (subst (λ ss. IsSound (record { guests = []; seats = ss; most = names; least = away })) (sym free) (sound_new most names away))
 
 pub known_at : (v now : Guests) (name : List ℕ) (p : ℕ) → v ≡ now → ((g : Guest) × (slice_get v.guests p ≡ Some g) × (g.name ≡ name)) → (q : ℕ) × (h : Guest) × IsAt now name q h
 known_at v now name p same found = (p, found.0, record { there = subst (λ (w : Guests). slice_get w.guests p ≡ Some found.0) same found.1; named = found.2 })

@@ -12,22 +12,22 @@ use Rattle.guest_core.specs.Keys.{fresh_keys}
 use Rattle.guest_core.specs.Seats.{IsLeastFree, NoneIsFree}
 use Rattle.guest_core.specs.Guests.{Guests, IsAt, IsNamed, IsUnknown, with_away, with_seat, with_guest, with_other, guest_of}
 
--- the client may be forgotten: it is away since this second, for an hour at least, and no call of it waits
-pub record MayForget (now : ℕ) (g : Guest) (since : ℕ) : Type 0 where
+-- the client may be forgotten: it is away since this second, for so many seconds at least, and no call of it waits
+pub record MayForget (least now : ℕ) (g : Guest) (since : ℕ) : Type 0 where
   pub away : g.away ≡ Some since
-  pub hour : since + 3600 ≤ now
+  pub long : since + least ≤ now
   pub idle : g.keys.asked ≡ None
 
 -- of those that may be forgotten none is away longer than the client at this place
-pub record IsLongestAway (guests : List Guest) (now p : ℕ) (g : Guest) : Type 0 where
+pub record IsLongestAway (guests : List Guest) (least now p : ℕ) (g : Guest) : Type 0 where
   pub since : ℕ
   pub there : slice_get guests p ≡ Some g
-  pub may : MayForget now g since
-  pub longest : (q t : ℕ) (h : Guest) → slice_get guests q ≡ Some h → MayForget now h t → since ≤ t
+  pub may : MayForget least now g since
+  pub longest : (q t : ℕ) (h : Guest) → slice_get guests q ≡ Some h → MayForget least now h t → since ≤ t
 
 -- none may be forgotten
-abbrev pub NoneMayForget : List Guest → ℕ → Type 0
-NoneMayForget guests now = (q t : ℕ) (h : Guest) → slice_get guests q ≡ Some h → MayForget now h t → ⊥
+abbrev pub NoneMayForget : List Guest → ℕ → ℕ → Type 0
+NoneMayForget guests least now = (q t : ℕ) (h : Guest) → slice_get guests q ≡ Some h → MayForget least now h t → ⊥
 
 -- a client that was away comes again
 pub record ComesAgain (old : Guests) (name : List ℕ) (a : Entered) (new : Guests) : Type 0 where
@@ -45,7 +45,7 @@ pub record ComesAgain (old : Guests) (name : List ℕ) (a : Entered) (new : Gues
 abbrev pub GetsPlace : Guests → ℕ → Guest → Guests → Type 0
 GetsPlace old now g new =
     ((length old.guests < old.most) × (new ≡ with_guest old g))
-    ⊎ ((old.most ≤ length old.guests) × ((p : ℕ) × (f : Guest) × IsLongestAway old.guests now p f
+    ⊎ ((old.most ≤ length old.guests) × ((p : ℕ) × (f : Guest) × IsLongestAway old.guests old.least now p f
     × (new ≡ with_other old p f g)))
 
 -- a client of a new name comes, and gets the least free number
@@ -58,7 +58,7 @@ pub record ComesNew (old : Guests) (name : List ℕ) (now : ℕ) (a : Entered) (
 
 -- there is no room for a client more: no number is free, or no place
 abbrev pub IsFull : Guests → ℕ → Type 0
-IsFull v now = NoneIsFree v.seats ⊎ ((v.most ≤ length v.guests) × NoneMayForget v.guests now)
+IsFull v now = NoneIsFree v.seats ⊎ ((v.most ≤ length v.guests) × NoneMayForget v.guests v.least now)
 
 -- What it answers where a client comes by its name, and what that makes of the clients; a fault, the first that applies,
 -- changes nothing.

@@ -6,12 +6,13 @@ use Rattle.guest_core.specs.declared.seats.SeatHolder.{SeatHolder}
 use Rattle.guest_core.specs.declared.seats.SeatHolder.TheVariants.{Nameless, Named, Retired}
 use Rattle.guest_core.specs.Keys.{Keys, fresh_keys}
 
--- The clients that have names, in the order of their places; what each session number is, from 0 on; and how many names
--- there may be before a new one takes the place of another.
+-- The clients that have names, in the order of their places; what each session number is, from 0 on; how many names there
+-- may be before a new one takes the place of another; and for how many seconds that other one is away at least.
 pub record Guests : Type 0 where
   pub guests : List Guest
   pub seats : List SeatHolder
   pub most : ℕ
+  pub least : ℕ
 
 -- the client that has this session stands at this place
 pub record IsNamed (v : Guests) (session p : ℕ) (g : Guest) : Type 0 where

@@ -82,6 +82,8 @@ pub struct Guests {
     roll: Roll,
     seats: Seats,
     most: u16,
+    // for how many seconds a client is away at least before it is forgotten for a new one
+    least: u64,
 }
 
 impl Model for Guests {
@@ -113,22 +115,23 @@ fn first_entered(session: u16) -> Entered
 
 impl Guests {
     /// No client: sessions will have the numbers from 1 to `sessions`, and there will be `names` names before a new one
-    /// takes the place of another. The error is that memory was refused.
-    pub fn new(alloc: Global, sessions: u16, names: u16) -> Result<Guests, AllocError>
-        ensures { IfOk result (λ v. v ≡ record { guests = []; seats = free_seats sessions; most = names }) }
+    /// takes the place of another, which is away for `least` seconds at least. The error is that memory was refused.
+    pub fn new(alloc: Global, sessions: u16, names: u16, least: u64) -> Result<Guests, AllocError>
+        ensures { IfOk result (λ v. v ≡ record { guests = []; seats = free_seats sessions; most = names; least = least }) }
     {
         let seats = Seats::new(alloc, sessions)?;
         Ok(Guests {
             roll: Roll::new(alloc),
             seats,
             most: names,
+            least,
         })
     }
 
     /// A client comes by its name in the second `now`: it is here from now on. One that was away has its session again. A
     /// new name gets the least free number, and the next place; where there are as many names as may be, it gets the
-    /// place of the client that is away longest, for an hour at least, and has no call that waits: that one is forgotten,
-    /// and its number is given to nobody until [`Guests::renew`].
+    /// place of the client that is away longest, for the seconds of [`Guests::least_away`] at least, and has no call that waits:
+    /// that one is forgotten, and its number is given to nobody until [`Guests::renew`].
     ///
     /// The errors are those of [`EnterFault`], in their order; they change nothing.
     pub fn enter(&mut self, name: &Name, now: u64) -> Result<Entered, EnterFault>
@@ -195,7 +198,7 @@ impl Guests {
         requires free { IsLeastFree self.old.seats session }
         ensures { Enters self.old name.now now result self.new }
     {
-        let Some(place) = self.roll.longest_away(now) else {
+        let Some(place) = self.roll.longest_away(self.least, now) else {
             return Err(EnterFault::Full);
         };
         let Ok(()) = self.displace(place, name, session, None, 1) else {
@@ -246,6 +249,13 @@ impl Guests {
         self.seats.set(old, SeatHolder::Retired);
         self.seats.set(session, SeatHolder::Named(place));
         Ok(())
+    }
+
+    /// For how many seconds a client is away at least before it is forgotten for a new one.
+    pub fn least_away(&self) -> u64
+        ensures { result ≡ self.now.least }
+    {
+        self.least
     }
 
     /// A session gets a name, as a line of a journal or of a front says it: the client is away since the second `away`,

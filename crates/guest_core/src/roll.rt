@@ -21,9 +21,6 @@ use std::marker::Model;
 use std::mem;
 use value_core::datum::Datum;
 
-/// A client that has been away for so many seconds may be forgotten.
-pub const LEAST_AWAY: u64 = 3_600;
-
 // The clients that have names, in the order of their places.
 #[derive(Drop)]
 pub(crate) struct Roll {
@@ -55,30 +52,30 @@ pub(crate) struct Away {
     since: u64,
 }
 
-// Since which second a client is away, where it may be forgotten.
-fn may_forget(guest: &Guest, now: u64) -> Option<u64>
-    ensures some { IfSome result (MayForget now guest.now) }
-    ensures none { IfNone result ((t : ℕ) → MayForget now guest.now t → ⊥) }
+// Since which second a client is away, where it may be forgotten: that is for `least` seconds at least.
+fn may_forget(guest: &Guest, least: u64, now: u64) -> Option<u64>
+    ensures some { IfSome result (MayForget least now guest.now) }
+    ensures none { IfNone result ((t : ℕ) → MayForget least now guest.now t → ⊥) }
 {
     let since = guest.away?;
     if !guest.keys.is_idle() {
         return None;
     }
-    if now < since || now - since < LEAST_AWAY {
+    if now < since || now - since < least {
         return None;
     }
     Some(since)
 }
 
 // Of one that may be forgotten, if there is one, and the client at this place the one that is away longer.
-fn longer(best: Option<Away>, guest: &Guest, place: u16, now: u64) -> Option<Away>
-    ensures stays { ((t : ℕ) → MayForget now guest.now t → ⊥) → result ≡ best }
-    ensures first { (t : ℕ) → MayForget now guest.now t → best ≡ None →
+fn longer(best: Option<Away>, guest: &Guest, place: u16, least: u64, now: u64) -> Option<Away>
+    ensures stays { ((t : ℕ) → MayForget least now guest.now t → ⊥) → result ≡ best }
+    ensures first { (t : ℕ) → MayForget least now guest.now t → best ≡ None →
         result ≡ Some (record { place = place; since = t }) }
-    ensures other { (t : ℕ) (b : AnAway) → MayForget now guest.now t → best ≡ Some b →
+    ensures other { (t : ℕ) (b : AnAway) → MayForget least now guest.now t → best ≡ Some b →
         ((b.since ≤ t) × (result ≡ Some b)) ⊎ ((t < b.since) × (result ≡ Some (record { place = place; since = t }))) }
 {
-    let Some(since) = may_forget(guest, now) else {
+    let Some(since) = may_forget(guest, least, now) else {
         return best;
     };
     match best {
@@ -148,14 +145,14 @@ impl Roll {
         }
     }
 
-    // The place of the client that is away longest, of those that may be forgotten.
-    pub(crate) fn longest_away(&self, now: u64) -> Option<u16>
-        ensures some { IfSome result (λ p. (g : AGuest) × IsLongestAway self.now now p g) }
-        ensures none { IfNone result (NoneMayForget self.now now) }
+    // The place of the client that is away longest, of those that may be forgotten: that is for `least` seconds at least.
+    pub(crate) fn longest_away(&self, least: u64, now: u64) -> Option<u16>
+        ensures some { IfSome result (λ p. (g : AGuest) × IsLongestAway self.now least now p g) }
+        ensures none { IfNone result (NoneMayForget self.now least now) }
     {
         let mut best: Option<Away> = None;
         for place in 0..self.guests.len() {
-            best = longer(best, &self.guests[place], place as u16, now);
+            best = longer(best, &self.guests[place], place as u16, least, now);
         }
         match best {
             None => None,

@@ -200,7 +200,7 @@ lasts_all o e (d ∷ earlier) are =
     let f = e.is.front in
     let h = e.is.house in
     let b = e.is.read.is in
-    let from = are_from h.now (nobody h) f.clients f.kept b.clients.opened (sound_new h.sessions h.names) b.clients.opens in
+    let from = are_from h.now (nobody h) f.clients f.kept b.clients.opened (sound_new h.sessions h.names h.least) b.clients.opens in
     lasts_epoch o e old told
     (holds_began old f told h b.clients.opened was.calls b.clients.opens
     (λ p c is.

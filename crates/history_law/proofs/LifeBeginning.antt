@@ -41,7 +41,7 @@ use Rattle.history_law.proofs.LifeKeeping.{admits_keep, asks_keep, at_name_keep,
 use Rattle.history_law.proofs.LifeLists.{every_left, every_right}
 
 pub first_keeps : FirstKeeps
-first_keeps object done values names limits s first =
+first_keeps object done values names least limits s first =
     record {
       guests = subst (GuestsKeep (object_of object)) (sym first.guests) tt;
       carried = subst (Every IsLong) (sym first.carried) tt;
@@ -187,7 +187,7 @@ behind_keeps object h lines limits s behind known names =
     let clients = read.is.clients in
     let played = read.is.played in
     let fit = tell_fits o (begun_by f) nothing_heard played.kept _ played.told (record { steps = tt; running = λ c same. absurd (none_called c same) }) in
-    let nobody = nobody_seated h.sessions h.names known in
+    let nobody = nobody_seated h.sessions h.names h.least known in
     let opened = open_all_keep o h.now _ f.clients f.kept clients.opened clients.opens read.rows.kept nobody tt in
     let all = make_all_keep o f.base f.carried h.now clients.opened read.is.steps came.guests clients.makes
     (steps_fit object read.is.steps _ played.sound.legal fit.steps)

@@ -13,11 +13,11 @@ use Rattle.history_law.proofs.LifeBeginning.{behind_keeps, first_keeps}
 use Rattle.history_law.proofs.Rows.{first_has_rows}
 
 pub first_starts : FirstStarts
-first_starts t j object done values names limits s before after first there named few adds =
+first_starts t j object done values names least limits s before after first there named few adds =
     let o = object_of object in
     let e = begun_by (front_of s s.epoch adds.tells.runs s.base) in
-    let stands = first_stands object done values names limits s before after first adds few in
-    let keeps = first_keeps object done values names limits s first in
+    let stands = first_stands object done values names least limits s before after first adds few in
+    let keeps = first_keeps object done values names least limits s first in
     record {
       scene = s;
       there = there;

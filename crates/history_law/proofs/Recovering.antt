@@ -38,4 +38,4 @@ make_all_seated base carried now old (step ∷ steps) new (mid, all, one) seated
 
 pub recovered_are_seated : RecoveredAreSeated
 recovered_are_seated h f steps r clients few =
-    make_all_seated f.base f.carried h.now clients.opened steps r.guests clients.makes (open_all_seated h.now _ f.clients f.kept clients.opened clients.opens (nobody_seated h.sessions h.names few))
+    make_all_seated f.base f.carried h.now clients.opened steps r.guests clients.makes (open_all_seated h.now _ f.clients f.kept clients.opened clients.opens (nobody_seated h.sessions h.names h.least few))

@@ -175,5 +175,5 @@ seated_admits old g new (keys, some, free, gets) seated = elim gets [
 ]
 
 -- nobody has come
-pub nobody_seated : (most names : ℕ) → most ≤ 65535 → AreSeated (record { guests = []; seats = free_seats most; most = names })
-nobody_seated most names few = record { sound = sound_new most names; nobody = refl; few = omega (arith, few, length_free most (free_seats most) refl) }
+pub nobody_seated : (most names away : ℕ) → most ≤ 65535 → AreSeated (record { guests = []; seats = free_seats most; most = names; least = away })
+nobody_seated most names away few = record { sound = sound_new most names away; nobody = refl; few = omega (arith, few, length_free most (free_seats most) refl) }

@@ -11,13 +11,13 @@ use Rattle.history_law.proofs.Seating.{nobody_seated}
 use Rattle.history_law.specs.Starts.{FirstStands, BehindStands}
 
 pub first_stands : FirstStands
-first_stands object done values names limits s before after first adds few =
+first_stands object done values names least limits s before after first adds few =
     begun_stands (object_of object) first.past s adds.tells.runs s.epoch s.base (record {
       object = ap object_of first.set_up.object_is;
       held = subst (λ c. IsHeld s.hall (told_behind first.past c)) (sym first.held.kept.contents) first.held;
       waiting = first.waiting;
       sessions = subst (λ n. n ≤ 65535) (sym first.set_up.sessions_are) few;
-      seated = subst AreSeated (sym first.guests) (nobody_seated limits.sessions names few);
+      seated = subst AreSeated (sym first.guests) (nobody_seated limits.sessions names least few);
     }) (adds.tells.events ∙ first.past_is)
 
 pub behind_stands : BehindStands

@@ -474,7 +474,7 @@ no_guest : (p : ℕ) (g : Guest) → slice_get [] p ≡ Some g → ⊥
 no_guest p g is = cc
 
 nobody_yet : (h : House) → AreOpened [] [] (nobody h)
-nobody_yet h = record { sound = sound_new h.sessions h.names; all = tt; lines = λ p g there. absurd (no_guest p g there) }
+nobody_yet h = record { sound = sound_new h.sessions h.names h.least; all = tt; lines = λ p g there. absurd (no_guest p g there) }
 
 no_call_began : (clients : List NamedClient) (c : KeyedCall) → epoch_began clients ≡ call_ended c → ⊥
 no_call_began clients c is = cc

@@ -38,7 +38,7 @@ NextHasRows =
 -- An object that begins is such a one: of which there was no journal,
 abbrev pub FirstKeeps : Type 0
 FirstKeeps =
-    (object : Object) (done : List PastEvent) (values : List Contents) (names : ℕ) (limits : Limits) (s : Scene) → BeginsFirst object done values names limits s → Keeps (object_of object) s
+    (object : Object) (done : List PastEvent) (values : List Contents) (names least : ℕ) (limits : Limits) (s : Scene) → BeginsFirst object done values names least limits s → Keeps (object_of object) s
 
 -- and that goes on behind the lines of its journal
 abbrev pub BehindKeeps : Type 0

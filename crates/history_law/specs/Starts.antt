@@ -17,8 +17,8 @@ use Rattle.history_law.specs.Stands.{Stands}
 -- An object of which there was no journal.
 abbrev pub FirstStands : Type 0
 FirstStands =
-    (object : Object) (done : List PastEvent) (values : List Contents) (names : ℕ) (limits : Limits) (s : Scene) (before after : List ℕ) →
-    BeginsFirst object done values names limits s → (adds : AddsFirst s before after) → limits.sessions ≤ 65535 →
+    (object : Object) (done : List PastEvent) (values : List Contents) (names least : ℕ) (limits : Limits) (s : Scene) (before after : List ℕ) →
+    BeginsFirst object done values names least limits s → (adds : AddsFirst s before after) → limits.sessions ≤ 65535 →
     Stands (object_of object) (begun_by (front_of s s.epoch adds.tells.runs s.base)) nothing_heard s
 
 -- An object that goes on behind the lines of its journal.

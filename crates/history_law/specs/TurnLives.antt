@@ -73,8 +73,8 @@ pub record StartsAt (t : Table) (j : ℕ) (o : ObjectForm) (written : Opening) (
 -- So does an object of which there was no journal,
 abbrev pub FirstStarts : Type 0
 FirstStarts =
-    (t : Table) (j : ℕ) (object : Object) (done : List PastEvent) (values : List Contents) (names : ℕ) (limits : Seats) (s : Scene) (before after : List ℕ) →
-    BeginsFirst object done values names limits s → slice_get t.objects.items j ≡ Some s → IsNamed (object_of object) → limits.sessions ≤ 65535 → (adds : AddsFirst s before after) →
+    (t : Table) (j : ℕ) (object : Object) (done : List PastEvent) (values : List Contents) (names least : ℕ) (limits : Seats) (s : Scene) (before after : List ℕ) →
+    BeginsFirst object done values names least limits s → slice_get t.objects.items j ≡ Some s → IsNamed (object_of object) → limits.sessions ≤ 65535 → (adds : AddsFirst s before after) →
     StartsAt t j (object_of object) (front_of s s.epoch adds.tells.runs s.base) []
 
 -- and one that goes on behind its journal, of which an epoch was read that is one behind others

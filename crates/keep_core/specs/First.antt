@@ -24,7 +24,7 @@ calls_of (suc k) op = past.Start op ∷ past.End op ∷ calls_of k op
 -- It has these values, behind a past that leaves what its paths have counted where all this was done before, as they let
 -- it happen, and which is that of its epoch; no call waits, no number was given, and numbers are told as they are. No client is known, so no call is kept,
 -- and each session is free; it is the first epoch.
-pub record BeginsFirst (object : Object) (done : List PastEvent) (values : List Contents) (names : ℕ) (limits : Limits)
+pub record BeginsFirst (object : Object) (done : List PastEvent) (values : List Contents) (names least : ℕ) (limits : Limits)
     (s : Scene) : Type 0 where
   pub counters : State
   pub stands : StandsFor counters (length object.operations.items) object.paths.items (events_of done)
@@ -36,7 +36,7 @@ pub record BeginsFirst (object : Object) (done : List PastEvent) (values : List 
   pub set_up : IsSetUp object limits past s.hall
   pub waiting : s.hall.waiting ≡ []
   pub given : s.given ≡ 0
-  pub guests : s.guests ≡ record { guests = []; seats = free_seats limits.sessions; most = names }
+  pub guests : s.guests ≡ record { guests = []; seats = free_seats limits.sessions; most = names; least = least }
   pub carried : s.carried ≡ []
   pub base : s.base ≡ 0
   pub epoch : s.epoch ≡ 1

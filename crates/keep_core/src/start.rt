@@ -148,7 +148,7 @@ pub fn push_calls(done: &mut Vec<PastEvent>, op: OpId, times: u32) -> Result<(),
 }
 
 /// An object with these values in its parts, of which all this was done before they were made, and so many names before
-/// a new one takes the place of another. The errors are `NoPast`, where its paths do not let that happen or leave a call
+/// a new one takes the place of another, which is away for `least` seconds at least. The errors are `NoPast`, where its paths do not let that happen or leave a call
 /// of it running, it has more than 65,536 calls, or a value is not of its part's kind; and `Memory`.
 pub fn begin_first(
     alloc: Global,
@@ -156,10 +156,11 @@ pub fn begin_first(
     done: &[PastEvent],
     values: Vec<Value>,
     names: u16,
+    least: u64,
     limits: Limits,
 ) -> Result<Hosted, NotBegun>
     ensures contents { IfOk result (λ h. h.hall.contents ≡ values.items) }
-    ensures begins { IfOk result (λ h. BeginsFirst object done.now values.items names limits h) }
+    ensures begins { IfOk result (λ h. BeginsFirst object done.now values.items names least limits h) }
 {
     let source = source_of(&object);
     let operations = object.operations.len() as OpId;
@@ -175,7 +176,7 @@ pub fn begin_first(
     };
     let begun = HostedStart {
         live,
-        guests: Guests::new(alloc, limits.sessions, names)?,
+        guests: Guests::new(alloc, limits.sessions, names, least)?,
         past,
         epoch: 1,
         source,

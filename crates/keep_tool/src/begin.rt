@@ -22,6 +22,7 @@ use check_core::judge::{JudgedSource, judge};
 use client_core::all::AllHeld;
 use command_line::past::Past;
 use command_line::request::Keeping;
+use command_line::watching::Watching;
 use decl_core::analyse::Accepted;
 use decl_core::hold::Rules;
 use decl_core::object::Object;
@@ -318,11 +319,12 @@ pub struct StartSource {
 }
 
 /// The objects of a source, begun. `pasts` are what was done before parts were made, where an object begins with parts;
-/// `belief` is what the start believes; `away` is how many seconds who is gone holds something. Where the source is refused,
-/// or an object is not begun with, lines say so, none is given, and nothing in the folder is changed; else the files of
-/// journals that are cut are kept, and nothing else in the folder is changed. `error` gets why the source is refused, as far
-/// as that is to be told, a line of each object that is known to get stuck, and, where there is no log, what the start tells
-/// and goes on; `log` hears that, and of each object that has begun.
+/// `belief` is what the start believes; `watching` says how many seconds who is gone holds something, and how many a name is
+/// away at least that goes for a new one. Where the source is refused, or an object is not begun with, lines say so, none is
+/// given, and nothing in the folder is changed; else the files of journals that are cut are kept, and nothing else in the
+/// folder is changed. `error` gets why the source is refused, as far as that is to be told, a line of each object that is
+/// known to get stuck, and, where there is no log, what the start tells and goes on; `log` hears that, and of each object
+/// that has begun.
 ///
 /// A failure is `ReadFault` where the folder, or a file of it, could not be read, which is told, `WriteFault` where a line or
 /// the file of a cut could not be written, or `Memory`.
@@ -330,7 +332,7 @@ pub fn begin_source<W: Write, E: Write, L: Write>(
     rt: &HostRuntime,
     source: StartSource,
     asked: Keeping<'_>,
-    away: u64,
+    watching: Watching,
     pasts: &[Past<'_>],
     belief: &Belief<'_>,
     writer: &mut W,
@@ -353,7 +355,8 @@ pub fn begin_source<W: Write, E: Write, L: Write>(
                 names: &names,
                 pasts,
                 belief,
-                away,
+                away: u64::from(watching.away),
+                forget: u64::from(watching.forget),
             };
             let texts = texts_of(rt.alloc(), &text)?;
             begin_accepted(place, accepted, rules, texts, writer, error, log)

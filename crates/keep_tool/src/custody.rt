@@ -69,20 +69,22 @@ fn moved_by(why: NotBegun, text: &[u8], front: usize, behind: usize) -> NotBegun
 }
 
 /// Begins one object behind the lines of its journal, which has this format: 1 where it says none. A line of its front that
-/// tells that something is held which this object does not hold so has a fault.
+/// tells that something is held which this object does not hold so has a fault. A name goes for a new one when it was away
+/// for `forget` seconds at least.
 pub(crate) fn begin_held(
     alloc: Global,
     object: Object,
     rules: &Rules,
     format: u64,
     lines: &[u8],
+    forget: u64,
 ) -> Result<BegunHeld, AllocError> {
     if rules.holds.is_empty() {
-        return begin_plain(alloc, object, lines, Holds::new(alloc));
+        return begin_plain(alloc, object, lines, Holds::new(alloc), forget);
     }
     match read_held(alloc, &object, &rules.holds, lines)? {
         Err(line) => Ok(Err(NotBegun::Refused(RecoverFault::Front(line)))),
-        Ok(read) => begin_read(alloc, object, rules, format, lines, read),
+        Ok(read) => begin_read(alloc, object, rules, format, lines, read, forget),
     }
 }
 
@@ -94,13 +96,14 @@ fn begin_read(
     format: u64,
     lines: &[u8],
     read: HeldFront,
+    forget: u64,
 ) -> Result<BegunHeld, AllocError> {
     let cut = cut_held(alloc, lines, &read)?;
     let (front, behind) = (read.front, read.behind);
     let ends = ends_in(format);
     let begun = match play_held(alloc, &object, ends, &rules.holds, read, lines)? {
-        Some(held) => begin_plain(alloc, object, &cut, held)?,
-        None => refuse_unplayed(alloc, object, &cut)?,
+        Some(held) => begin_plain(alloc, object, &cut, held, forget)?,
+        None => refuse_unplayed(alloc, object, &cut, forget)?,
     };
     match begun {
         Ok(begun) => Ok(Ok(begun)),
@@ -110,8 +113,13 @@ fn begin_read(
 
 // Why an object is not begun with whose lines do not say what is held: what is wrong with them, or that the object was
 // changed. `lines` has no held lines.
-fn refuse_unplayed(alloc: Global, object: Object, lines: &[u8]) -> Result<BegunHeld, AllocError> {
-    match begin_plain(alloc, object, lines, Holds::new(alloc))? {
+fn refuse_unplayed(
+    alloc: Global,
+    object: Object,
+    lines: &[u8],
+    forget: u64,
+) -> Result<BegunHeld, AllocError> {
+    match begin_plain(alloc, object, lines, Holds::new(alloc), forget)? {
         Err(why) => Ok(Err(why)),
         Ok(_) => Ok(Err(NotBegun::Refused(RecoverFault::Changed))),
     }
@@ -123,10 +131,12 @@ fn begin_plain(
     object: Object,
     lines: &[u8],
     held: Holds,
+    forget: u64,
 ) -> Result<BegunHeld, AllocError> {
     let house = House {
         sessions: LIMITS.sessions,
         names: NAMES,
+        least: forget,
         now: 0,
     };
     match begin_behind(alloc, object, lines, house, LIMITS) {

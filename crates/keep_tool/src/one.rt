@@ -48,8 +48,8 @@ pub(crate) enum Begun {
     Told(Vec<u8>),
 }
 
-/// In which folder objects begin, which files it has, what was done of them before, what the start believes, and how many
-/// seconds who is gone holds something.
+/// In which folder objects begin, which files it has, what was done of them before, what the start believes, how many
+/// seconds who is gone holds something, and how many a name is away at least that goes for a new one.
 #[derive(Clone, Copy)]
 pub(crate) struct StartPlace<'a, 'b, 'c> {
     pub(crate) rt: &'a HostRuntime,
@@ -58,6 +58,7 @@ pub(crate) struct StartPlace<'a, 'b, 'c> {
     pub(crate) pasts: &'a [Past<'b>],
     pub(crate) belief: &'a Belief<'c>,
     pub(crate) away: u64,
+    pub(crate) forget: u64,
 }
 
 /// Begins one object, of which this is the text: behind its journal, or where it has neither that nor an epoch that has ended
@@ -227,7 +228,7 @@ fn begin_taken<L: Write>(
         return Ok(Begun::Told(said));
     }
     let lines = taken.lines.as_slice();
-    match begin_held(alloc, object, rules, taken.format, lines)? {
+    match begin_held(alloc, object, rules, taken.format, lines, place.forget)? {
         Ok((hosted, held)) => {
             log.recovered(name.as_bytes(), lines.len() as u64, count_lines(lines));
             Ok(Begun::Ready(hosted, held, cut))
@@ -288,7 +289,7 @@ fn begin_new<L: Write>(
             Err(failure) => Err(told_parts(place.rt, place.folder, failure)),
         },
     };
-    match begin_first(alloc, object, &done, values, NAMES, LIMITS) {
+    match begin_first(alloc, object, &done, values, NAMES, place.forget, LIMITS) {
         Ok(hosted) => {
             log.begun(name.as_bytes());
             Ok(Begun::Ready(hosted, Holds::new(alloc), None))

@@ -119,9 +119,8 @@ fn keep_source<W: Write, E: Write>(
     error: &mut E,
 ) -> Result<KeepEnd, ToolFailure> {
     let mut log = Log::new(rt.alloc(), form_of(watching.log), *rt, rt.stderr());
-    let away = u64::from(watching.away);
     match begin_source(
-        rt, source, asked, away, pasts, belief, writer, error, &mut log,
+        rt, source, asked, watching, pasts, belief, writer, error, &mut log,
     )? {
         Some(kept) => {
             let ended = serve_kept(rt, kept, asked, watching, listener, writer, error, &mut log)?;

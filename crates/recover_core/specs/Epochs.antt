@@ -10,7 +10,7 @@ use Rattle.recover_core.specs.Text.{IsRead}
 
 -- where clients do not matter: as many sessions and names as there may be, in the second 0
 abbrev pub all_clients : House
-all_clients = record { sessions = 65535; names = 65535; now = 0 }
+all_clients = record { sessions = 65535; names = 65535; least = 0; now = 0 }
 
 -- an epoch may begin so behind the one before it, where there is one
 abbrev pub MayFollow : ObjectForm → Option Recovered → Opening → Type 0

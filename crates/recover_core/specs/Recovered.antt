@@ -25,7 +25,7 @@ use Rattle.recover_core.specs.Playing.{begun_by, PlayStands, IsFaultyAt, IsContr
 
 -- no client has come
 abbrev pub nobody : House → Guests
-nobody h = record { guests = []; seats = free_seats h.sessions; most = h.names }
+nobody h = record { guests = []; seats = free_seats h.sessions; most = h.names; least = h.least }
 
 -- an object came to this by these steps behind a front
 pub record ComesTo (o : ObjectForm) (f : Opening) (steps : List Step) (r : Recovered) : Type 0 where

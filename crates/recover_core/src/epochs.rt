@@ -20,6 +20,7 @@ use std::alloc::{AllocError, Global};
 const ALL_CLIENTS: House = House {
     sessions: 65_535,
     names: 65_535,
+    least: 0,
     now: 0,
 };
 

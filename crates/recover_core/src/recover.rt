@@ -30,6 +30,8 @@ pub struct House {
     pub sessions: u16,
     /// So many names there may be before a new one takes the place of another.
     pub names: u16,
+    /// For how many seconds that other one is away at least.
+    pub least: u64,
     /// The second since which all clients are away.
     pub now: u64,
 }
@@ -225,7 +227,7 @@ pub fn recover_behind(
     if !behind.is_empty() && front.source != source_of(object) {
         return Ok(Err(RecoverFault::Changed));
     }
-    let mut guests = Guests::new(alloc, house.sessions, house.names)?;
+    let mut guests = Guests::new(alloc, house.sessions, house.names, house.least)?;
     if let Some(odd) = open(alloc, &mut guests, house.now, &front)? {
         let line = line_of(size.lines, front.clients.len(), front.kept.len(), odd);
         return Ok(Err(RecoverFault::Contradicts(line)));

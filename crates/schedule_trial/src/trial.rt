@@ -92,7 +92,7 @@ fn hosted_of(alloc: Global, object: Object, past: Vec<PastEvent>) -> Result<Host
     };
     let begun = HostedStart {
         live,
-        guests: Guests::new(alloc, LIMITS.sessions, NAMES)?,
+        guests: Guests::new(alloc, LIMITS.sessions, NAMES, 3_600)?,
         past,
         epoch: 1,
         source,

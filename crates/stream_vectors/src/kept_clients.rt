@@ -14,9 +14,9 @@ fn name(rt: &impl Abort, alloc: Global, text: &[u8]) -> Name {
     }
 }
 
-// So many sessions, and so many names.
+// So many sessions, and so many names, of which one goes for a new one after five seconds.
 fn guests(rt: &impl Abort, alloc: Global, sessions: u16, names: u16) -> Guests {
-    match Guests::new(alloc, sessions, names) {
+    match Guests::new(alloc, sessions, names, 5) {
         Ok(guests) => guests,
         Err(_) => panic!(rt; "no memory"),
     }
@@ -70,6 +70,6 @@ fn a_name_comes_where_there_is_room(rt: HostRuntime) {
     let mut guests = guests(&rt, alloc, 4, 1);
     assert!(rt; guests.enter(&ann, 0).is_ok());
     assert!(rt; guests.enter(&ann, 1).err() == Some(EnterFault::InUse));
-    assert!(rt; guests.leave(1, 2) && guests.enter(&bob, 3_601).err() == Some(EnterFault::Full));
-    assert!(rt; guests.enter(&bob, 3_602).is_ok() && guests.admit(&bob, 4, 7, 0).is_ok());
+    assert!(rt; guests.leave(1, 2) && guests.enter(&bob, 6).err() == Some(EnterFault::Full));
+    assert!(rt; guests.enter(&bob, 7).is_ok() && guests.admit(&bob, 4, 7, 0).is_ok());
 }

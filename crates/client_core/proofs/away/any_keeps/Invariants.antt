@@ -5,4 +5,4 @@ use Rattle.client_core.specs.Holding.{KeepsPlace}
 use Rattle.client_core.proofs.away.any_keeps.Given as goal
 
 abbrev pub invariant-loop-place : goal.invariant-loop-place
-invariant-loop-place l = (k : ℕ) (g : Guest) → k < l.place → slice_get l.guests k ≡ Some g → KeepsPlace l.holds l.second g → ⊥
+invariant-loop-place l = (k : ℕ) (g : Guest) → k < l.place → slice_get l.guests k ≡ Some g → KeepsPlace l.holds l.least l.second g → ⊥

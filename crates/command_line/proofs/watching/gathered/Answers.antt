@@ -7,8 +7,8 @@ use Rattle.command_line.proofs.watching.gathered.Goals as goal
 
 pub words-init : goal.words-init
 words-init c =
-    nothing_found (texts c.args.words.now) (record { status = c.new.result; log = c.new-2.result; away = c.new-3.result; cut = c.new-4.result; known = c.new-5.result; words = c.new-6.result })
-    c.new.ensures.items c.new-2.ensures.items c.new-3.ensures.items c.new-4.ensures.items c.new-5.ensures.items c.new-6.ensures.items
+    nothing_found (texts c.args.words.now) (record { status = c.new.result; log = c.new-2.result; away = c.new-3.result; forget = c.new-4.result; cut = c.new-5.result; known = c.new-6.result; words = c.new-7.result })
+    c.new.ensures.items c.new-2.ensures.items c.new-3.ensures.items c.new-4.ensures.items c.new-5.ensures.items c.new-6.ensures.items c.new-7.ensures.items
 
 pub words-preserved : goal.words-preserved
 words-preserved c =

@@ -13,4 +13,4 @@ returns-in_ok-next-in-Waits c =
 pub returns-in_ok-push-in-Over : goal.returns-in_ok-push-in-Over
 returns-in_ok-push-in-Over c =
     subst (λ (stage : OptionStage). Goes stage c.args.word.now c.args.found.now (record c.args.found.now { words = c.push.new.self }) stages.Over) (sym c.in-Over.is)
-    (goes_on c.args.word c.args.found.now (record c.args.found.now { words = c.push.new.self }) (record { status = refl; log = refl; away = refl; cut = refl; known = refl }) c.in_ok-push-in-Over.ensures.items)
+    (goes_on c.args.word c.args.found.now (record c.args.found.now { words = c.push.new.self }) (record { status = refl; log = refl; away = refl; forget = refl; cut = refl; known = refl }) c.in_ok-push-in-Over.ensures.items)
