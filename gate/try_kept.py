@@ -322,6 +322,27 @@ def more_names_than_there_are(folder: pathlib.Path, big: bool) -> None:
     server.is_whole()
 
 
+def older_calls_go_where_many_are_long(folder: pathlib.Path, big: bool) -> None:
+    """Of calls under keys an epoch begins with at most 8 MiB beside the last one of each name: the oldest are unknown then,
+    the last one of each name is told again, and so are the newest; a start knows the same."""
+    server, names = Server(folder, source_of("echo"), "--sync", "1000").start(), 420
+    for at in range(names):
+        with Talk(server, f"open echo as n{at}", "opened echo next 1") as it:
+            check(it.calls(*[f"say '{LONG}'"] * 16), [f"done '{LONG}'"] * 16)
+    holds(len(list(server.folder.glob("echo.*.trace"))) >= 2, "less than two epochs have ended")
+    for turn in range(2):
+        for at, key, is_known in ((0, 1, False), (0, 15, False), (0, 16, True), (names - 1, 1, True), (names - 1, 16, True)):
+            line = server.says(f"open echo as n{at}", f"call #{key} say '{LONG}'")[1]
+            holds(line.startswith("repeat done ") if is_known else line == "no BadKey", f"of n{at} key {key} is told {line[:20]!r}")
+        if turn == 0:
+            server.kill()
+            server.start()
+    server.end()
+    size = (server.folder / "echo.journal").read_bytes().count(b"n" * 1000) * 1000
+    holds(size <= (8 << 20) + names * 2 * len(LONG), f"{size} bytes of calls are in the front")
+    server.is_whole("echo")
+
+
 def calls_that_wait_leave_room(folder: pathlib.Path, big: bool) -> None:
     """However much the lines of calls that wait may need, a call that lets one of them go on is done."""
     source = """object box;
@@ -420,6 +441,7 @@ TRIALS = (
     nobody_takes_no_time,
     who_was_owed_much_keeps_little,
     more_names_than_there_are,
+    older_calls_go_where_many_are_long,
     calls_that_wait_leave_room,
     a_full_disk,
 )

@@ -13,3 +13,4 @@ pub mod Given
 pub mod Ending
 pub mod Undoing
 pub mod Newest
+pub mod Bounding

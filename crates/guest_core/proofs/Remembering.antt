@@ -14,6 +14,12 @@ take_no_more zero xs = omega arith
 take_no_more (suc n) [] = omega arith
 take_no_more (suc n) (x ∷ xs) = omega (arith, take_no_more n xs)
 
+pub few_left : (n : ℕ) (xs : List RememberedCall) → length xs ≤ 16 → length (take n xs) ≤ 16
+few_left n xs few = omega (arith, take_no_more n xs, few)
+
+pub counted_left : (n : ℕ) (xs : List RememberedCall) (next : ℕ) → length xs < next → length (take n xs) < next
+counted_left n xs next counted = omega (arith, take_no_more n xs, counted)
+
 pub put_few : (c : RememberedCall) (xs : List RememberedCall) → length (c ∷ take 15 xs) ≤ 16
 put_few c xs = omega (arith, take_few 15 xs)
 

@@ -28,10 +28,10 @@ pub exact : RepeatsAreExact
 exact v name p g t key k a stands at sound =
     let e = own v name p g t stands at sound in
     let next : g.keys.next ≡ t.first + length t.calls = subst (λ (x : Guest). x.keys.next ≡ t.first + length t.calls) e stands.next in
-    let kept : g.keys.kept ≡ take 16 t.calls = subst (λ (x : Guest). x.keys.kept ≡ take 16 t.calls) e stands.kept in (
+    let kept : g.keys.kept ≡ take t.most t.calls = subst (λ (x : Guest). x.keys.kept ≡ take t.most t.calls) e stands.kept in (
       λ judged.
-          let taken = get_taken 16 k t.calls judged.0 (ap (λ xs. slice_get xs k) (sym kept) ∙ judged.1.there) in
+          let taken = get_taken t.most k t.calls judged.0 (ap (λ xs. slice_get xs k) (sym kept) ∙ judged.1.there) in
           (taken.0, (judged.0, record { there = taken.1; key_is = judged.1.key_is ∙ next }, judged.2)),
       λ told.
-          (told.1.0, record { there = ap (λ xs. slice_get xs k) kept ∙ get_take 16 k t.calls told.1.0 told.0 told.1.1.there; key_is = told.1.1.key_is ∙ sym next }, told.1.2),
+          (told.1.0, record { there = ap (λ xs. slice_get xs k) kept ∙ get_take t.most k t.calls told.1.0 told.0 told.1.1.there; key_is = told.1.1.key_is ∙ sym next }, told.1.2),
     )

@@ -1,6 +1,7 @@
 -- What each step tells of the calls of a name.
-use Rattle.std.proofs.Common.{◌≡◌, ◌≢◌, ◌+◌, ℕ, zero, suc, ◌⊎◌, inl, inr, List, [], ◌∷◌, ◌++◌, length, take, Bool, true, false, Option, Some, None, Result, Ok, Err, refl, sym, ap, ◌∙◌, subst, arith}
-use Rattle.std.specs.Prelude.{slice_get, slice_set}
+use Rattle.std.proofs.Common.{◌≡◌, ◌≢◌, ◌+◌, ◌≤◌, ℕ, zero, suc, ◌⊎◌, inl, inr, List, [], ◌∷◌, ◌++◌, length, take, Bool, true, false, Option, Some, None, Result, Ok, Err, refl, sym, ap, ◌∙◌, subst, arith}
+use Rattle.std.specs.Prelude.{slice_get, slice_set, nat_lt, if◌then◌else◌}
+use Rattle.std.proofs.lemmas.Bool.Decides.{nat_tests}
 use Rattle.std.proofs.lemmas.Bool.{cases_eq}
 use Rattle.guest_core.specs.declared.guest.Guest.{Guest}
 use Rattle.guest_core.specs.declared.guests.Entered.{Entered}
@@ -15,7 +16,9 @@ use Rattle.guest_core.specs.declared.keys.AskFault.TheVariants.{SessionBusy, Key
 use Rattle.guest_core.specs.Guests.{Guests, IsAt, IsNamed, IsSound, IsUnknown, HasNoName, with_keys}
 use Rattle.guest_core.specs.Keys.{Keys, Asks, Ends, remembered, fresh_keys}
 use Rattle.guest_core.specs.Entering.{Enters, Admits, Leaves, GetsName, ComesNew}
-use Rattle.guest_core.specs.Steps.{Step, entered, admitted, seated, left, asked, withdrew, ended, renews, Does, Told, Stands, StandsSo, Tells, comes, named as gets_name, forgotten, ends, nothing, begins, goes, nothing_yet, further, KeysAreConsecutive}
+use Rattle.guest_core.specs.Steps.{Step, entered, admitted, seated, left, asked, withdrew, ended, bounds, renews, Does, Told, Stands, StandsSo, Tells, comes, named as gets_name, forgotten, ends, bounded_to, nothing, begins, goes, nothing_yet, further, KeysAreConsecutive, with_one_more}
+use Rattle.guest_core.specs.Bound.{bounded_guests, guest_by, kept_by, stays}
+use Rattle.guest_core.proofs.Bounding.{get_mapped, mapped_get, kept_taken}
 use Rattle.guest_core.proofs.Items.{get_more, get_set, get_front, get_last, get_here, get_there, one_item}
 use Rattle.guest_core.proofs.Finding.{which}
 
@@ -109,7 +112,7 @@ unchanged : (old new : Guests) (name : List ℕ) (step : Step) (t : Option Told)
 unchanged old new name step t same stands = quiet old new name step t (guests_stay old new name (ap (λ (v : Guests). v.guests) same)) stands
 
 -- a client that has just come stands so
-fresh_at : (new : Guests) (name : List ℕ) (p first : ℕ) (g : Guest) → slice_get new.guests p ≡ Some g → g.name ≡ name → g.keys ≡ fresh_keys first → Stands new name (record { first = first; calls = [] })
+fresh_at : (new : Guests) (name : List ℕ) (p first : ℕ) (g : Guest) → slice_get new.guests p ≡ Some g → g.name ≡ name → g.keys ≡ fresh_keys first → Stands new name (record { first = first; calls = []; most = 16 })
 fresh_at new name p first g there named fresh =
     let counted : first ≡ first + 0 = omega arith in
     record {
@@ -123,8 +126,8 @@ fresh_at new name p first g there named fresh =
 new_told : (old new : Guests) (n name : List ℕ) (now p : ℕ) (a : Entered) (g : Guest) (t : Option Told) → a.is_new ≡ true → IsUnknown old n → n ≡ name → slice_get new.guests p ≡ Some g → g.name ≡ n → g.keys ≡ fresh_keys 1 → StandsSo old name t
     → Goes old new name (entered n now (Ok a)) t
 new_told old new n name now p a g None is_new unknown same there named fresh stands = (
-  Some (record { first = 1; calls = [] }),
-  subst (λ m. Tells old name (entered m now (Ok a)) None (Some (record { first = 1; calls = [] }))) (sym same) (comes now a is_new),
+  Some (record { first = 1; calls = []; most = 16 }),
+  subst (λ m. Tells old name (entered m now (Ok a)) None (Some (record { first = 1; calls = []; most = 16 }))) (sym same) (comes now a is_new),
   fresh_at new name p 1 g there (named ∙ same) fresh,
 )
 new_told old new n name now p a g (Some t) is_new unknown same there named fresh stands = absurd (unknown stands.place stands.guest stands.at.there (stands.at.named ∙ sym same))
@@ -181,7 +184,7 @@ admitting_ok old new name g done t gets fresh stands = elim gets [
   | inl joins ↦
       let set = ap (λ (v : Guests). v.guests) joins.1 in
       elim (which g.name name) [
-        | inl same ↦ (Some (record { first = g.keys.next; calls = [] }), gets_name g done same, fresh_at new name (length old.guests) g.keys.next g (ap (λ gs. slice_get gs (length old.guests)) set ∙ get_last old.guests g) same fresh)
+        | inl same ↦ (Some (record { first = g.keys.next; calls = []; most = 16 }), gets_name g done same, fresh_at new name (length old.guests) g.keys.next g (ap (λ gs. slice_get gs (length old.guests)) set ∙ get_last old.guests g) same fresh)
         | inr other ↦ quiet old new name (admitted g (Ok done)) t (client_joins old new name g set other) stands
       ]
   | inr takes ↦
@@ -190,7 +193,7 @@ admitting_ok old new name g done t gets fresh stands = elim gets [
       let there = takes.2.there in
       let set = ap (λ (v : Guests). v.guests) takes.3 in
       elim (which g.name name) [
-        | inl same ↦ (Some (record { first = g.keys.next; calls = [] }), gets_name g done same, fresh_at new name p g.keys.next g (ap (λ gs. slice_get gs p) set ∙ get_here old.guests p f g there) same fresh)
+        | inl same ↦ (Some (record { first = g.keys.next; calls = []; most = 16 }), gets_name g done same, fresh_at new name p g.keys.next g (ap (λ gs. slice_get gs p) set ∙ get_here old.guests p f g there) same fresh)
         | inr other ↦ quiet old new name (admitted g (Ok done)) t (client_follows old new name p f g there set (λ same. other (sym takes.2.named ∙ same)) other) stands
       ]
 ]
@@ -234,10 +237,37 @@ asks_quietly keys after a (Err SessionBusy) does = (ap (λ (k : Keys). k.next) d
 asks_quietly keys after a (Err KeysSpent) does = (ap (λ (k : Keys). k.next) does.2, ap (λ (k : Keys). k.kept) does.2)
 asks_quietly keys after a (Err NoMemory) does = (ap (λ (k : Keys). k.next) does.2, ap (λ (k : Keys). k.kept) does.2)
 
-take_less : {X : Type 0} (n : ℕ) (xs : List X) → take n (take (suc n) xs) ≡ take n xs
-take_less zero xs = refl
-take_less (suc n) [] = refl
-take_less (suc n) (x ∷ xs) = ap (λ ys. x ∷ ys) (take_less n xs)
+-- the first of the first
+take_fewer : {X : Type 0} (m n : ℕ) (xs : List X) → n ≤ m → take m (take n xs) ≡ take n xs
+take_fewer zero zero xs up = refl
+take_fewer (suc m) zero xs up = refl
+take_fewer zero (suc n) xs up = absurd (omega (arith, up))
+take_fewer (suc m) (suc n) [] up = refl
+take_fewer (suc m) (suc n) (x ∷ xs) up = ap (λ ys. x ∷ ys) (take_fewer m n xs (omega (arith, up)))
+
+take_more_of : {X : Type 0} (m n : ℕ) (xs : List X) → m ≤ n → take m (take n xs) ≡ take m xs
+take_more_of zero n xs up = refl
+take_more_of (suc m) zero xs up = absurd (omega (arith, up))
+take_more_of (suc m) (suc n) [] up = refl
+take_more_of (suc m) (suc n) (x ∷ xs) up = ap (λ ys. x ∷ ys) (take_more_of m n xs (omega (arith, up)))
+
+take_both : {X : Type 0} (m n : ℕ) (xs : List X) → (k : ℕ) × (take m (take n xs) ≡ take k xs)
+take_both zero n xs = (0, refl)
+take_both (suc m) zero xs = (0, refl)
+take_both (suc m) (suc n) [] = (0, refl)
+take_both (suc m) (suc n) (x ∷ xs) = let more = take_both m n xs in (suc more.0, ap (λ ys. x ∷ ys) more.1)
+
+take_one_more : (n : ℕ) (c : RememberedCall) (xs : List RememberedCall) → c ∷ take 15 (take n xs) ≡ take (with_one_more n) (c ∷ xs)
+take_one_more n c xs = by (nat_lt n 16) refl
+  where
+    by : (b : Bool) → nat_lt n 16 ≡ b → c ∷ take 15 (take n xs) ≡ take (if b then n + 1 else 16) (c ∷ xs)
+    by true is =
+        let few : n ≤ 15 = grind (arith, nat_tests, is) in
+        let one : suc n ≡ n + 1 = omega arith in
+        ap (λ ys. c ∷ ys) (take_fewer 15 n xs few) ∙ ap (λ m. take m (c ∷ xs)) one
+    by false is =
+        let many : 15 ≤ n = grind (arith, nat_tests, is) in
+        ap (λ ys. c ∷ ys) (take_more_of 15 n xs many)
 
 -- a call has ended, and is told
 end_told : (old new : Guests) (name : List ℕ) (session told p : ℕ) (reply : Option Reply) (g : Guest) (a : Asked) (t : Option Told) → IsNamed old session p g → g.name ≡ name → g.keys.asked ≡ Some a
@@ -247,15 +277,15 @@ end_told old new name session told p reply g a (Some t) by same waits is sound s
     let c : RememberedCall = record { asked = a; told = told; reply = reply } in
     let own : stands.guest ≡ g = one_item old.guests p stands.guest g (subst (λ k. slice_get old.guests k ≡ Some stands.guest) (sound.once stands.place p stands.guest g stands.at.there by.there (stands.at.named ∙ sym same)) stands.at.there) by.there in
     let next : g.keys.next ≡ t.first + length t.calls = subst (λ (x : Guest). x.keys.next ≡ t.first + length t.calls) own stands.next in
-    let kept : g.keys.kept ≡ take 16 t.calls = subst (λ (x : Guest). x.keys.kept ≡ take 16 t.calls) own stands.kept in (
-      Some (record t { calls = c ∷ t.calls }),
+    let kept : g.keys.kept ≡ take t.most t.calls = subst (λ (x : Guest). x.keys.kept ≡ take t.most t.calls) own stands.kept in (
+      Some (record t { calls = c ∷ t.calls; most = with_one_more t.most }),
       ends session told reply c (record { place = p; guest = g; by = by; named = same; call = a; waited = waits; is = refl }),
       record {
         place = p;
         guest = record g { keys = remembered g.keys c };
         at = record { there = ap (λ (v : Guests). slice_get v.guests p) is ∙ get_here old.guests p g (record g { keys = remembered g.keys c }) by.there; named = same };
         next = omega (arith, next);
-        kept = ap (λ xs. c ∷ take 15 xs) kept ∙ ap (λ xs. c ∷ xs) (take_less 15 t.calls);
+        kept = ap (λ xs. c ∷ take 15 xs) kept ∙ take_one_more t.most c t.calls;
       },
     )
 
@@ -267,6 +297,32 @@ ending old new name session told p reply true g keys t by does is sound stands =
 ]
 ending old new name session told p reply false g keys t by does is sound stands =
     keys_change old new name session p g keys (ended session told reply false) t by is (λ _. (ap (λ (k : Keys). k.next) does.1, ap (λ (k : Keys). k.kept) does.1)) stands
+
+-- an epoch begins with fewer of the calls of names
+bounding : (old new : Guests) (name : List ℕ) (t : Option Told) → new ≡ bounded_guests old → StandsSo old name t → Goes old new name bounds t
+bounding old new name None is unknown = (
+  None,
+  nothing,
+  λ q h at named.
+      let was = mapped_get (guest_by (stays old.guests)) old.guests q h (ap (λ (v : Guests). slice_get v.guests q) (sym is) ∙ at) in
+      unknown q was.0 was.1 (ap name_of was.2 ∙ named),
+)
+bounding old new name (Some t) is stands =
+    let stay = stays old.guests in
+    let kept : List RememberedCall = stands.guest.keys.kept in
+    let few = kept_taken stay kept in
+    let both = take_both (suc few.0) t.most t.calls in
+    let left : kept_by stay kept ≡ take both.0 t.calls = few.1 ∙ ap (take (suc few.0)) stands.kept ∙ both.1 in (
+      Some (record t { most = both.0 }),
+      bounded_to both.0 (ap (kept_by stay) (sym stands.kept) ∙ left),
+      record {
+        place = stands.place;
+        guest = guest_by stay stands.guest;
+        at = record { there = ap (λ (v : Guests). slice_get v.guests stands.place) is ∙ get_mapped (guest_by stay) old.guests stands.place stands.guest stands.at.there; named = stands.at.named };
+        next = stands.next;
+        kept = left;
+      },
+    )
 
 -- each step tells of a name what is known of it behind the step
 one_step : (old new : Guests) (name : List ℕ) (step : Step) (t : Option Told) → IsSound old → Does old step new → StandsSo old name t → Goes old new name step t
@@ -286,6 +342,7 @@ one_step old new name (ended session told reply so) t sound does stands = elim (
   | inl by ↦ let to = does.named by.0 by.1 by.2 in ending old new name session told by.0 reply so by.1 to.0 t by.2 to.1 to.2 sound stands
   | inr none ↦ unchanged old new name (ended session told reply so) t (does.nameless none) stands
 ]
+one_step old new name bounds t sound does stands = bounding old new name t does stands
 one_step old new name renews t sound does stands = quiet old new name renews t (guests_stay old new name (ap (λ (v : Guests). v.guests) does)) stands
 
 pub consecutive : KeysAreConsecutive

@@ -13,3 +13,4 @@ pub mod Places
 pub mod Undo
 pub mod Laws
 pub mod Views
+pub mod Bound

@@ -1,8 +1,10 @@
 //! A client that has a name.
 
-ghost use Rattle.std.specs.Prelude.{◌≡◌, ◌≢◌, IsTrue, IfSome, IfNone, Some, None, false};
+ghost use Rattle.std.specs.Prelude.{◌≡◌, ◌≢◌, ℕ, Bool, IsTrue, IfSome, IfNone, Some, None, false};
+ghost use Rattle.guest_core.specs.Bound.{guest_by, IsLeast};
 ghost use Rattle.guest_core.specs.Keys.{Keys as AKeys, asks, Asks, Ends, withdrawn};
 
+use crate::bound::count_kept;
 use crate::keys::{AskFault, Keys};
 use apply_core::reply::Reply;
 use path_tree::name::Name;
@@ -116,4 +118,12 @@ pub(crate) fn cancel(guest: &mut Guest, told: u64) -> bool
         × (guest.new ≡ record guest.old { keys = keys }) }
 {
     guest.keys.cancel(told)
+}
+
+// Of a client its last call is known from now on, and those before it from this number on.
+pub(crate) fn keep(guest: &mut Guest, least: Option<u64>)
+    ensures { (stay : ℕ → Bool) → IsLeast stay least → guest.new ≡ guest_by stay guest.old }
+{
+    let count = count_kept(guest.keys.kept(), least);
+    guest.keys.keep(count);
 }

@@ -5,12 +5,14 @@ ghost use Rattle.std.specs.Prelude.{slice_get, length, OnOk, OnErr, true, false}
 ghost use Rattle.guest_core.specs.declared.guest.Guest.{Guest as AGuest};
 ghost use Rattle.guest_core.specs.declared.keys.Judged.TheVariants.{BadKey as IsBadKey};
 ghost use Rattle.guest_core.specs.declared.seats.SeatHolder.TheVariants.{Free as AFree, Nameless as ANameless};
+ghost use Rattle.guest_core.specs.Bound.{bounded_guests, stays, IsLeast};
 ghost use Rattle.guest_core.specs.Entering.{Enters, Admits, Leaves};
 ghost use Rattle.guest_core.specs.Guests.{IsNamed, HasNoName, IsAt, IsUnknown, SomebodyHas, with_keys, with_seat};
 ghost use Rattle.guest_core.specs.Guests.{with_guest, with_other, guest_of};
 ghost use Rattle.guest_core.specs.Keys.{Keys as AKeys, asks, Asks, Ends, Judges, withdrawn};
 ghost use Rattle.guest_core.specs.Seats.{free_seats, IsLeastFree, NoneIsFree, renewed};
 
+use crate::bound::least_kept;
 use crate::guest::Guest;
 use crate::keys::{AskFault, Judged};
 use crate::roll::Roll;
@@ -458,6 +460,32 @@ impl Guests {
         ensures { self.new ≡ record self.old { seats = map renewed self.old.seats } }
     {
         self.seats.renew();
+    }
+
+    /// The least number from which the calls of clients are known, beside the last one of each, where an epoch begins. `None`:
+    /// no other call is. The error is that memory was refused.
+    pub fn least(&self, alloc: Global) -> Result<Option<u64>, AllocError>
+        ensures { IfOk result (λ least. IsLeast (stays self.now.guests) least) }
+    {
+        least_kept(alloc, self.roll.guests())
+    }
+
+    /// An epoch begins: of each client its last call is known, and those before it from this number on, which is the one of
+    /// [`Guests::least`]; and the numbers of names that were forgotten are free. It takes no memory.
+    pub fn begin(&mut self, least: Option<u64>)
+        requires { IsLeast (stays self.old.guests) least }
+        ensures { self.new ≡ record (bounded_guests self.old) { seats = map renewed self.old.seats } }
+    {
+        self.keep(least);
+        self.renew();
+    }
+
+    // Of each client its last call is known, and those before it from this number on.
+    fn keep(&mut self, least: Option<u64>)
+        requires { IsLeast (stays self.old.guests) least }
+        ensures { self.new ≡ bounded_guests self.old }
+    {
+        self.roll.keep(least);
     }
 
     /// The clients that have names, in the order of their places.

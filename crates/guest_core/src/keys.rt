@@ -87,6 +87,14 @@ fn put(kept: &mut Vec<RememberedCall>, call: RememberedCall)
     };
 }
 
+// Lets go of all but so many of the newest calls.
+fn shorten(kept: &mut Vec<RememberedCall>, count: usize)
+    ensures items { kept.new.items ≡ take count kept.old.items }
+    ensures room { vec_capacity kept.new ≡ vec_capacity kept.old }
+{
+    kept.truncate(count);
+}
+
 // What the key of the next call says of a call.
 fn judge_next(waits: &Option<Asked>, operation: OpId, arguments: &[Datum]) -> Judged
     ensures { JudgesNext waits.now (asks operation arguments.now) result }
@@ -207,6 +215,13 @@ impl Keys {
                 true
             }
         }
+    }
+
+    // So many of the last calls are known from now on.
+    pub(crate) fn keep(&mut self, count: usize)
+        ensures { self.new ≡ record self.old { kept = take count self.old.kept } }
+    {
+        shorten(&mut self.kept, count);
     }
 
     /// The key of the next call.

@@ -18,6 +18,7 @@
 #![tactic(auto)]
 
 pub mod answer;
+pub mod bound;
 pub mod guest;
 pub mod guests;
 pub mod held;

@@ -1,7 +1,8 @@
 //! The clients that have names, each found by its name.
 
 ghost use Rattle.std.specs.Prelude.{◌≡◌, ◌≢◌, ◌⊎◌, ℕ, ◌<◌, ◌≤◌, ◌↔◌, [], ◌∷◌, ◌++◌, length, IsTrue, IfOk, IfSome, IfNone};
-ghost use Rattle.std.specs.Prelude.{OnOk, OnErr, Some, None, slice_get, slice_set, false, bytes_eq};
+ghost use Rattle.std.specs.Prelude.{OnOk, OnErr, Some, None, slice_get, slice_set, Bool, false, map, bytes_eq};
+ghost use Rattle.guest_core.specs.Bound.{guest_by, IsLeast};
 ghost use Rattle.guest_core.specs.declared.guest.Guest.{Guest as AGuest};
 ghost use Rattle.guest_core.specs.declared.roll.Away.{Away as AnAway};
 ghost use Rattle.guest_core.specs.Keys.{Keys as AKeys, asks, Asks, Ends, Judges, withdrawn};
@@ -10,7 +11,7 @@ ghost use Rattle.indexmap.specs.IndexMap.{get};
 ghost use Rattle.guest_core.specs.Finds.{Finds};
 ghost use Rattle.guest_core.specs.Entering.{MayForget, IsLongestAway, NoneMayForget};
 
-use crate::guest::{Guest, ask, cancel, come, end, go, restart, withdraw};
+use crate::guest::{Guest, ask, cancel, come, end, go, keep, restart, withdraw};
 use crate::keys::{AskFault, Judged, Keys};
 use apply_core::reply::Reply;
 use indexmap::IndexMap;
@@ -105,6 +106,15 @@ fn forget(places: &mut IndexMap<Name, u16>, name: &Name)
     ensures { Finds (get bytes_eq places.old) name.now None (get bytes_eq places.new) }
 {
     places.swap_remove(name);
+}
+
+// Of each client its last call is known from now on, and those before it from this number on.
+fn keep_all(guests: &mut Vec<Guest>, least: Option<u64>)
+    ensures { (stay : ℕ → Bool) → IsLeast stay least → guests.new.items ≡ map (guest_by stay) guests.old.items }
+{
+    for place in 0..guests.len() {
+        keep(&mut guests[place], least);
+    }
 }
 
 impl Roll {
@@ -318,5 +328,12 @@ impl Roll {
             × (self.new ≡ slice_set self.old place (record g { keys = keys })) }
     {
         cancel(&mut self.guests[place as usize], told)
+    }
+
+    // Of each client its last call is known from now on, and those before it from this number on.
+    pub(crate) fn keep(&mut self, least: Option<u64>)
+        ensures { (stay : ℕ → Bool) → IsLeast stay least → self.new ≡ map (guest_by stay) self.old }
+    {
+        keep_all(&mut self.guests, least);
     }
 }

@@ -1,5 +1,5 @@
 -- Clients, and what is known of their calls, change by change.
-use Rattle.std.proofs.Common.{◌≡◌, ◌≢◌, ◌⊎◌, inl, inr, ◌∙◌, ap, sym, subst, refl, arith, ℕ, zero, suc, ◌+◌, ◌-◌, List, [], ◌∷◌, take, Option, Some}
+use Rattle.std.proofs.Common.{◌≡◌, ◌≢◌, ◌⊎◌, inl, inr, ◌∙◌, ap, sym, subst, refl, arith, ℕ, zero, suc, ◌+◌, ◌-◌, List, [], ◌∷◌, Option, Some}
 use Rattle.std.specs.Prelude.{map, slice_get, slice_set, unwrap_or}
 use Rattle.live_core.specs.declared.front.NamedClient.{NamedClient}
 use Rattle.live_core.specs.Front.{Opening}
@@ -7,27 +7,44 @@ use Rattle.guest_core.specs.declared.guest.Guest.{Guest}
 use Rattle.guest_core.specs.declared.kept.RememberedCall.{RememberedCall}
 use Rattle.guest_core.specs.Guests.{Guests, IsSound, IsUnknown, guest_of}
 use Rattle.guest_core.specs.Keys.{Keys, HasKey, fresh_keys, remembered}
+use Rattle.guest_core.specs.Bound.{bounded, guest_by, stays}
+use Rattle.guest_core.proofs.Bounding.{mapped_get}
 use Rattle.guest_core.proofs.Items.{get_set}
 use Rattle.guest_core.proofs.Sound.{sound_changed}
 use Rattle.live_core.specs.Fronts.{client_of as client_from}
 use Rattle.history_law.specs.Keys.{KeyedCall, KeyEvent, epoch_began, name_came, call_ended, IsAmong, StaysKnown, Gives, IsNext, IsRememberedUnder}
+use Rattle.history_law.proofs.Bounded.{get_first, was_kept}
 use Rattle.history_law.proofs.Counted.{Events, CallsAreNext, calls_on, next_own, next_other, next_came, next_apart, next_began, stands_once}
 use Rattle.history_law.specs.Keyed.{HaveKeys}
 
--- of a client the same is known as of one of these
+-- of a client the same is known as of one of these, but for calls that are not known of it
 pub record IsLike (v : Guests) (x : Guest) : Type 0 where
   pub place : ℕ
   pub guest : Guest
   pub there : slice_get v.guests place ≡ Some guest
   pub named : guest.name ≡ x.name
   pub next : guest.keys.next ≡ x.keys.next
-  pub kept : guest.keys.kept ≡ x.keys.kept
+  pub kept : (k : ℕ) (c : RememberedCall) → slice_get x.keys.kept k ≡ Some c → slice_get guest.keys.kept k ≡ Some c
 
 abbrev pub AreLike : Guests → Guests → Type 0
 AreLike v new = (q : ℕ) (x : Guest) → slice_get new.guests q ≡ Some x → IsLike v x
 
 pub like_same : (v new : Guests) → new.guests ≡ v.guests → AreLike v new
-like_same v new same q x at = record { place = q; guest = x; there = ap (λ (gs : List Guest). slice_get gs q) (sym same) ∙ at; named = refl; next = refl; kept = refl }
+like_same v new same q x at = record { place = q; guest = x; there = ap (λ (gs : List Guest). slice_get gs q) (sym same) ∙ at; named = refl; next = refl; kept = λ k c has. has }
+
+-- they begin an epoch
+pub like_bounded : (v new : Guests) → new.guests ≡ bounded v.guests → AreLike v new
+like_bounded v new same q x at =
+    let stay = stays v.guests in
+    let was = mapped_get (guest_by stay) v.guests q x (ap (λ (gs : List Guest). slice_get gs q) (sym same) ∙ at) in
+    record {
+      place = q;
+      guest = was.0;
+      there = was.1;
+      named = ap (λ (y : Guest). y.name) was.2;
+      next = ap (λ (y : Guest). y.keys.next) was.2;
+      kept = λ k c has. was_kept stay was.0.keys.kept k c (ap (λ (y : Guest). slice_get y.keys.kept k) was.2 ∙ has);
+    }
 
 pub like_set : (v : Guests) (p : ℕ) (g h : Guest) (guests : List Guest) → slice_get v.guests p ≡ Some g → h.name ≡ g.name → h.keys.next ≡ g.keys.next → h.keys.kept ≡ g.keys.kept → guests ≡ slice_set v.guests p h →
     (q : ℕ) (x : Guest) → slice_get guests q ≡ Some x → IsLike v x
@@ -38,9 +55,9 @@ like_set v p g h guests there named next kept set q x at = elim (get_set v.guest
     there = there;
     named = sym named ∙ ap (λ (y : Guest). y.name) here.1;
     next = sym next ∙ ap (λ (y : Guest). y.keys.next) here.1;
-    kept = sym kept ∙ ap (λ (y : Guest). y.keys.kept) here.1;
+    kept = λ k c has. ap (λ (ks : List RememberedCall). slice_get ks k) (sym kept ∙ ap (λ (y : Guest). y.keys.kept) here.1) ∙ has;
   }
-  | inr other ↦ record { place = q; guest = x; there = other.1; named = refl; next = refl; kept = refl }
+  | inr other ↦ record { place = q; guest = x; there = other.1; named = refl; next = refl; kept = λ k c has. has }
 ]
 
 pub keys_alike : (f : Opening) (told : Events) (v new : Guests) → HaveKeys f told v → IsSound new → AreLike v new → HaveKeys f told new
@@ -56,7 +73,7 @@ keys_alike f told v new h sound like = record {
   kept = λ q x key k c at has.
       let l = like q x at in
       subst (λ n. IsRememberedUnder told f n key c) l.named
-      (h.kept l.place l.guest key k c l.there (record { there = ap (λ (ks : List RememberedCall). slice_get ks k) l.kept ∙ has.there; key_is = has.key_is ∙ sym l.next }));
+      (h.kept l.place l.guest key k c l.there (record { there = l.kept k c has.there; key_is = has.key_is ∙ sym l.next }));
 }
 
 -- what is kept, where one event more is told
@@ -65,16 +82,10 @@ still_kept : (f : Opening) (x : KeyEvent) (told : Events) (name : List ℕ) (key
 still_kept f x told name key c more (inl is) = inl (record { newer = x ∷ is.newer; older = is.older; told_is = ap (λ (l : Events). x ∷ l) is.told_is; stays = more is.newer is.stays })
 still_kept f x told name key c more (inr line) = inr line
 
-get_taken : (n k : ℕ) (xs : List RememberedCall) (x : RememberedCall) → slice_get (take n xs) k ≡ Some x → slice_get xs k ≡ Some x
-get_taken zero k xs x is = absurd cc
-get_taken (suc n) k [] x is = absurd cc
-get_taken (suc n) zero (y ∷ xs) x is = is
-get_taken (suc n) (suc k) (y ∷ xs) x is = get_taken n k xs x is
-
 -- one of the last calls with one call more: that one, or one of those before
 one_more : (w : Keys) (d : RememberedCall) (key k : ℕ) (c : RememberedCall) → HasKey (remembered w d) key k c → ((key ≡ w.next) × (d ≡ c)) ⊎ ((j : ℕ) × HasKey w key j c)
 one_more w d key zero c has = let is : key + 0 + 1 ≡ w.next + 1 = has.key_is in inl (omega (arith, is), ap (λ o. unwrap_or o d) has.there)
-one_more w d key (suc k) c has = let is : key + suc k + 1 ≡ w.next + 1 = has.key_is in inr (k, record { there = get_taken 15 k w.kept c has.there; key_is = omega (arith, is) })
+one_more w d key (suc k) c has = let is : key + suc k + 1 ≡ w.next + 1 = has.key_is in inr (k, record { there = get_first 15 k w.kept c has.there; key_is = omega (arith, is) })
 
 one_call : (c d : KeyedCall) → call_ended c ≡ call_ended d → c ≡ d
 one_call c d is = cc

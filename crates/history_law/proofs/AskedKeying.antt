@@ -9,6 +9,8 @@ use Rattle.live_core.specs.Front.{Opening}
 use Rattle.guest_core.specs.declared.guest.Guest.{Guest}
 use Rattle.guest_core.specs.declared.kept.RememberedCall.{RememberedCall}
 use Rattle.guest_core.specs.Guests.{Guests, IsSound}
+use Rattle.guest_core.specs.Bound.{bounded_guests, stays}
+use Rattle.guest_core.proofs.Bounding.{sound_by}
 use Rattle.guest_core.proofs.Sound.{sound_renewed}
 use Rattle.audit_core.specs.Steps.{Step}
 use Rattle.live_core.specs.Fronts.{client_of}
@@ -99,7 +101,7 @@ module _ (claims : Claims) (P : KeyedCall → Type 0) (old new : Table) (j : ℕ
             events = epoch_began (map client_of h.guests.guests) ∷ told;
             names = inl (at, record { front = held.fronts.front; told = told_so; begun = next }, refl);
             keys = epoch_keeps_keys f told h.guests held.begins.after.guests keys (ap (λ (v : Guests). v.guests) next.followed.guests)
-                (subst (λ (v : Guests). IsSound v) (sym next.followed.guests) (sound_renewed h.guests keys.sound));
+                (subst (λ (v : Guests). IsSound v) (sym next.followed.guests) (sound_renewed (bounded_guests h.guests) (sound_by (stays h.guests.guests) h.guests keys.sound)));
             each = each;
           }
 

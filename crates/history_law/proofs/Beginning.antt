@@ -20,6 +20,8 @@ use Rattle.live_core.specs.Scene.{Scene}
 use Rattle.live_core.specs.HostedSteps.{IsFollowed}
 use Rattle.history_law.specs.Stands.{IsAwaited, AreSeated, Stands}
 use Rattle.history_law.specs.Begins.{BegunStands, FollowedStands, AgainStands}
+use Rattle.guest_core.specs.Bound.{bounded_guests}
+use Rattle.history_law.proofs.Bounded.{seated_bounded}
 use Rattle.history_law.proofs.Seating.{seated_renewed}
 
 -- the calls of a front have the numbers that they have in its epoch
@@ -70,7 +72,7 @@ followed_begun o e heard old new past s followed =
       later = λ number more. tt;
       carried = omega (arith, length_numbered 0 old.hall.waiting, begun.given);
       sessions = subst (λ n. n ≤ 65535) (sym begun.sessions) s.sessions;
-      seated = subst AreSeated (sym followed.guests) (seated_renewed old.guests s.seated);
+      seated = subst AreSeated (sym followed.guests) (seated_renewed (bounded_guests old.guests) (seated_bounded old.guests s.seated));
     }
 
 pub followed_stands : FollowedStands
@@ -102,5 +104,5 @@ again_stands object ended source limits s again runs epoch base few seated is =
       held = subst (λ c. IsHeld s.hall (told_behind again.past c)) (sym again.held.kept.contents) again.held;
       waiting = again.waiting;
       sessions = subst (λ n. n ≤ 65535) (sym again.set_up.sessions_are) few;
-      seated = subst AreSeated (sym again.guests) (seated_renewed ended.guests seated);
+      seated = subst AreSeated (sym again.guests) (seated_renewed (bounded_guests ended.guests) (seated_bounded ended.guests seated));
     }) is

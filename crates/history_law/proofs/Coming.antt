@@ -17,6 +17,8 @@ use Rattle.guest_core.proofs.Items.{get_here, get_last, get_set, get_there}
 use Rattle.live_core.specs.Scene.{Scene}
 use Rattle.live_core.specs.HostedSteps.{IsFollowed}
 use Rattle.history_law.specs.Stands.{AreSeated}
+use Rattle.guest_core.specs.Bound.{bounded_guests}
+use Rattle.history_law.proofs.Bounded.{seated_bounded, has_bounded}
 use Rattle.history_law.proofs.Seating.{seated_enters, seated_leaves, seated_number, seated_renewed}
 use Rattle.history_law.specs.Awaits.{IsElementOf}
 use Rattle.history_law.specs.Asked.{Claim, ClientHas, HasAskedFor, IsAskedOf, IsHere, IsKnown}
@@ -179,9 +181,10 @@ module _ (claim : Claim) where
       subst (λ (x : Guests). HasLeft old x session) (sym same)
       (record { seated = seated; known = λ c idle has. has; here = λ Is s other has. has; back = λ s a. a })
 
-  known_numbered : (v : Guests) (n : ℕ) (cs : List Called) → Every (IsKnown claim v) cs → Every (IsKnown claim (record v { seats = map renewed v.seats })) (numbered_from n cs)
+  known_numbered : (v : Guests) (n : ℕ) (cs : List Called) → Every (IsKnown claim v) cs → Every (IsKnown claim (record (bounded_guests v) { seats = map renewed v.seats })) (numbered_from n cs)
   known_numbered v n [] all = tt
-  known_numbered v n (c ∷ cs) all = (has_renewed (HasAskedFor claim c) v c.session all.0, known_numbered v (n + 1) cs all.1)
+  known_numbered v n (c ∷ cs) all =
+      (has_renewed (HasAskedFor claim c) (bounded_guests v) c.session (has_bounded (HasAskedFor claim c) v c.session (λ g is. is) all.0), known_numbered v (n + 1) cs all.1)
 
   -- what begins an epoch
   pub record HasBegun (old new : Scene) : Type 1 where
@@ -193,12 +196,12 @@ module _ (claim : Claim) where
   pub has_begun : (old new : Scene) (past : List PastEvent) → IsFollowed old past new → IsAskedOf claim old → HasBegun old new
   has_begun old new past is a = record {
     asked_of = record {
-      seated = subst AreSeated (sym is.guests) (seated_renewed old.guests a.seated);
+      seated = subst AreSeated (sym is.guests) (seated_renewed (bounded_guests old.guests) (seated_bounded old.guests a.seated));
       held = (told_behind past old.hall.contents, is.held a.held.0 a.held.1);
       waits = subst (λ (v : Guests). Every (IsKnown claim v) new.hall.waiting) (sym is.guests)
-          (subst (λ (l : List Called). Every (IsKnown claim (record old.guests { seats = map renewed old.guests.seats })) l) (sym is.begun.waiting) (known_numbered old.guests 0 old.hall.waiting a.waits));
+          (subst (λ (l : List Called). Every (IsKnown claim (record (bounded_guests old.guests) { seats = map renewed old.guests.seats })) l) (sym is.begun.waiting) (known_numbered old.guests 0 old.hall.waiting a.waits));
     };
-    here = λ Is s has. subst (λ (v : Guests). ClientHas (IsHere Is) v s) (sym is.guests) (has_renewed (IsHere Is) old.guests s has);
+    here = λ Is s has. subst (λ (v : Guests). ClientHas (IsHere Is) v s) (sym is.guests) (has_renewed (IsHere Is) (bounded_guests old.guests) s (has_bounded (IsHere Is) old.guests s (λ g here. here) has));
     waits = λ d at. numbered_was 0 old.hall.waiting d (subst (λ (l : List Called). IsElementOf d l) is.begun.waiting at);
     back = λ s at. nameless_before old.guests.seats s (subst (λ (v : Guests). slice_get v.seats s ≡ Some Nameless) is.guests at);
   }

@@ -28,7 +28,7 @@ use Rattle.history_law.proofs.Keyed.{keys_stand_once}
 use Rattle.history_law.proofs.Lasting.{repeats_stand}
 use Rattle.history_law.proofs.Tables.{whose}
 use Rattle.history_law.specs.Keyed.{HaveKeys, ended_as, ended_by, with_ran, with_came, with_step, with_steps, StepsKeepKeys, EpochKeepsKeys, NobodyHasKeys, ReadHaveKeys, RepeatIsTheCall}
-use Rattle.history_law.proofs.Alike.{like_same, like_set, keys_alike, keys_call, keys_came, keys_began}
+use Rattle.history_law.proofs.Alike.{like_same, like_bounded, like_set, keys_alike, keys_call, keys_came, keys_began}
 
 -- a client has other keys, of which the same is told
 keys_set : (f : Opening) (told : Events) (v new : Guests) (p : ℕ) (g : Guest) (keys : Keys) → HaveKeys f told v → slice_get v.guests p ≡ Some g → keys.next ≡ g.keys.next → keys.kept ≡ g.keys.kept →
@@ -145,7 +145,7 @@ steps_keep_keys f told old new lines (hosted.goes_on {mid = mid} {lines = before
     steps_keep_keys f (with_steps first told) mid new added more (steps_keep_keys f told old mid before first h)
 
 pub epoch_keeps_keys : EpochKeepsKeys
-epoch_keeps_keys f told old new h same sound = keys_alike f (epoch_began (map client_from old.guests) ∷ told) old new (keys_began f told old h) sound (like_same old new same)
+epoch_keeps_keys f told old new h same sound = keys_alike f (epoch_began (map client_from old.guests) ∷ told) old new (keys_began f told old h) sound (like_bounded old new same)
 
 none_there : (guests : List Guest) (p : ℕ) (g : Guest) → guests ≡ [] → slice_get guests p ≡ Some g → ⊥
 none_there guests p g none is = let at : slice_get [] p ≡ Some g = subst (λ (l : List Guest). slice_get l p ≡ Some g) none is in cc

@@ -6,6 +6,11 @@ use Rattle.std.proofs.lemmas.Option.{same_Some, slice_get_within}
 use Rattle.decl_core.specs.ObjectMap.{object_of}
 use Rattle.live_core.specs.Front.{Opening}
 use Rattle.guest_core.specs.Guests.{Guests, IsSound}
+use Rattle.guest_core.specs.declared.guest.Guest.{Guest}
+use Rattle.guest_core.specs.Bound.{bounded, bounded_guests, stays}
+use Rattle.live_core.specs.declared.front.NamedClient.{NamedClient}
+use Rattle.history_law.proofs.Bounded.{clients_by, sound_before}
+use Rattle.guest_core.proofs.Bounding.{sound_by}
 use Rattle.guest_core.proofs.Sound.{sound_renewed}
 use Rattle.recover_core.specs.declared.recover.Recovered.{Recovered}
 use Rattle.live_core.specs.Fronts.{client_of}
@@ -86,7 +91,7 @@ module _ (old new : Table) (j : ℕ) (f : Opening) (h : Scene) (told : List KeyE
             events = epoch_began (map client_of h.guests.guests) ∷ told;
             names = inl (at, record { front = held.fronts.front; told = told_so; begun = next }, refl);
             keys = epoch_keeps_keys f told h.guests held.begins.after.guests keys (ap (λ (v : Guests). v.guests) next.followed.guests)
-                (subst (λ (v : Guests). IsSound v) (sym next.followed.guests) (sound_renewed h.guests keys.sound));
+                (subst (λ (v : Guests). IsSound v) (sym next.followed.guests) (sound_renewed (bounded_guests h.guests) (sound_by (stays h.guests.guests) h.guests keys.sound)));
           }
 
   keeps : (asked : Asked) (said added : Texts) (account : Account) → Gives old asked said added new → SaysIn (seen old) asked said added account (seen new) → Keeps old new j f asked added account h told
@@ -122,10 +127,14 @@ start_has_keys t j object h lines limits b e earlier came are =
     let s = b.scene in
     let told = all_told o e earlier in
     let sound = (behind_stands object h lines limits s b.before b.after b.begins b.adds b.few b.known).seated.sound in
-    let same : s.guests.guests ≡ e.came.guests.guests =
-    ap (λ (v : Guests). v.guests) b.begins.again.guests ∙ ap (λ (r : Recovered). r.guests.guests) (sym came) in
-    let was : HaveKeys (oldest o e earlier).is.front told s.guests = read_have_keys o e earlier s.guests are same sound in
-    epoch_keeps_keys (oldest o e earlier).is.front told s.guests s.guests was refl sound
+    let first = (oldest o e earlier).is.front in
+    let gs : List Guest = e.came.guests.guests in
+    let same : s.guests.guests ≡ bounded gs =
+    ap (λ (v : Guests). v.guests) b.begins.again.guests ∙ ap (λ (r : Recovered). bounded r.guests.guests) (sym came) in
+    let before : Guests = record s.guests { guests = gs } in
+    let was : HaveKeys first told before = read_have_keys o e earlier before are refl (sound_before (stays gs) s.guests gs same sound) in
+    subst (λ (cs : List NamedClient). HaveKeys first (epoch_began cs ∷ told) s.guests) (sym (ap (map client_of) same ∙ clients_by (stays gs) gs))
+    (epoch_keeps_keys first told before s.guests was same sound)
 
 pub repeats_are_of_their_keys : RepeatsAreOfTheirKeys
 repeats_are_of_their_keys first last turns before h text r f old told there keys =

@@ -1,5 +1,5 @@
 -- What is kept of calls, from epoch to epoch.
-use Rattle.std.proofs.Common.{◌≡◌, ◌≢◌, ℕ, zero, suc, ◌+◌, List, [], ◌∷◌, ◌++◌, length, Option, Some, refl, sym, ap, ◌∙◌, subst, append_assoc}
+use Rattle.std.proofs.Common.{◌≡◌, ◌≢◌, ℕ, zero, suc, ◌+◌, List, [], ◌∷◌, ◌++◌, length, take, Option, Some, refl, sym, ap, ◌∙◌, subst, append_assoc}
 use Rattle.std.specs.Prelude.{slice_get, unwrap_or}
 use Rattle.std.proofs.lemmas.List.{append-nil}
 use Rattle.decl_core.specs.ObjectForm.{ObjectForm}
@@ -14,9 +14,10 @@ use Rattle.guest_core.specs.Guests.{Guests, IsSound}
 use Rattle.guest_core.proofs.Items.{get_front, get_last}
 use Rattle.guest_core.proofs.Sound.{sound_new}
 use Rattle.recover_core.specs.Clients.{OpenAll, reply_in}
-use Rattle.recover_core.specs.Chain.{IsSameCall, AreLinesFor, IsKnown, AreKnown}
+use Rattle.recover_core.specs.Chain.{IsSameCall, AreLinesFor, AreNewest, IsKnown, AreKnown}
 use Rattle.recover_core.specs.Recovered.{nobody}
 use Rattle.history_law.specs.Keys.{epoch_began, ReadEpoch, told_with, all_told, AreKnownOn, IsAmong, oldest, RepeatsStand}
+use Rattle.history_law.proofs.Bounded.{get_first}
 use Rattle.history_law.proofs.Counted.{Events, IsCounted, no_calls, not_counted}
 use Rattle.history_law.proofs.Tables.{Keeps, keeps_on, Holds, kept_of, holds_steps, call_from, kept_from, AreOfSession, came_with, holds_began, keeps_lines, was_known}
 
@@ -105,9 +106,9 @@ others_from session (c ∷ clients) kept (g ∷ guests) apart (mine, more, cut, 
 
 others_known : (session : ℕ) (v : Guests) (clients : List NamedClient) (kept : List KeptCall) → AreApart session clients → AreKnown v clients kept → AreOfOthers session kept
 others_known session v [] kept apart known = subst (AreOfOthers session) (sym known) tt
-others_known session v (c ∷ clients) kept apart (mine, more, calls, cut, known, same, rest) =
+others_known session v (c ∷ clients) kept apart (mine, more, calls, few, cut, known, newest, same, rest) =
     subst (AreOfOthers session) (sym cut)
-    (others_more session c.session mine more apart.0 (lines_of_session c mine calls same) (others_known session v clients more apart.1 rest))
+    (others_more session c.session mine more apart.0 (lines_of_session c mine few same) (others_known session v clients more apart.1 rest))
 
 same_heads : {X : Type 0} (p q : X) (xs ys : List X) → p ∷ xs ≡ q ∷ ys → (p ≡ q) × (xs ≡ ys)
 same_heads p q xs ys is = (cc, cc)
@@ -121,14 +122,15 @@ split_same session (c ∷ a) (d ∷ b) x y is a_of b_of x_of y_of =
     let on = split_same session a b x y first.1 a_of.1 b_of.1 x_of y_of in
     (ap (λ e. e ∷ a) first.0 ∙ ap (λ l. d ∷ l) on.0, on.1)
 
--- a client of a front was known so, with its kept calls
+-- a client of a front was known so, with its kept calls and perhaps older ones
 record WasSo (v : Guests) (clients : List NamedClient) (g : Guest) : Type 0 where
   pub place : ℕ
   pub guest : Guest
   pub there : slice_get v.guests place ≡ Some guest
   pub same_name : guest.name ≡ g.name
   pub same_next : guest.keys.next ≡ g.keys.next
-  pub same_kept : guest.keys.kept ≡ g.keys.kept
+  pub few : ℕ
+  pub same_kept : take few guest.keys.kept ≡ g.keys.kept
   pub client : NamedClient
   pub among : IsAmong clients g.name client
 
@@ -139,19 +141,21 @@ was_more v c clients g is = record {
   there = is.there;
   same_name = is.same_name;
   same_next = is.same_next;
+  few = is.few;
   same_kept = is.same_kept;
   client = is.client;
   among = record { place = suc is.among.place; there = is.among.there; is_named = is.among.is_named };
 }
 
-was_first : (v : Guests) (x : Guest) (c : NamedClient) (clients : List NamedClient) (mine own : List KeptCall) (calls : List RememberedCall) → IsKnown v c calls → AreLinesFor c mine calls → IsFrom x c own → own ≡ mine → WasSo v (c ∷ clients) x
-was_first v x c clients mine own calls known same from is = record {
+was_first : (v : Guests) (x : Guest) (c : NamedClient) (clients : List NamedClient) (mine own : List KeptCall) (calls few : List RememberedCall) → IsKnown v c calls → AreNewest v calls few → AreLinesFor c mine few → IsFrom x c own → own ≡ mine → WasSo v (c ∷ clients) x
+was_first v x c clients mine own calls few known newest same from is = record {
   place = known.place;
   guest = known.guest;
   there = known.by.there;
   same_name = known.named ∙ from.same_name;
   same_next = known.next ∙ sym from.next_is;
-  same_kept = known.kept_is ∙ same_calls c mine calls same ∙ ap kept_from (sym is) ∙ sym from.kept_is;
+  few = length few;
+  same_kept = ap (take (length few)) known.kept_is ∙ newest.newest ∙ same_calls c mine few same ∙ ap kept_from (sym is) ∙ sym from.kept_is;
   client = c;
   among = record { place = 0; there = refl; is_named = from.same_name };
 }
@@ -166,19 +170,19 @@ parts_of v x c clients mine more own others calls guests same rest from apart re
 was_so : (v : Guests) (clients : List NamedClient) (kept : List KeptCall) (guests : List Guest) (p : ℕ) (g : Guest) → AreKnown v clients kept → AreFrom clients kept guests → slice_get guests p ≡ Some g → WasSo v clients g
 was_so v clients kept [] p g known from there = absurd cc
 was_so v [] kept (x ∷ guests) p g known from there = absurd from
-was_so v (c ∷ clients) kept (x ∷ guests) zero g (mine, more, calls, cut, known, same, rest) (own, others, cut_own, from, apart, rest_own) there =
-    let parts = parts_of v x c clients mine more own others calls guests same rest from apart rest_own (sym cut_own ∙ cut) in
-    subst (WasSo v (c ∷ clients)) (ap (λ o. unwrap_or o x) there) (was_first v x c clients mine own calls known same from parts.0)
-was_so v (c ∷ clients) kept (x ∷ guests) (suc p) g (mine, more, calls, cut, known, same, rest) (own, others, cut_own, from, apart, rest_own) there =
-    let parts = parts_of v x c clients mine more own others calls guests same rest from apart rest_own (sym cut_own ∙ cut) in
+was_so v (c ∷ clients) kept (x ∷ guests) zero g (mine, more, calls, few, cut, known, newest, same, rest) (own, others, cut_own, from, apart, rest_own) there =
+    let parts = parts_of v x c clients mine more own others few guests same rest from apart rest_own (sym cut_own ∙ cut) in
+    subst (WasSo v (c ∷ clients)) (ap (λ o. unwrap_or o x) there) (was_first v x c clients mine own calls few known newest same from parts.0)
+was_so v (c ∷ clients) kept (x ∷ guests) (suc p) g (mine, more, calls, few, cut, known, newest, same, rest) (own, others, cut_own, from, apart, rest_own) there =
+    let parts = parts_of v x c clients mine more own others few guests same rest from apart rest_own (sym cut_own ∙ cut) in
     was_more v c clients g (was_so v clients more guests p g rest (subst (λ l. AreFrom clients l guests) parts.1 rest_own) there)
 
--- so what was kept is kept
+-- so what is kept was kept
 still_kept : (old : Opening) (v : Guests) (clients : List NamedClient) (told : Events) (g : Guest) → WasSo v clients g → ((p : ℕ) (x : Guest) → slice_get v.guests p ≡ Some x → Keeps old told x.name x.keys)
     → Keeps old (epoch_began clients ∷ told) g.name g.keys
 still_kept old v clients told g was keeps = keeps_on old (epoch_began clients) told g.name g.keys (λ newer stays. ((was.client, was.among), stays))
     (subst (λ n. Keeps old told n g.keys) was.same_name
-    (λ key k c has. keeps was.place was.guest was.there key k c (record { there = ap (λ l. slice_get l k) was.same_kept ∙ has.there; key_is = has.key_is ∙ sym was.same_next })))
+    (λ key k c has. keeps was.place was.guest was.there key k c (record { there = get_first was.few k was.guest.keys.kept c (ap (λ l. slice_get l k) was.same_kept ∙ has.there); key_is = has.key_is ∙ sym was.same_next })))
 
 -- all epochs
 

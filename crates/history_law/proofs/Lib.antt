@@ -23,6 +23,7 @@ pub mod Saying
 pub mod WrittenRunning
 pub mod Seating
 pub mod WrittenTelling
+pub mod Bounded
 pub mod Beginning
 pub mod WrittenReading
 pub mod Replying

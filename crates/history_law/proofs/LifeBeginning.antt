@@ -36,6 +36,7 @@ use Rattle.history_law.proofs.Recovering.{remembers_seated, opens_seated, open_a
 use Rattle.history_law.proofs.Replying.{typed_at}
 use Rattle.history_law.proofs.Seating.{nobody_seated, seated_admits, seated_keys}
 use Rattle.history_law.specs.LifeKeeps.{AskedFits, IsWorded, GuestsKeep}
+use Rattle.history_law.proofs.Bounded.{keep_bounded}
 use Rattle.history_law.specs.Rows.{BehindKeeps, FirstKeeps}
 use Rattle.history_law.proofs.LifeKeeping.{admits_keep, asks_keep, at_name_keep, ends_keep, long_min, none_worded, written_worded}
 use Rattle.history_law.proofs.LifeLists.{every_left, every_right}
@@ -194,7 +195,7 @@ behind_keeps object h lines limits s behind known names =
     (open_all_seated h.now _ f.clients f.kept clients.opened clients.opens nobody) opened in
     let again = behind.again in
     record {
-      guests = subst (GuestsKeep o) (sym again.guests) all;
+      guests = subst (GuestsKeep o) (sym again.guests) (keep_bounded o came.guests all);
       carried = subst (Every IsLong) (sym again.carried) tt;
       base = subst IsLong (sym again.base) (long_min _);
       epoch = subst (λ n. (1 ≤ n) × IsLong n) (sym again.epoch) (omega arith, long_min _);

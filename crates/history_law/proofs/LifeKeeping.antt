@@ -34,6 +34,7 @@ use Rattle.history_law.proofs.Replying.{replies_written}
 use Rattle.history_law.proofs.Seating.{named_or, seated_keys}
 use Rattle.history_law.proofs.WrittenTelling.{steps_are_told}
 use Rattle.history_law.specs.LifeKeeps.{AskedFits, IsWorded, KeptWell, KeysKeep, GuestsKeep, Keeps}
+use Rattle.history_law.proofs.Bounded.{keep_bounded}
 use Rattle.history_law.proofs.LifeLists.{every_at, every_set, every_push, every_take, length_take, every_index}
 
 -- replies
@@ -179,7 +180,7 @@ steps_keep o e heard old new lines (hosted.goes_on {mid = mid} {lines = first} {
 -- its next epoch begins
 pub followed_keeps : (o : ObjectForm) (old new : Scene) (past : List _) → IsFollowed old past new → Keeps o old → Keeps o new
 followed_keeps o old new past by k = record {
-  guests = subst (GuestsKeep o) (sym by.guests) k.guests;
+  guests = subst (GuestsKeep o) (sym by.guests) (keep_bounded o old.guests k.guests);
   carried = subst (Every IsLong) (sym by.carried) (all_told_long old old.hall.waiting k.carried);
   base = let is = by.base in let long = long_min (old.base + old.given) in subst IsLong (sym is) (omega (arith, long));
   epoch = let is = by.epoch in let long = long_min (old.epoch + 1) in let some = k.epoch.0 in subst (λ n. (1 ≤ n) × IsLong n) (sym is) (omega (arith, some), long);

@@ -22,6 +22,8 @@ use Rattle.audit_core.specs.Steps.{Begun, Heard, Step}
 use Rattle.live_core.specs.Fits.{CallFits, GuestFits, ReplyFits, RunFits}
 use Rattle.live_core.specs.Fronts.{TellsFront, answer_in, carried_from, client_of, front_of, kept_below, kept_of}
 use Rattle.live_core.specs.Scene.{Scene, next_base, next_epoch}
+use Rattle.guest_core.specs.Bound.{bounded, stays}
+use Rattle.history_law.proofs.Bounded.{clients_by, every_by_guest, keep_bounded}
 use Rattle.history_law.specs.Named.{IsNamed}
 use Rattle.history_law.specs.Stands.{AreSeated, IsAwaited, Stands}
 use Rattle.history_law.proofs.Seating.{not_0}
@@ -121,6 +123,8 @@ front_has_rows o e heard s epoch past base before after names stands k number lo
     let counted = kept.counted in
     let few = kept.few in
     let sessions : Every (λ (g : Guest). IsSession g.session) s.guests.guests = every_by (λ (g : Guest). IsSession g.session) s.guests.guests (session_of s.guests stands.seated) in
+    let sessions_by : Every (λ (g : Guest). IsSession g.session) (bounded s.guests.guests) =
+    every_by_guest (λ (g : Guest). IsSession g.session) (λ (g : Guest). IsSession g.session) (stays s.guests.guests) s.guests.guests (λ g is. is) sessions in
     record {
       epoch = number;
       source = tells.source;
@@ -129,8 +133,8 @@ front_has_rows o e heard s epoch past base before after names stands k number lo
       past = runs_say o tells.runs names (subst (λ (x : ObjectForm). Every (RunFits (length x.operations)) tells.runs) stands.object tells.runs_fit);
       base = long;
       carried = carried_say o e heard.steps s _ 0 s.hall.waiting names stands.object k.carried (omega (arith, counted, few)) kept.waits stands.waiting;
-      clients = clients_say s.guests.guests sessions tells.guests;
-      kept = kept_say o s.guests.guests names sessions k.guests tells.guests;
+      clients = subst (Every IsClient) (clients_by (stays s.guests.guests) s.guests.guests) (clients_say (bounded s.guests.guests) sessions_by tells.guests);
+      kept = kept_say o (bounded s.guests.guests) names sessions_by (keep_bounded o s.guests k.guests) tells.guests;
     }
 
 pub first_has_rows : FirstHasRows

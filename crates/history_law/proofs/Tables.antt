@@ -510,5 +510,5 @@ keeps_lines f told h v opens p g there key k c has = inr ((opens_all h.now (nobo
 -- a client of a front was known
 pub was_known : (v : Guests) (clients : List NamedClient) (kept : List KeptCall) (p : ℕ) (c : NamedClient) → AreKnown v clients kept → slice_get clients p ≡ Some c → (calls : List RememberedCall) × IsKnown v c calls
 was_known v [] kept p c are is = absurd cc
-was_known v (d ∷ clients) kept zero c (mine, more, calls, cut, known, same, rest) is = (calls, subst (λ x. IsKnown v x calls) (ap (λ o. unwrap_or o d) is) known)
-was_known v (d ∷ clients) kept (suc p) c (mine, more, calls, cut, known, same, rest) is = was_known v clients more p c rest is
+was_known v (d ∷ clients) kept zero c (mine, more, calls, few, cut, known, newest, same, rest) is = (calls, subst (λ x. IsKnown v x calls) (ap (λ o. unwrap_or o d) is) known)
+was_known v (d ∷ clients) kept (suc p) c (mine, more, calls, few, cut, known, newest, same, rest) is = was_known v clients more p c rest is

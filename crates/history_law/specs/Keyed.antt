@@ -4,6 +4,7 @@ use Rattle.apply_core.specs.declared.reply.Reply.{Reply}
 use Rattle.decl_core.specs.ObjectForm.{ObjectForm}
 use Rattle.live_core.specs.declared.call.Ran.{Ran}
 use Rattle.live_core.specs.Front.{Opening}
+use Rattle.guest_core.specs.Bound.{bounded}
 use Rattle.guest_core.specs.declared.guest.Guest.{Guest}
 use Rattle.guest_core.specs.declared.guests.Entered.{Entered}
 use Rattle.guest_core.specs.declared.guests.EnterFault.{EnterFault}
@@ -69,9 +70,9 @@ abbrev pub StepsKeepKeys : Type 0
 StepsKeepKeys = (f : Opening) (told : List KeyEvent) (old new : Scene) (lines : List ℕ) (all : hosted.Steps old lines new) →
     HaveKeys f told old.guests → HaveKeys f (with_steps all told) new.guests
 
--- An epoch begins with the clients that there are, each with its next key.
+-- An epoch begins with the clients that there are, each with its next key, and with the calls of each with which one begins.
 abbrev pub EpochKeepsKeys : Type 0
-EpochKeepsKeys = (f : Opening) (told : List KeyEvent) (old new : Guests) → HaveKeys f told old → new.guests ≡ old.guests → IsSound new →
+EpochKeepsKeys = (f : Opening) (told : List KeyEvent) (old new : Guests) → HaveKeys f told old → new.guests ≡ bounded old.guests → IsSound new →
     HaveKeys f (epoch_began (map client_from old.guests) ∷ told) new
 
 -- Where an object has just begun nobody is known; and behind epochs that were read clients are those of what these tell.

@@ -5,6 +5,7 @@ use Rattle.word_core.specs.Events.{Called}
 use Rattle.path_count.specs.declared.past.PastEvent.{PastEvent}
 use Rattle.live_core.specs.Epochs.{IsBegun, numbered_from, told_behind}
 use Rattle.live_core.specs.Hall.{Hall, Told, IsHeld}
+use Rattle.guest_core.specs.Bound.{bounded_guests}
 use Rattle.guest_core.specs.Seats.{renewed}
 use Rattle.live_core.specs.Scene.{Scene, told_of, next_base, next_epoch}
 use Rattle.live_core.specs.Fronts.{IsNextBehind}
@@ -19,7 +20,7 @@ pub followed : (v now new : Scene) (h : Hall) (past : List PastEvent) (carried :
     ((t : Told) → IsHeld v.hall t → IsHeld h (told_behind past v.hall.contents)) → carried ≡ map (λ (c : Called). told_of now c.number) now.hall.waiting → base ≡ next_base now →
     new ≡ record v {
       hall = h;
-      guests = record v.guests { seats = map renewed v.guests.seats };
+      guests = record (bounded_guests v.guests) { seats = map renewed v.guests.seats };
       past = past;
       carried = carried;
       base = base;

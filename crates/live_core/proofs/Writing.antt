@@ -1,6 +1,6 @@
 -- The lines of a front, one more.
 use Rattle.std.proofs.Common.{◌≡◌, ℕ, ◌+◌, ◌-◌, ◌<◌, List, [], ◌∷◌, ◌++◌, length, map, take, get_or, refl, sym, ap, subst, ◌∙◌, append_assoc}
-use Rattle.std.specs.Prelude.{All, codes}
+use Rattle.std.specs.Prelude.{All, Bool, codes}
 use Rattle.value_core.specs.Contents.{IsContents}
 use Rattle.std.proofs.lemmas.List.{take_more, append-nil}
 use Rattle.decl_core.specs.ObjectForm.{ObjectForm}
@@ -13,6 +13,7 @@ use Rattle.live_core.specs.declared.past.PastRun.{PastRun}
 use Rattle.live_core.specs.Front.{Every, IsLong}
 use Rattle.live_core.specs.Text.{rows, carried_words, client_words, kept_words, runs_text, carried_text, clients_text, kept_text}
 use Rattle.live_core.specs.Text.{object_words, source_words, base_words, calls_text, behind_parts}
+use Rattle.guest_core.specs.Bound.{bounded, guest_by, kept_by}
 use Rattle.guest_core.specs.declared.guest.Guest.{Guest}
 use Rattle.guest_core.specs.declared.kept.RememberedCall.{RememberedCall}
 use Rattle.live_core.specs.Scene.{Scene}
@@ -46,13 +47,29 @@ kept_push (h ∷ gs) g =
     let mine : List KeptCall = kept_below h.session h.keys.next h.keys.kept in
     ap (λ t. mine ++ t) (kept_push gs g) ∙ sym (append_assoc mine (kept_of gs) (kept_of (g ∷ [])))
 
+-- the calls of a client with which an epoch begins
+pub one_kept : (o : ObjectForm) (stay : ℕ → Bool) (g : Guest) (session next : ℕ) (kept : List RememberedCall) (before after : List ℕ) → session ≡ g.session → next ≡ g.keys.next → kept ≡ kept_by stay g.keys.kept →
+    after ≡ before ++ kept_text o (kept_below session next kept) → after ≡ before ++ kept_text o (kept_of (guest_by stay g ∷ []))
+one_kept o stay g session next kept before after sessions nexts some is =
+    is ∙ ap (λ n. before ++ kept_text o (kept_below n next kept)) sessions ∙ ap (λ n. before ++ kept_text o (kept_below g.session n kept)) nexts
+    ∙ ap (λ ks. before ++ kept_text o (kept_below g.session g.keys.next ks)) some
+    ∙ ap (λ ks. before ++ kept_text o ks) (sym (append-nil (kept_below g.session g.keys.next (kept_by stay g.keys.kept))))
+
+-- each of a list, one more
+pub map_more : {X Y : Type 0} (f : X → Y) (all : List X) (i : ℕ) (d x : X) → i < length all → x ≡ get_or all i d → map f (take (i + 1) all) ≡ map f (take i all) ++ f x ∷ []
+map_more f all i d x inside is = ap (map f) (take_more all i d inside ∙ ap (λ y. take i all ++ y ∷ []) (sym is)) ∙ map_push f (take i all) x
+  where
+    map_push : {X Y : Type 0} (f : X → Y) (xs : List X) (x : X) → map f (xs ++ x ∷ []) ≡ map f xs ++ f x ∷ []
+    map_push f [] x = refl
+    map_push f (y ∷ xs) x = ap (λ t. f y ∷ t) (map_push f xs x)
+
 -- the calls of a client more
-pub all_kept_more : (o : ObjectForm) (first before after : List ℕ) (all : List Guest) (i : ℕ) (d x : Guest) → i < length all → x ≡ get_or all i d → before ≡ first ++ kept_text o (kept_of (take i all)) →
-    after ≡ before ++ kept_text o (kept_of (x ∷ [])) → after ≡ first ++ kept_text o (kept_of (take (i + 1) all))
-all_kept_more o first before after all i d x inside is was more =
-    let to : take (i + 1) all ≡ take i all ++ x ∷ [] = take_more all i d inside ∙ ap (λ y. take i all ++ y ∷ []) (sym is) in
-    behind_two first before after (kept_text o (kept_of (take i all))) (kept_text o (kept_of (x ∷ []))) (kept_text o (kept_of (take (i + 1) all))) was more
-    (ap (λ gs. kept_text o (kept_of gs)) to ∙ ap (kept_text o) (kept_push (take i all) x) ∙ text_append (codes "kept") (kept_words o) (kept_of (take i all)) (kept_of (x ∷ [])))
+pub all_kept_more : (o : ObjectForm) (f : Guest → Guest) (first before after : List ℕ) (all : List Guest) (i : ℕ) (d x : Guest) → i < length all → x ≡ get_or all i d → before ≡ first ++ kept_text o (kept_of (map f (take i all))) →
+    after ≡ before ++ kept_text o (kept_of (f x ∷ [])) → after ≡ first ++ kept_text o (kept_of (map f (take (i + 1) all)))
+all_kept_more o f first before after all i d x inside is was more =
+    behind_two first before after (kept_text o (kept_of (map f (take i all)))) (kept_text o (kept_of (f x ∷ []))) (kept_text o (kept_of (map f (take (i + 1) all)))) was more
+    (ap (λ gs. kept_text o (kept_of gs)) (map_more f all i d x inside is) ∙ ap (kept_text o) (kept_push (map f (take i all)) (f x))
+    ∙ text_append (codes "kept") (kept_words o) (kept_of (map f (take i all))) (kept_of (f x ∷ [])))
 
 clients_push : (gs : List Guest) (g : Guest) → map client_of (gs ++ g ∷ []) ≡ map client_of gs ++ client_of g ∷ []
 clients_push [] g = refl
@@ -79,17 +96,17 @@ calls_all o s n rest whole before none is = sym (append-nil before) ∙ ap (λ c
 
 -- the lines of calls and clients
 pub calls_told : (s : Scene) (out one two three : List ℕ) → one ≡ out ++ carried_text (object_of s.hall.object) (carried_from s 0 s.hall.waiting) →
-    two ≡ one ++ clients_text (map client_of s.guests.guests) → three ≡ two ++ kept_text (object_of s.hall.object) (kept_of s.guests.guests) → TellsCalls s out three
+    two ≡ one ++ clients_text (map client_of s.guests.guests) → three ≡ two ++ kept_text (object_of s.hall.object) (kept_of (bounded s.guests.guests)) → TellsCalls s out three
 calls_told s out one two three first second third =
     let o = object_of s.hall.object in
     let a = carried_text o (carried_from s 0 s.hall.waiting) in
     let b = clients_text (map client_of s.guests.guests) in
-    let c = kept_text o (kept_of s.guests.guests) in
+    let c = kept_text o (kept_of (bounded s.guests.guests)) in
     behind_two out one three a (b ++ c) (a ++ (b ++ c)) first (behind_two one two three b c (b ++ c) second third refl) refl
 
 -- those from the past on
 pub past_told : (s : Scene) (base : ℕ) (runs : List PastRun) (out one two three : List ℕ) → one ≡ out ++ runs_text (object_of s.hall.object) runs →
-    two ≡ one ++ line_of (base_words base) → TellsCalls s two three → Every GuestFits s.guests.guests → TellsPast s runs base out three
+    two ≡ one ++ line_of (base_words base) → TellsCalls s two three → Every GuestFits (bounded s.guests.guests) → TellsPast s runs base out three
 past_told s base runs out one two three first second third guests =
     let o = object_of s.hall.object in
     let a = runs_text o runs in
@@ -119,8 +136,6 @@ every_push : {X : Type 0} (P : X → Type 0) (xs : List X) (x : X) → Every P x
 every_push P [] x all is = (is, tt)
 every_push P (y ∷ xs) x all is = (all.0, every_push P xs x all.1 is)
 
--- it holds of one more
-pub every_more : {X : Type 0} (P : X → Type 0) (all : List X) (i : ℕ) (d x : X) → i < length all → x ≡ get_or all i d → Every P (take i all) → P x → Every P (take (i + 1) all)
-every_more P all i d x inside is was more =
-    let to : take (i + 1) all ≡ take i all ++ x ∷ [] = take_more all i d inside ∙ ap (λ y. take i all ++ y ∷ []) (sym is) in
-    subst (λ l. Every P l) (sym to) (every_push P (take i all) x was more)
+-- it holds of each of one more
+pub every_map_more : {X Y : Type 0} (P : Y → Type 0) (f : X → Y) (all : List X) (i : ℕ) (d x : X) → i < length all → x ≡ get_or all i d → Every P (map f (take i all)) → P (f x) → Every P (map f (take (i + 1) all))
+every_map_more P f all i d x inside is was more = subst (λ l. Every P l) (sym (map_more f all i d x inside is)) (every_push P (map f (take i all)) (f x) was more)

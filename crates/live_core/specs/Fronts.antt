@@ -16,6 +16,7 @@ use Rattle.value_core.specs.Contents.{IsContents}
 use Rattle.live_core.specs.Front.{Every, IsLong, Opening}
 use Rattle.live_core.specs.Past.{events_in}
 use Rattle.live_core.specs.Text.{calls_text, behind_parts, front_text}
+use Rattle.guest_core.specs.Bound.{bounded}
 use Rattle.guest_core.specs.declared.guest.Guest.{Guest}
 use Rattle.guest_core.specs.declared.kept.RememberedCall.{RememberedCall}
 use Rattle.live_core.specs.Fits.{GuestFits, RunFits}
@@ -67,7 +68,7 @@ abbrev pub kept_of : List Guest → List KeptCall
 kept_of guests = flat_map (λ g. kept_below g.session g.keys.next g.keys.kept) guests
 
 -- The front of an epoch of this number, behind this past, with this base, that begins with an object as it is: it has the
--- values, each call that waits, each client, and each call that is remembered.
+-- values, each call that waits, each client, and of each its last call, and those before it with which an epoch begins.
 abbrev pub front_of : Scene → ℕ → List PastRun → ℕ → Opening
 front_of s epoch past base =
     record {
@@ -78,7 +79,7 @@ front_of s epoch past base =
       base = base;
       carried = carried_from s 0 s.hall.waiting;
       clients = map client_of s.guests.guests;
-      kept = kept_of s.guests.guests;
+      kept = kept_of (bounded s.guests.guests);
     }
 
 -- its lines behind that of the base are added
@@ -88,14 +89,14 @@ TellsCalls s before after = after ≡ before ++ calls_text (object_of s.hall.obj
 -- from those of the past on
 pub record TellsPast (s : Scene) (runs : List PastRun) (base : ℕ) (before after : List ℕ) : Type 0 where
   pub added : after ≡ before ++ behind_parts (object_of s.hall.object) (front_of s 0 runs base)
-  pub guests : Every GuestFits s.guests.guests
+  pub guests : Every GuestFits (bounded s.guests.guests)
 
 -- the lines of such a front, behind a past that is told so, are added
 pub record TellsRuns (s : Scene) (epoch : ℕ) (runs : List PastRun) (base : ℕ) (before after : List ℕ) : Type 0 where
   pub added : after ≡ before ++ front_text (object_of s.hall.object) (front_of s epoch runs base)
   pub source : IsLong s.source
   pub contents : All IsContents s.hall.contents
-  pub guests : Every GuestFits s.guests.guests
+  pub guests : Every GuestFits (bounded s.guests.guests)
 
 -- So they are behind a past of these events; and what the lines tell of is in its limits, as the types of the program say it.
 pub record TellsFront (s : Scene) (epoch : ℕ) (past : List PastEvent) (base : ℕ) (before after : List ℕ) : Type 0 where
@@ -105,7 +106,7 @@ pub record TellsFront (s : Scene) (epoch : ℕ) (past : List PastEvent) (base : 
   pub source : IsLong s.source
   pub contents : All IsContents s.hall.contents
   pub runs_fit : Every (RunFits (length (object_of s.hall.object).operations)) runs
-  pub guests : Every GuestFits s.guests.guests
+  pub guests : Every GuestFits (bounded s.guests.guests)
 
 -- a past leaves what the paths of an object have counted
 abbrev pub IsPastOf : Scene → List PastEvent → Type 0

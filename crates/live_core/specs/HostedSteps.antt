@@ -12,6 +12,7 @@ use Rattle.live_core.specs.Lines.{all_lines}
 use Rattle.guest_core.specs.declared.guests.Entered.{Entered}
 use Rattle.guest_core.specs.declared.guests.EnterFault.{EnterFault}
 use Rattle.guest_core.specs.declared.seats.SeatHolder.TheVariants.{Nameless}
+use Rattle.guest_core.specs.Bound.{bounded_guests}
 use Rattle.guest_core.specs.Entering.{Enters, Leaves}
 use Rattle.guest_core.specs.Guests.{Guests, with_seat}
 use Rattle.guest_core.specs.Seats.{IsLeastFree, renewed}
@@ -48,13 +49,13 @@ pub data Steps : Scene → List ℕ → Scene → Type 0 where
   goes_on : {old mid new : Scene} {lines added : List ℕ} → Steps old lines mid → Steps mid added new →
       Steps old (lines ++ added) new
 
--- an epoch more has begun, in which nothing has happened: the calls that wait are told by the numbers that they had, and
--- the numbers of forgotten names are free
+-- an epoch more has begun, in which nothing has happened: the calls that wait are told by the numbers that they had, of each
+-- client the calls are known with which an epoch begins, and the numbers of forgotten names are free
 pub record IsFollowed (old : Scene) (past : List PastEvent) (new : Scene) : Type 0 where
   pub begun : IsBegun old.hall past new.hall
   pub held : (t : Told) → IsHeld old.hall t → IsHeld new.hall (told_behind past old.hall.contents)
   pub carried : new.carried ≡ map (λ (c : Called). told_of old c.number) old.hall.waiting
-  pub guests : new.guests ≡ record old.guests { seats = map renewed old.guests.seats }
+  pub guests : new.guests ≡ record (bounded_guests old.guests) { seats = map renewed old.guests.seats }
   pub base : new.base ≡ next_base old
   pub given : new.given ≡ min (length old.hall.waiting) (2 ^ 32 - 1)
   pub epoch : new.epoch ≡ next_epoch old

@@ -1,11 +1,13 @@
 //! The next epoch of an object.
 
 ghost use Rattle.std.specs.Prelude.{◌≡◌, ◌+◌, ◌<◌, ◌≤◌, ◌++◌, ◌∷◌, [], true, false, Ok, OnOk, OnErr, IfOk, IfSome, IsTrue};
-ghost use Rattle.std.specs.Prelude.{◌-◌, ◌^◌, codes, length, map, min};
+ghost use Rattle.std.specs.Prelude.{◌-◌, ◌^◌, ℕ, Bool, codes, length, map, min};
+ghost use Rattle.path_tree.specs.Identifier.{IsName};
 ghost use Rattle.decl_core.specs.ObjectMap.{object_of};
 ghost use Rattle.word_core.specs.Words.{bare, line_of};
 ghost use Rattle.word_core.specs.Events.{Called};
 ghost use Rattle.live_core.specs.Text.{carried_words, client_words, kept_words, carried_text, clients_text, kept_text};
+ghost use Rattle.guest_core.specs.Bound.{bounded, bounded_guests, guest_by, stays, IsLeast};
 ghost use Rattle.guest_core.specs.Seats.{renewed};
 ghost use Rattle.live_core.specs.Fronts.{carried_as, carried_from, client_of, kept_as, kept_below, kept_of};
 ghost use Rattle.live_core.specs.Fronts.{TellsCalls, TellsPast, TellsRuns, TellsFront, IsPastOf, AddsFirst, IsNextBehind, IsNextFront};
@@ -25,6 +27,7 @@ use crate::write::{
     push_base, push_carried, push_client, push_kept, push_object, push_past, push_source,
 };
 use decl_core::object::Object;
+use guest_core::bound::kept_from;
 use guest_core::guest::Guest;
 use guest_core::kept::RememberedCall;
 use path_count::finder::short_past;
@@ -102,43 +105,49 @@ fn push_kept_below(
     }
 }
 
-// Adds the lines of the calls that are remembered of a client.
+// The key of the next call of a client, which has a name.
+fn next_of(guest: &Guest) -> u64
+    ensures next { result ≡ guest.now.keys.next }
+    ensures name { IsName guest.now.name }
+    ensures long { IsLong guest.now.keys.next }
+{
+    // Called for its contract alone: it is a name.
+    guest.name().as_bytes();
+    guest.keys().next()
+}
+
+// Adds the lines of the calls of a client with which an epoch begins: its last one, and those before it from this number on.
 fn push_kept_of(
     alloc: Global,
     out: &mut Vec<u8>,
     object: &Object,
     guest: &Guest,
+    least: Option<u64>,
 ) -> Result<(), AllocError>
-    ensures added { OnOk result (out.new.items ≡ out.old.items
-        ++ kept_text (object_of object.now) (kept_of (guest.now ∷ []))) }
-    ensures fits { OnOk result (GuestFits guest.now) }
+    ensures added { OnOk result ((stay : ℕ → Bool) → IsLeast stay least → out.new.items ≡ out.old.items
+        ++ kept_text (object_of object.now) (kept_of (guest_by stay guest.now ∷ []))) }
+    ensures fits { OnOk result ((stay : ℕ → Bool) → IsLeast stay least → GuestFits (guest_by stay guest.now)) }
 {
-    // Called for its contract alone: it is a name.
-    guest.name().as_bytes();
-    let keys = guest.keys();
-    push_kept_below(
-        alloc,
-        out,
-        object,
-        guest.session(),
-        keys.next(),
-        keys.kept(),
-    )?;
+    let next = next_of(guest);
+    let kept = kept_from(guest.keys().kept(), least);
+    push_kept_below(alloc, out, object, guest.session(), next, kept)?;
     Ok(())
 }
 
-// Adds the lines of the calls that are remembered of all clients.
+// Adds the lines of the calls of all clients with which an epoch begins.
 fn push_all_kept(
     alloc: Global,
     out: &mut Vec<u8>,
     object: &Object,
     guests: &[Guest],
+    least: Option<u64>,
 ) -> Result<(), AllocError>
-    ensures added { OnOk result (out.new.items ≡ out.old.items ++ kept_text (object_of object.now) (kept_of guests.now)) }
-    ensures fit { OnOk result (Every GuestFits guests.now) }
+    requires { IsLeast (stays guests.now) least }
+    ensures added { OnOk result (out.new.items ≡ out.old.items ++ kept_text (object_of object.now) (kept_of (bounded guests.now))) }
+    ensures fit { OnOk result (Every GuestFits (bounded guests.now)) }
 {
     for guest in guests {
-        push_kept_of(alloc, out, object, guest)?;
+        push_kept_of(alloc, out, object, guest, least)?;
     }
     Ok(())
 }
@@ -230,15 +239,29 @@ impl Hosted {
         Ok(())
     }
 
+    // The least number from which the calls of clients are kept, beside the last one of each, where an epoch begins.
+    fn least(&self) -> Result<Option<u64>, AllocError>
+        ensures { IfOk result (λ least. IsLeast (stays self.now.guests.guests) least) }
+    {
+        self.guests.least(self.alloc)
+    }
+
     // Adds the lines of a front behind that of the base.
-    fn push_behind_base(&self, out: &mut Vec<u8>) -> Result<(), AllocError>
+    fn push_behind_base(&self, out: &mut Vec<u8>, least: Option<u64>) -> Result<(), AllocError>
         requires few { length self.now.hall.waiting ≤ 65536 }
+        requires least { IsLeast (stays self.now.guests.guests) least }
         ensures tells { OnOk result (TellsCalls self.now out.old.items out.new.items) }
-        ensures fit { OnOk result (Every GuestFits self.now.guests.guests) }
+        ensures fit { OnOk result (Every GuestFits (bounded self.now.guests.guests)) }
     {
         self.push_calls(out, self.live.waiting())?;
         push_clients(out, self.guests.guests())?;
-        push_all_kept(self.alloc, out, self.live.object(), self.guests.guests())?;
+        push_all_kept(
+            self.alloc,
+            out,
+            self.live.object(),
+            self.guests.guests(),
+            least,
+        )?;
         Ok(())
     }
 
@@ -248,13 +271,15 @@ impl Hosted {
         out: &mut Vec<u8>,
         runs: &[PastRun],
         base: u64,
+        least: Option<u64>,
     ) -> Result<(), AllocError>
         requires few { length self.now.hall.waiting ≤ 65536 }
+        requires least { IsLeast (stays self.now.guests.guests) least }
         ensures { OnOk result (TellsPast self.now runs.now base out.old.items out.new.items) }
     {
         push_past(out, self.live.object(), runs)?;
         push_base(out, base)?;
-        self.push_behind_base(out)?;
+        self.push_behind_base(out, least)?;
         Ok(())
     }
 
@@ -265,8 +290,10 @@ impl Hosted {
         epoch: u64,
         runs: &[PastRun],
         base: u64,
+        least: Option<u64>,
     ) -> Result<(), AllocError>
         requires few { length self.now.hall.waiting ≤ 65536 }
+        requires least { IsLeast (stays self.now.guests.guests) least }
         ensures { OnOk result (TellsRuns self.now epoch runs.now base out.old.items out.new.items) }
     {
         let object = self.live.object();
@@ -274,7 +301,7 @@ impl Hosted {
         push_object(out, object, epoch)?;
         push_source(self.alloc, out, self.source())?;
         push_parts(self.alloc, out, &object.parts, self.live.contents())?;
-        self.push_behind_parts(out, runs, base)?;
+        self.push_behind_parts(out, runs, base, least)?;
         Ok(())
     }
 
@@ -307,14 +334,16 @@ impl Hosted {
         epoch: u64,
         past: &[PastEvent],
         base: u64,
+        least: Option<u64>,
     ) -> Result<bool, AllocError>
         requires few { length self.now.hall.waiting ≤ 65536 }
+        requires least { IsLeast (stays self.now.guests.guests) least }
         ensures { IfOk result (λ yes. IsTrue yes → TellsFront self.now epoch past.now base out.old.items out.new.items) }
     {
         let Some(runs) = self.runs_for(past)? else {
             return Ok(false);
         };
-        self.push_runs(out, epoch, &runs, base)?;
+        self.push_runs(out, epoch, &runs, base, least)?;
         Ok(true)
     }
 
@@ -379,7 +408,8 @@ impl Hosted {
         if !self.is_past(&self.past)? || !self.has_numbers(self.past.len()) {
             return Ok(false);
         }
-        if !self.push_front(out, self.epoch, &self.past, self.base)? {
+        let least = self.least()?;
+        if !self.push_front(out, self.epoch, &self.past, self.base, least)? {
             return Ok(false);
         }
         Ok(true)
@@ -398,14 +428,20 @@ impl Hosted {
         if !self.has_numbers(past.len()) {
             return Ok(false);
         }
-        if !self.push_front(front, self.next_epoch(), &past, self.next_base())? {
+        let least = self.least()?;
+        if !self.push_front(front, self.next_epoch(), &past, self.next_base(), least)? {
             return Ok(false);
         }
         Ok(true)
     }
 
     // The past of the front of the next epoch, where this is that front.
-    fn past_of(&self, front: &[u8]) -> Result<Option<Vec<PastEvent>>, AllocError>
+    fn past_of(
+        &self,
+        front: &[u8],
+        least: Option<u64>,
+    ) -> Result<Option<Vec<PastEvent>>, AllocError>
+        requires { IsLeast (stays self.now.guests.guests) least }
         ensures { IfOk result (λ found. IfSome found (λ past. IsNextBehind self.now past.items front.now)) }
     {
         let Some(past) = self.find_past()? else {
@@ -415,7 +451,7 @@ impl Hosted {
             return Ok(None);
         }
         let mut text = Vec::with_capacity(self.alloc, front.len())?;
-        if !self.push_front(&mut text, self.next_epoch(), &past, self.next_base())? {
+        if !self.push_front(&mut text, self.next_epoch(), &past, self.next_base(), least)? {
             return Ok(None);
         }
         if !is_same_text(&text, front) {
@@ -432,14 +468,16 @@ impl Hosted {
         ensures none { result ≡ Ok false → self.new ≡ self.old }
         ensures err { OnErr result (self.new ≡ self.old) }
     {
-        match self.past_of(front)? {
+        let least = self.least()?;
+        match self.past_of(front, least)? {
             None => Ok(false),
-            Some(past) => self.begin_behind(past),
+            Some(past) => self.begin_behind(past, least),
         }
     }
 
     // Begins the next epoch behind this past, where it leaves what the paths have counted.
-    fn begin_behind(&mut self, past: Vec<PastEvent>) -> Result<bool, AllocError>
+    fn begin_behind(&mut self, past: Vec<PastEvent>, least: Option<u64>) -> Result<bool, AllocError>
+        requires { IsLeast (stays self.old.guests.guests) least }
         ensures begun { result ≡ Ok true → IsFollowed self.old past.items self.new × (self.new.past ≡ past.items) }
         ensures none { result ≡ Ok false → self.new ≡ self.old }
         ensures err { OnErr result (self.new ≡ self.old) }
@@ -450,14 +488,22 @@ impl Hosted {
         if !self.live.epoch(&past)? {
             return Ok(false);
         }
-        self.begun(past, long, carried, base);
+        self.begun(past, long, carried, base, least);
         Ok(true)
     }
 
     // The next epoch has begun, behind this past, of which the long one has the same events.
-    fn begun(&mut self, past: Vec<PastEvent>, long: Vec<PastEvent>, carried: Vec<u64>, base: u64)
+    fn begun(
+        &mut self,
+        past: Vec<PastEvent>,
+        long: Vec<PastEvent>,
+        carried: Vec<u64>,
+        base: u64,
+        least: Option<u64>,
+    )
+        requires { IsLeast (stays self.old.guests.guests) least }
         ensures { self.new ≡ record self.old {
-          guests = record self.old.guests { seats = map renewed self.old.guests.seats };
+          guests = record (bounded_guests self.old.guests) { seats = map renewed self.old.guests.seats };
           past = past.items;
           carried = carried.items;
           base = base;
@@ -475,6 +521,6 @@ impl Hosted {
         self.behind = 0;
         self.tried = 0;
         self.again = false;
-        self.guests.renew();
+        self.guests.begin(least);
     }
 }

@@ -37,8 +37,8 @@ pub struct EndedEpoch {
     pub guests: Guests,
 }
 
-/// Begins the next epoch of an object that was served before: nothing waits, and the first number that is told is
-/// greater than each that was. `source` is what the declaration of the object gives.
+/// Begins the next epoch of an object that was served before: nothing waits, the calls of names are known with which an
+/// epoch begins, and the first number that is told is greater than each that was. `source` is what the declaration of the object gives.
 ///
 /// `None`: no short past was found that leaves what the paths have counted, or a value is not of its part's kind. The
 /// error is that memory was refused.
@@ -68,7 +68,8 @@ pub fn begin_again(
     let Some(live) = found else {
         return Ok(None);
     };
-    guests.renew();
+    let least = guests.least(alloc)?;
+    guests.begin(least);
     let begun = HostedStart {
         live,
         guests,

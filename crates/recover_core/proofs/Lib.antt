@@ -1,3 +1,4 @@
+pub mod Chaining
 pub mod Coming
 pub mod Cutting
 pub mod Hearing

@@ -1,11 +1,12 @@
 -- When an epoch may follow another one.
-use Rattle.std.specs.Prelude.{◌≡◌, ◌≢◌, ℕ, ◌+◌, ◌≤◌, List, [], ◌∷◌, ◌++◌, length}
+use Rattle.std.specs.Prelude.{◌≡◌, ◌≢◌, ℕ, ◌+◌, ◌≤◌, List, [], ◌∷◌, ◌++◌, length, take, true}
 use Rattle.decl_core.specs.ObjectForm.{ObjectForm}
 use Rattle.path_count.specs.Found.{LeavesSame}
 use Rattle.live_core.specs.declared.front.NamedClient.{NamedClient}
 use Rattle.live_core.specs.declared.front.KeptCall.{KeptCall}
 use Rattle.live_core.specs.Front.{Opening}
 use Rattle.live_core.specs.Past.{events_in}
+use Rattle.guest_core.specs.Bound.{stays}
 use Rattle.guest_core.specs.declared.guest.Guest.{Guest}
 use Rattle.guest_core.specs.declared.kept.RememberedCall.{RememberedCall}
 use Rattle.guest_core.specs.Guests.{Guests, IsNamed}
@@ -41,7 +42,7 @@ AreLinesFor client (k ∷ calls) kept =
     (others : List RememberedCall) × (last : RememberedCall) × (kept ≡ others ++ last ∷ []) × IsLineFor client (length others) k last
     × AreLinesFor client calls others
 
--- the client of this line was known, with this session and this next key; these of its calls are kept
+-- the client of this line was known, with this session and this next key; these of its calls were kept
 pub record IsKnown (v : Guests) (c : NamedClient) (kept : List RememberedCall) : Type 0 where
   pub place : ℕ
   pub guest : Guest
@@ -50,12 +51,19 @@ pub record IsKnown (v : Guests) (c : NamedClient) (kept : List RememberedCall) :
   pub next : guest.keys.next ≡ c.keys + 1
   pub kept_is : guest.keys.kept ≡ kept
 
+-- Of these calls of a client some are kept: the newest, and the last one among them; and all of them where those of all clients
+-- that were known have room.
+pub record AreNewest (v : Guests) (kept few : List RememberedCall) : Type 0 where
+  pub newest : take (length few) kept ≡ few
+  pub last : few ≡ [] → kept ≡ []
+  pub all : stays v.guests 0 ≡ true → kept ≡ few
+
 -- so were all clients, each with its kept lines, which stand in the order of the clients
 abbrev pub AreKnown : Guests → List NamedClient → List KeptCall → Type 0
 AreKnown v [] kept = kept ≡ []
 AreKnown v (c ∷ clients) kept =
-    (mine : List KeptCall) × (more : List KeptCall) × (calls : List RememberedCall) × (kept ≡ mine ++ more)
-    × IsKnown v c calls × AreLinesFor c mine calls × AreKnown v clients more
+    (mine : List KeptCall) × (more : List KeptCall) × (calls : List RememberedCall) × (few : List RememberedCall) × (kept ≡ mine ++ more)
+    × IsKnown v c calls × AreNewest v calls few × AreLinesFor c mine few × AreKnown v clients more
 
 -- An epoch that begins so may follow one that came to this.
 pub record Follows (o : ObjectForm) (r : Recovered) (f : Opening) : Type 0 where

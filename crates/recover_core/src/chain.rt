@@ -1,15 +1,18 @@
 //! Whether an epoch may follow another one.
 
 ghost use Rattle.std.specs.Prelude.{◌≡◌, [], ◌+◌, ◌≤◌, ◌∷◌, ◌↔◌, length, IsTrue, IfOk, IfSome, MatchOption};
+ghost use Rattle.guest_core.specs.Bound.{stays};
 ghost use Rattle.decl_core.specs.ObjectMap.{object_of};
 ghost use Rattle.live_core.specs.Front.{opening_of};
 ghost use Rattle.live_core.specs.Past.{events_in};
 ghost use Rattle.path_count.specs.Found.{LeavesSame};
 ghost use Rattle.recover_core.specs.Clients.{reply_in};
-ghost use Rattle.recover_core.specs.Chain.{IsSameCall, IsLineFor, AreLinesFor, IsKnown, AreKnown, AreNumbered, Follows, Differs};
+ghost use Rattle.recover_core.specs.Chain.{IsSameCall, IsLineFor, AreLinesFor, IsKnown, AreNewest, AreKnown, AreNumbered, Follows, Differs};
 
+use crate::clients::run_of;
 use crate::recover::Recovered;
 use decl_core::object::Object;
+use guest_core::bound::have_room;
 use guest_core::guests::Guests;
 use guest_core::kept::RememberedCall;
 use live_core::front::{Answer, Front, KeptCall, NamedClient};
@@ -33,7 +36,7 @@ pub enum ChainFault {
     /// A number may be told again, or numbers are left out that no call can have had.
     Numbers,
     /// A client was not known, has another session or another next key, or its kept calls are others or have another
-    /// session or key.
+    /// session or key; or one is gone that has to be kept.
     Clients,
 }
 
@@ -169,7 +172,32 @@ fn is_none(kept: &[RememberedCall]) -> bool
     kept.is_empty()
 }
 
-// Whether a client was known before, with its session and key; then so many of its calls are kept.
+// The newest of these calls, of which a front has so many. `None`: it lacks the last one, or has more; or it has not all,
+// where it has to.
+#[tactic(auto, using(crate::proofs::Chaining::all_are_newest, crate::proofs::Chaining::some_are_newest))]
+fn newest<'a>(
+    guests: &Guests,
+    kept: &'a [RememberedCall],
+    count: usize,
+    has_all: bool,
+) -> Option<&'a [RememberedCall]>
+    requires { has_all ≡ stays guests.now.guests 0 }
+    ensures { IfSome result (λ few. AreNewest guests.now kept.now few.now) }
+{
+    if count == kept.len() {
+        return Some(kept);
+    }
+    if has_all {
+        return None;
+    }
+    if count == 0 || count > kept.len() {
+        return None;
+    }
+    let (few, _) = kept.split_at(count);
+    Some(few)
+}
+
+// Whether a client was known before, with its session and key; then these of its calls were kept.
 fn known_calls<'a>(guests: &'a Guests, client: &NamedClient) -> Option<&'a [RememberedCall]>
     ensures { IfSome result (λ kept. IsKnown guests.now client.now kept.now) }
 {
@@ -186,21 +214,24 @@ fn known_calls<'a>(guests: &'a Guests, client: &NamedClient) -> Option<&'a [Reme
     Some(guest.keys().kept())
 }
 
-// Whether clients were known before, with their sessions, keys and kept calls, these in the order of the clients.
-fn are_known(guests: &Guests, clients: &[NamedClient], kept: &[KeptCall]) -> bool
+// Whether clients were known before, with their sessions, keys and kept calls, these in the order of the clients: of each the
+// last one and some before it, or all.
+#[tactic(auto, using(crate::proofs::Chaining::known_step))]
+fn are_known(guests: &Guests, clients: &[NamedClient], kept: &[KeptCall], has_all: bool) -> bool
+    requires { has_all ≡ stays guests.now.guests 0 }
     ensures { IsTrue result → AreKnown guests.now clients.now kept.now }
 {
     let mut clients_left = clients;
     let mut kept_left = kept;
     'clients: while let Some((client, more)) = clients_left.split_first() {
+        let (mine, others) = kept_left.split_at(run_of(kept_left, client.session));
         let Some(known) = known_calls(guests, client) else {
             return false;
         };
-        if known.len() > kept_left.len() {
+        let Some(few) = newest(guests, known, mine.len(), has_all) else {
             return false;
-        }
-        let (mine, others) = kept_left.split_at(known.len());
-        if !are_lines_for(client, mine, known) {
+        };
+        if !are_lines_for(client, mine, few) {
             return false;
         }
         clients_left = more;
@@ -211,9 +242,12 @@ fn are_known(guests: &Guests, clients: &[NamedClient], kept: &[KeptCall]) -> boo
 
 /// Whether an epoch that begins with this front may follow one that came to this: it is the next one; its values are
 /// those; its past leaves what the paths have counted; no number that was told is told again, and none is left out but
-/// such as calls can have had of which no line tells; and its clients were known, with the same sessions, keys and kept
-/// calls, each of these with the session of its client and with its own key. A client may have been forgotten, and a
-/// waiting call may be gone.
+/// such as calls can have had of which no line tells; and its clients were known, with the same sessions and keys. Of the
+/// kept calls of each its last one is kept, and some before it or none: all of them where those of all clients have room
+/// ([`have_room`]); each has the session of its client and its own key. A client may have been forgotten, and a waiting
+/// call may be gone.
+///
+/// [`have_room`]: guest_core::bound::have_room
 ///
 /// `None`: it may. The error is that memory was refused.
 pub fn follows(
@@ -243,7 +277,8 @@ pub fn follows(
     ) {
         return Ok(Some(ChainFault::Numbers));
     }
-    if !are_known(&before.guests, &front.clients, &front.kept) {
+    let has_all = have_room(alloc, before.guests.guests())?;
+    if !are_known(&before.guests, &front.clients, &front.kept, has_all) {
         return Ok(Some(ChainFault::Clients));
     }
     Ok(None)

@@ -215,7 +215,7 @@ fn open_one(
 }
 
 // How many of these calls, from the first on, are of a session.
-fn run_of(kept: &[KeptCall], session: u32) -> usize
+pub(crate) fn run_of(kept: &[KeptCall], session: u32) -> usize
     ensures { result ≤ length kept.now }
 {
     let mut count = 0;
