@@ -10,7 +10,8 @@ another order, and bytes stand behind its first 0; each file is removed, emptied
 replaced by one of an epoch before, or a link to nothing.
 Behind each a start
 
-- is refused: with status 1, a line that names the object or a file of it, and no byte of the folder is changed; or
+- is refused: with status 1, a line that names the object or a file of it, and no byte of the folder is changed; where that
+  line tells of the journal, an audit does not call the object whole; or
 - serves, and all that was answered is there: values, what the paths count, the next key of each client, the replies that
   it may ask for again, what is held, no number is told twice, and an audit counts each call. Of the lines of the last
   round, which a crash may cut, a front may be there. No file of an epoch that has ended was written over.
@@ -71,6 +72,7 @@ WORDS = ("--away", "86400", "--no-explain")
 # A line that says why an object is not kept.
 REFUSAL = re.compile(r"(?:object (?:slots|cell) |(?:slots|cell)\.)\S.*")
 BEHIND = re.compile(r"(slots|cell)\.journal line ([0-9]+): [0-9]+ bytes behind it are not 0")
+JOURNAL = re.compile(r"(slots|cell)\.journal ")
 # So many bytes a file has more that stands ready for a journal.
 SPARE = 1_048_576
 # When each file of a folder was changed last, in nanoseconds: long before any trial.
@@ -490,11 +492,18 @@ class Trial:
         now = seen(self.server.folder)
         changed = sorted(key for key in {*now, *self.before} if now.get(key) != self.before.get(key))
         check(changed, [], f"what was changed, behind {said!r},")
+        self.is_told({found[1] for line in lines if (found := JOURNAL.match(line))})
         for line in lines:
             if found := BEHIND.fullmatch(line):
                 self.accepts(found[1], int(found[2]))
                 return "refused, then accepted"
         return "refused"
+
+    def is_told(self, names: set[str]) -> None:
+        """An audit calls none of these objects whole, as a start refuses their journals."""
+        said, _ = self.server.audit()
+        believed = [line for line in said.splitlines() if line.endswith(" whole") and line.partition(" ")[0] in names]
+        check(believed, [], "what an audit calls whole")
 
     def accepts(self, name: str, line: int) -> None:
         """With `--accept-cut` it goes on with the lines up to this one, and keeps the others."""

@@ -2,11 +2,13 @@
 
 usage: gate/try_epochs [--program FILE]
 
-A row says which files lie in the folder, and what standard output and standard error get. What is expected comes from docs/FORMATS.md and
+A row says which files lie in the folder, and what standard output and standard error get. A journal with a format has the room behind
+its front that each has, but for those that are cut off. What is expected comes from docs/FORMATS.md and
 docs/AUDIT.md. The numbers of the declarations, which the line `source` of a front has, are those of examples/objects/cell.pp and of SLOT;
 the rows on a changed declaration show that they are those. Each row is tried as it stands, as programs before wrote it, and with a format and
 check lines (gate/sums.py); then further ones spoil these.
 """
+import concurrent.futures
 import pathlib
 import re
 import tempfile
@@ -33,6 +35,10 @@ BOTH = "client s1 ann 1\nclient s2 bob 1\n"
 KEPT_TWO = KEPT + "kept s1 2 3 done 12 get\n"
 THREE = front(3, 12, 3, "client s1 ann 2\n" + KEPT_TWO)
 ZEROS = "\0" * 40
+# Behind its front each journal with a format has so many bytes: for lines, and for those that check them.
+ROOM = 8_388_608 + 65_536 * 36
+# So many audits run at a time.
+AT_ONCE = 3
 
 # A title, the files, standard output, standard error.
 Row = tuple[str, dict[str, str], str, str]
@@ -286,15 +292,54 @@ def spoilt() -> Iterator[Row]:
 HEAD = front(1, 0, 0).replace(" epoch", " format 2 epoch")
 
 
+class Cut(str):
+    """The text of a file that was cut off: it lies there as it is."""
+
+
+def cut_off() -> Iterator[Row]:
+    """Files with a format that end too early: it is told up to which line they are there, or what does not follow."""
+    ended, lines = (it.splitlines(keepends=True) for it in (FIRST, SECOND))
+    ends = "cell {} line {}: the file ends behind it"
+
+    def row(title: str, trace: str, journal: str, said: str) -> Row:
+        return f"{title}, cut off", {"cell.000001.trace": trace, "cell.journal": journal}, said, ""
+
+    front = next(number for number, it in enumerate(ended, 1) if it.startswith("front "))
+    for count in range(front, len(ended)):
+        cut = Cut("".join(ended[:count]) + ended[count][:5])
+        yield row(f"an ended epoch within line {count + 1}", cut, SECOND, ends.format("cell.000001.trace", count))
+    yield row("an ended epoch with some bytes 0", Cut(FIRST + ZEROS), SECOND, ends.format("cell.000001.trace", len(ended)))
+    for text in ("", "\0", "\0" * 4_096):
+        for count in range(len(lines) - 3, len(lines) + 1):
+            yield row(f"a journal of {count} lines and {len(text)} bytes 0", FIRST, Cut("".join(lines[:count]) + text), ends.format("cell.journal", count))
+    # What is gone shows in the next front, but for the check line of a round, and for calls that change nothing, of clients without a name.
+    for count in range(front, len(ended) - 2):
+        yield row(f"{count} lines of an ended epoch", Cut("".join(ended[:count])), SECOND, "cell epoch 2 does not follow: values")
+    yield row("an ended epoch without its last line", Cut("".join(ended[:-1])), SECOND, "cell epochs 2 entries 3 whole")
+    more = checked(TWO.replace("base 2", "base 3"))[0]
+    for text, count in ((ONE + "start 3 s2 get\nend 3 done 12\n", 4), (ONE, 3)):
+        yield row(f"a read more or less, of {count} calls", checked(text)[0], more, f"cell epochs 2 entries {count} whole")
+
+
 def plain(lines: list[str]) -> list[str]:
     return [it for it in lines if not traced.is_check(it.encode())]
+
+
+def lay(path: pathlib.Path, text: str) -> None:
+    """Makes a file of this text, which has all its room where it needs some."""
+    path.write_bytes(text.encode())
+    if " format 2 " in text.partition("\n")[0] and not isinstance(text, Cut) and (path.suffix == ".journal" or text.endswith("\0")):
+        lines = text.partition("\0")[0].splitlines(keepends=True)
+        fronts = [at for at, it in enumerate(lines, 1) if it.startswith("front ")]
+        with path.open("r+b") as file:
+            file.truncate(sum(map(len, lines[: fronts[0]] if fronts else lines)) + ROOM)
 
 
 def audited(source: pathlib.Path, files: Mapping[str, str]) -> tuple[int, str, str]:
     """The status of an audit of these files, and what standard output and standard error got."""
     with tempfile.TemporaryDirectory(prefix="epochs-") as folder:
         for name, text in files.items():
-            (pathlib.Path(folder) / name).write_bytes(text.encode())
+            lay(pathlib.Path(folder) / name, text)
         said, status, error = served.run("audit", "--no-explain", source, folder)
         return status, said, error.replace(folder + "/", "")
 
@@ -332,8 +377,9 @@ def main() -> int:
         source = pathlib.Path(folder) / "slot.pp"
         source.write_text(SLOT)
         rows = [(at, row) for at, found in ((CELL, ROWS), (source, slots())) for row in found]
-        rows += [*((at, checked_row(row)) for at, row in rows), *((CELL, row) for row in spoilt())]
-        said = [(row, audited(at, row[1])) for at, row in rows]
+        rows += [*((at, checked_row(row)) for at, row in rows), *((CELL, row) for row in (*spoilt(), *cut_off()))]
+        with concurrent.futures.ThreadPoolExecutor(AT_ONCE) as pool:
+            said = list(pool.map(lambda it: (it[1], audited(it[0], it[1][1])), rows))
     for (title, _, output, error), found in said:
         wanted = (0 if output.endswith(" whole") else 1, output + "\n", error + "\n" if error else "")
         if found == wanted:

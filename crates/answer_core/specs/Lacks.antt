@@ -41,6 +41,11 @@ abbrev pub TellsLack : Option Unmet → List ℕ → Option (List ℕ) → Optio
 TellsLack None name old new = Keeps old new
 TellsLack (Some unmet) name old new = AppendsFront old new (lack_text unmet name)
 
+-- standard output, where that failed for a cause
+abbrev pub unwritten : Option Cause → Option Unmet
+unwritten None = None
+unwritten (Some cause) = Some (record { need = needs.Output; cause = cause })
+
 -- this is lacking, for this cause
 abbrev pub LacksBy : Wanted → Cause → Lacking → Type 0
 LacksBy need cause lacking =

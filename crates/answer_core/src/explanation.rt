@@ -1,12 +1,14 @@
 //! What standard error gets of why something is refused, apart from what a command answers.
 
-ghost use Rattle.std.specs.Prelude.{◌≡◌, ℕ, codes, take};
+ghost use Rattle.std.specs.Prelude.{◌≡◌, ℕ, MatchResult, codes, take};
 ghost use Rattle.std.specs.Io.KnownBytes.{Appends, Keeps};
+ghost use Rattle.answer_core.specs.Lacks.{AppendsFront};
 ghost use Rattle.answer_core.specs.Telling.{IsHinted};
 ghost use Rattle.answer_core.specs.declared.explanation.Telling.TheVariants.{Nothing, Hint};
 
 use crate::answer::REFUSED;
 use crate::failure::ToolFailure;
+use crate::lack::write_line;
 use note_core::explain::explain;
 use note_core::stuck_explain::explain_stuck;
 use std::alloc::{AllocError, Global};
@@ -24,10 +26,14 @@ pub enum Telling {
     Nothing,
 }
 
-/// Writes a text, or nothing where memory for it was refused.
-pub fn push_text<E: Write>(text: Result<Vec<u8>, AllocError>, error: &mut E) {
-    if let Ok(text) = text {
-        let _ = write_whole(error, &text);
+/// Writes a text, or nothing where memory for it was refused; where a write fails a front of it.
+pub fn push_text<E: Write>(text: Result<Vec<u8>, AllocError>, error: &mut E)
+    ensures { MatchResult text (λ told. AppendsFront (E.contents error.old) (E.contents error.new) told.items)
+        (λ _. Keeps (E.contents error.old) (E.contents error.new)) }
+{
+    match text {
+        Ok(text) => write_line(&text, error),
+        Err(_) => {}
     }
 }
 

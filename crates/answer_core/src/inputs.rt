@@ -33,11 +33,6 @@ pub fn open_folder(rt: &HostRuntime, folder: &str) -> Result<File, Lacking>
     }
 }
 
-/// Whether there is a folder at a path.
-pub fn is_folder(rt: &HostRuntime, path: &str) -> bool {
-    open_folder(rt, path).is_ok()
-}
-
 /// Takes the folder for this program alone, as long as what is given stays open. It lacks the folder, as `open_folder` does,
 /// or the lock, which another program has.
 pub fn lock_folder(rt: &HostRuntime, folder: &str) -> Result<File, Lacking>

@@ -147,9 +147,9 @@ fn lack_line(alloc: Global, lack: Unmet, name: &str) -> Result<Vec<u8>, AllocErr
     Ok(out)
 }
 
-// Writes a line; where the writer fails, a front of it.
+/// Writes a line, or a text; where the writer fails, a front of it.
 #[tactic(auto, using(crate::proofs::Hints::whole_line))]
-fn write_line<E: Write>(line: &[u8], error: &mut E)
+pub(crate) fn write_line<E: Write>(line: &[u8], error: &mut E)
     ensures { AppendsFront (E.contents error.old) (E.contents error.new) line.now }
 {
     match write_whole(error, line) {

@@ -22,7 +22,9 @@ impl<W: Write + Drop> NotingWriter<W> {
     }
 
     /// Why a write failed last, where one did.
-    pub fn fault(&self) -> Option<Cause> {
+    pub fn fault(&self) -> Option<Cause>
+        ensures { result ≡ self.now.fault }
+    {
         self.fault
     }
 }

@@ -1,7 +1,8 @@
 //! What a command tells: its lines, and what it lacks.
 
-ghost use Rattle.std.specs.Prelude.{◌≡◌, ℕ, IfErr, IfOk, OnErr, OnOk, take};
+ghost use Rattle.std.specs.Prelude.{◌≡◌, [], ℕ, IfErr, IfOk, OnErr, OnOk, take};
 ghost use Rattle.std.specs.Io.KnownBytes.{Appends};
+ghost use Rattle.answer_core.specs.Lacks.{TellsLack, unwritten};
 ghost use Rattle.answer_core.specs.declared.explanation.Telling.TheVariants.{Nothing, Whole};
 ghost use Rattle.command_line.specs.declared.request.Explain.TheVariants.{Always, Never};
 ghost use Rattle.answer_core.specs.declared.failure.ToolFailure.TheVariants.{WriteFault};
@@ -12,6 +13,7 @@ use crate::lack::{Lacking, Unmet, Wanted, tell_lack};
 use cause_core::cause::Cause;
 use command_line::request::Explain;
 use note_core::kept::CopyingReader;
+use std::alloc::Global;
 use std::io::{IsTerminal, Read, Write};
 use value_core::write_whole;
 
@@ -42,14 +44,20 @@ pub fn told(rt: &HostRuntime, lacking: Lacking, name: &str) -> ToolFailure
     failure
 }
 
-/// Tells that standard output cannot be written, where it failed for such a cause.
-pub fn tell_unwritten(rt: &HostRuntime, fault: Option<Cause>) {
-    if let Some(cause) = fault {
-        let lack = Unmet {
-            need: Wanted::Output,
-            cause,
-        };
-        tell_lack(rt.alloc(), Some(lack), "", &mut rt.stderr());
+/// Tells `error` that standard output cannot be written, where that failed for such a cause. Where memory for the line is
+/// refused nothing is told, and where a write fails a front of it.
+pub fn tell_unwritten<E: Write>(alloc: Global, fault: Option<Cause>, error: &mut E)
+    ensures { TellsLack (unwritten fault) [] (E.contents error.old) (E.contents error.new) }
+{
+    match fault {
+        Some(cause) => {
+            let lack = Unmet {
+                need: Wanted::Output,
+                cause,
+            };
+            tell_lack(alloc, Some(lack), "", error);
+        }
+        None => {}
     }
 }
 

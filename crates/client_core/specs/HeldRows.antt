@@ -3,10 +3,8 @@ use Rattle.std.specs.Prelude.{◌≡◌, ◌≢◌, ℕ, suc, ◌-◌, Bool, tru
 use Rattle.decl_core.specs.ObjectForm.{ObjectForm}
 use Rattle.decl_core.specs.HoldForm.{HoldForm}
 use Rattle.word_core.specs.Words.{Word, bare, line_of}
-use Rattle.word_core.specs.Data.{session_word}
-use Rattle.stuck_core.specs.Why.{name_word}
 use Rattle.stuck_core.specs.Who.{client_words, time_words}
-use Rattle.check_core.specs.HeldTold.{op_of}
+use Rattle.check_core.specs.HeldTold.{holds_words}
 use Rattle.guest_core.specs.declared.guest.Guest.{Guest}
 use Rattle.guest_core.specs.Guests.{Guests, HasNoName, IsNamed}
 use Rattle.guest_core.specs.Held.{HeldCall}
@@ -35,15 +33,10 @@ abbrev pub away_words : Option (ℕ × ℕ) → List Word
 away_words None = []
 away_words (Some times) = bare (codes "away") ∷ bare (decimal times.0) ∷ bare (codes "of") ∷ bare (decimal times.1) ∷ []
 
--- `holds N sS OP`, its session and its operation
-abbrev pub held_words : ObjectForm → List HoldForm → HeldCall → List Word
-held_words o holds h =
-    bare (codes "holds") ∷ bare (decimal h.number) ∷ session_word h.session ∷ name_word o (op_of holds h.rule) ∷ []
-
 -- `holds N sS OP for T at least name CLIENT away A of B`
 abbrev pub held_line : ObjectForm → List HoldForm → HeldRow → List ℕ
 held_line o holds row =
-    line_of (held_words o holds row.call ++ (time_words row.seconds ++ (least_words row.is_least ++ (client_words row.name
+    line_of (holds_words o holds row.call ++ (time_words row.seconds ++ (least_words row.is_least ++ (client_words row.name
     ++ away_words row.away))))
 
 -- so long it is held, where it is known since when

@@ -23,11 +23,17 @@ why_words (Behind line count) =
 abbrev pub untaken_words : List ℕ → TakeFault → List ℕ
 untaken_words file fault = codes " " ++ (file ++ why_words fault)
 
--- behind that of another one: it has no journal, or why a file of it is not taken, or one of its epochs is refused
+-- a file was cut off behind this line
+abbrev pub cut_words : List ℕ → ℕ → List ℕ
+cut_words file line = codes " " ++ (file ++ (codes " line " ++ (decimal line ++ codes ": the file ends behind it\n")))
+
+-- behind that of another one: it has no journal, or why a file of it is not taken, or that it was cut off, or one of its
+-- epochs is refused
 abbrev pub TellsFault : List ℕ → Type 0
 TellsFault words =
     (words ≡ codes " no journal\n") ⊎ (((file : List ℕ) × (fault : EpochFault) × (words ≡ epoch_words file fault))
-    ⊎ ((file : List ℕ) × (fault : TakeFault) × (words ≡ untaken_words file fault)))
+    ⊎ (((file : List ℕ) × (fault : TakeFault) × (words ≡ untaken_words file fault))
+    ⊎ ((file : List ℕ) × (line : ℕ) × (words ≡ cut_words file line))))
 
 -- behind the name of an object, and whether its epochs are whole
 abbrev pub Tells : ObjectForm → Bool → List ℕ → Type 0

@@ -10,7 +10,7 @@ use crate::run_explanation::explained_audit;
 use answer_core::answer::{ACCEPTED, REFUSED};
 use answer_core::explanation::explained;
 use answer_core::failure::ToolFailure;
-use answer_core::inputs::{Inputs, inputs_of, is_folder, source_at};
+use answer_core::inputs::{Inputs, inputs_of, open_folder, source_at};
 use answer_core::lack::{Lacking, Wanted};
 use answer_core::said::{telling_of, told, told_unread, written};
 use answer_core::sources::{Ruled, WithoutHolds, ruled_source, without_holds};
@@ -87,7 +87,7 @@ pub fn run_audit(rt: &HostRuntime, files: Files<'_>, when: Explain) -> Result<u8
     ensures status { IfOk result (λ status. status ≤ 1) }
     ensures fault { IfErr result IsFault }
 {
-    if is_folder(rt, files.text) {
+    if open_folder(rt, files.text).is_ok() {
         return run_folder(rt, files, when);
     }
     let telling = telling_of(rt, when);

@@ -1,14 +1,16 @@
 //! The epochs of objects, from the files of a folder.
 
-ghost use Rattle.std.specs.Prelude.{◌≡◌, ◌++◌, List, ℕ, IfOk, MatchOption};
+ghost use Rattle.std.specs.Prelude.{◌≡◌, ◌++◌, List, ℕ, IfOk, IfSome, MatchOption};
 ghost use Rattle.decl_core.specs.ObjectMap.{object_of, objects_of};
+ghost use Rattle.taken_core.specs.Room.{IsCutOff};
 ghost use Rattle.command_tool.specs.Said.{Adds, AddsAll, GoesOn, Hears, AreTold, TellsFault};
 
 use crate::files::{FolderFault, bytes_of, first_of, journal_of, trace_of};
-use crate::untaken::push_untaken;
+use crate::untaken::{push_cut, push_untaken};
 use decl_core::analyse::Accepted;
 use decl_core::hold::{Hold, Rules};
 use decl_core::object::Object;
+use live_core::hosted::MOST_LINES;
 use recover_core::epochs::{EpochFault, Epochs, epoch_of};
 use recover_core::lines::line_ends;
 use recover_core::recover::RecoverFault;
@@ -17,6 +19,7 @@ use recover_core::text::{HeldFront, cut_held, read_held};
 use std::alloc::{AllocError, Global};
 use std::rt::Files;
 use std::str;
+use taken_core::room::is_cut_off;
 use taken_core::taken::{TakenFile, line_in_file, take_file};
 use value_core::reply::push_number;
 
@@ -172,18 +175,50 @@ fn hear_text(
     }
 }
 
-// The file of an epoch, taken. `None`: it is not taken, and that is said.
+// Behind which line the file of an epoch was cut off, which tells this; where it was not, none.
+fn cut_line(file: &[u8], found: &TakenFile, has_ended: bool) -> Option<u64>
+    ensures { IfSome result (λ _. IsCutOff file.now found.now has_ended 8388608) }
+{
+    if is_cut_off(file, found, has_ended, MOST_LINES) {
+        let (lines, _) = parts_at(file, found.size);
+        return Some(line_ends(lines));
+    }
+    None
+}
+
+// The file of an epoch, which tells this. `None`: it was cut off, and that is said.
+fn unless_cut(
+    name: &str,
+    file: &[u8],
+    found: TakenFile,
+    has_ended: bool,
+    said: &mut FolderReport,
+) -> Result<Option<TakenFile>, AllocError>
+    ensures { IfOk result (λ found. MatchOption found ((words : List ℕ) × TellsFault words
+        × (said.new.lines.items ≡ said.old.lines.items ++ words)) (λ _. said.new.lines.items ≡ said.old.lines.items)) }
+{
+    match cut_line(file, &found, has_ended) {
+        Some(line) => {
+            push_cut(&mut said.lines, name.as_bytes(), line)?;
+            Ok(None)
+        }
+        None => Ok(Some(found)),
+    }
+}
+
+// The file of an epoch, taken. `None`: it is not taken, or was cut off, and that is said.
 fn taken(
     alloc: Global,
     name: &str,
     file: &[u8],
+    has_ended: bool,
     said: &mut FolderReport,
 ) -> Result<Option<TakenFile>, AllocError>
     ensures { IfOk result (λ found. MatchOption found ((words : List ℕ) × TellsFault words
         × (said.new.lines.items ≡ said.old.lines.items ++ words)) (λ _. said.new.lines.items ≡ said.old.lines.items)) }
 {
     match take_file(alloc, file, false)? {
-        Ok(found) => Ok(Some(found)),
+        Ok(found) => unless_cut(name, file, found, has_ended, said),
         Err(fault) => {
             push_untaken(&mut said.lines, name.as_bytes(), fault)?;
             Ok(None)
@@ -218,13 +253,14 @@ fn hear(
     epochs: &mut Epochs,
     name: &str,
     file: &[u8],
+    has_ended: bool,
     said: &mut FolderReport,
 ) -> Result<bool, AllocError>
     ensures { IfOk result (λ went. Hears (object_of object.now) epochs.old said.old.lines.items went epochs.new
         said.new.lines.items) }
 {
     push_note(&mut said.notes, name, file)?;
-    let Some(text) = taken(alloc, name, file, said)? else {
+    let Some(text) = taken(alloc, name, file, has_ended, said)? else {
         return Ok(false);
     };
     match hear_text(alloc, object, holds, epochs, &text.lines)? {
@@ -263,6 +299,7 @@ fn hear_ended<R: Files + AllocGlobal>(
             epochs,
             file.as_str(),
             &text,
+            true,
             said,
         )? {
             return Ok(false);
@@ -284,7 +321,7 @@ fn audit_journal<R: Files + AllocGlobal>(
     ensures { IfOk result (λ whole. Adds (object_of object.now) whole said.old.lines.items said.new.lines.items) }
 {
     let file = journal_of(rt.alloc(), name)?;
-    let Some(text) = taken(rt.alloc(), file.as_str(), journal, said)? else {
+    let Some(text) = taken(rt.alloc(), file.as_str(), journal, false, said)? else {
         return Ok(false);
     };
     let epoch = match epoch_of(rt.alloc(), object, &text.lines)? {
@@ -306,6 +343,7 @@ fn audit_journal<R: Files + AllocGlobal>(
         &mut epochs,
         file.as_str(),
         journal,
+        false,
         said,
     )? {
         return Ok(false);
@@ -382,9 +420,10 @@ fn audit_objects<R: Files + AllocGlobal>(
 /// Says what objects are in a folder, in order: `NAME epochs E entries K whole` where its epochs, the oldest of which there
 /// is a file first, can have happened one after another; `NAME no journal`; `NAME FILE line N bad` of the first file whose
 /// front is not read, or a line of which is not as it was written; `NAME FILE has format F`, and `NAME FILE line N: K bytes
-/// behind it are not 0` of a file that lacks lines which were stored; or `NAME epoch E ` and why that one is refused. `rules` are those of the objects, in order, or none
-/// where no object has any: where one has holds, the lines of a front that tell what was held are read as well. Of an object
-/// that does not hold so what a front tells, the epoch `was changed`.
+/// behind it are not 0` of a file that lacks lines which were stored; `NAME FILE line N: the file ends behind it` of one that
+/// was cut off; or `NAME epoch E ` and why that one is refused. `rules` are those of the objects, in order, or none where no
+/// object has any: where one has holds, the lines of a front that tell what was held are read as well. Of an object that does
+/// not hold so what a front tells, the epoch `was changed`.
 ///
 /// A failure is `Unread` of a file that is there and cannot be read, or `Memory`.
 pub fn audit_folder<R: Files + AllocGlobal>(

@@ -88,14 +88,6 @@ fn take_needs(rt: &HostRuntime, asked: Serving<'_>, text: Vec<u8>) -> Result<Ser
     })
 }
 
-// Whether an error of a folder is one that opening it has too.
-fn is_told_later(error: &io::Error) -> bool {
-    matches!(
-        error.kind(),
-        ErrorKind::NotFound | ErrorKind::NotADirectory | ErrorKind::PermissionDenied
-    )
-}
-
 // The exit status where a folder is that of a server that stays, which is told.
 fn refuse_kept(rt: &HostRuntime, folder: &str) -> Result<Option<u8>, ToolFailure>
     ensures status { IfOk result (λ ended. IfSome ended (λ status. status ≡ 1)) }
@@ -108,14 +100,7 @@ fn refuse_kept(rt: &HostRuntime, folder: &str) -> Result<Option<u8>, ToolFailure
             let status = written(line.as_bytes(), REFUSED, &mut io::writer(rt))?;
             Ok(Some(status))
         }
-        Err(error) => {
-            // (what is no folder, or may not be read, is told in its turn)
-            if is_told_later(&error) {
-                return Ok(None);
-            }
-            let lacking = Lacking::of(Wanted::Folder, error);
-            Err(told(rt, lacking, folder))
-        }
+        Err(lacking) => Err(told(rt, lacking, folder)),
     }
 }
 

@@ -1,7 +1,7 @@
-//! Why a file of a journal is not taken, in words.
+//! Why a file of a journal is not taken, or that it was cut off, in words.
 
 ghost use Rattle.std.specs.Prelude.{◌≡◌, ◌++◌, OnOk, codes, decimal};
-ghost use Rattle.command_tool.specs.Said.{untaken_words, why_words};
+ghost use Rattle.command_tool.specs.Said.{cut_words, untaken_words, why_words};
 
 use std::alloc::AllocError;
 use taken_core::taken::TakeFault;
@@ -57,5 +57,16 @@ pub(crate) fn push_untaken(
     out.extend_from_slice(b" ")?;
     out.extend_from_slice(name)?;
     push_why(out, fault)?;
+    Ok(())
+}
+
+/// Adds the name of a file, and that it was cut off behind this line.
+pub(crate) fn push_cut(out: &mut Vec<u8>, name: &[u8], line: u64) -> Result<(), AllocError>
+    ensures { OnOk result (out.new.items ≡ out.old.items ++ cut_words name.now line) }
+{
+    out.extend_from_slice(b" ")?;
+    out.extend_from_slice(name)?;
+    push_number(out, b" line ", line)?;
+    out.extend_from_slice(b": the file ends behind it\n")?;
     Ok(())
 }

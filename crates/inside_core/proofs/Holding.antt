@@ -9,15 +9,14 @@ use Rattle.decl_core.specs.HoldForm.{HoldForm}
 use Rattle.word_core.specs.Words.{Word, bare, behind_word, line_of, word_text, words_text}
 use Rattle.word_core.specs.Data.{session_word}
 use Rattle.word_core.specs.Text.{operation_name}
-use Rattle.stuck_core.specs.Why.{name_word}
 use Rattle.stuck_core.specs.Who.{client_words, time_words}
-use Rattle.check_core.specs.HeldTold.{op_of}
+use Rattle.check_core.specs.HeldTold.{holds_words, op_of}
 use Rattle.std.specs.Prelude.{codes, decimal}
 use Rattle.guest_core.specs.Held.{HeldCall}
 use Rattle.live_core.specs.Scene.{Scene}
 use Rattle.client_core.specs.declared.since.HeldSince.{HeldSince}
 use Rattle.client_core.specs.Holding.{Holding}
-use Rattle.client_core.specs.HeldRows.{AreHeldRows, HeldRow, IsHeldRow, Timed, away_words, held_line, held_words, least_words, timed_from, timed_of}
+use Rattle.client_core.specs.HeldRows.{AreHeldRows, HeldRow, IsHeldRow, Timed, away_words, held_line, least_words, timed_from, timed_of}
 use Rattle.client_core.specs.ToldInside.{is_between, held_in}
 use Rattle.inside_core.specs.Adds.{AddsHeld, AddsHeldBy}
 
@@ -40,24 +39,14 @@ behind-four b c d e =
     behind-append b (c ++ (d ++ e)) ∙ ap (λ l. behind_word b ++ l) (behind-append c (d ++ e) ∙ ap (λ l. behind_word c ++ l) (behind-append d e))
 
 -- the whole line of a call that is held
-pub line_made : (o : ObjectForm) (holds : List HoldForm) (row : HeldRow) (old one two new : List ℕ) → one ≡ old ++ words_text (held_words o holds row.call) →
+pub line_made : (o : ObjectForm) (holds : List HoldForm) (row : HeldRow) (old one two new : List ℕ) → one ≡ old ++ words_text (holds_words o holds row.call) →
     two ≡ one ++ (behind_word (time_words row.seconds) ++ behind_word (least_words row.is_least)) → new ≡ two ++ ((behind_word (client_words row.name) ++ behind_word (away_words row.away)) ++ 10 ∷ []) →
     new ≡ old ++ held_line o holds row
 line_made o holds row old one two new first second third =
     third ∙ ap (λ l. l ++ ((behind_word (client_words row.name) ++ behind_word (away_words row.away)) ++ 10 ∷ [])) (second ∙ ap (λ l. l ++ (behind_word (time_words row.seconds) ++ behind_word (least_words row.is_least))) first)
-    ∙ shape old (words_text (held_words o holds row.call)) (behind_word (time_words row.seconds)) (behind_word (least_words row.is_least)) (behind_word (client_words row.name)) (behind_word (away_words row.away)) (10 ∷ [])
-    ∙ ap (λ l. old ++ ((words_text (held_words o holds row.call) ++ l) ++ 10 ∷ [])) (sym (behind-four (time_words row.seconds) (least_words row.is_least) (client_words row.name) (away_words row.away)))
-    ∙ ap (λ l. old ++ (l ++ 10 ∷ [])) (sym (words-append (bare (codes "holds")) (bare (decimal row.call.number) ∷ session_word row.call.session ∷ name_word o (op_of holds row.call.rule) ∷ []) (time_words row.seconds ++ (least_words row.is_least ++ (client_words row.name ++ away_words row.away)))))
-
--- `holds N sS OP`
-pub call_made : (o : ObjectForm) (holds : List HoldForm) (h : HeldCall) (old new name : List ℕ) (number session rule op : ℕ) →
-    new ≡ old ++ words_text (bare (codes "holds") ∷ bare (decimal number) ∷ session_word session ∷ bare name ∷ []) → number ≡ h.number → session ≡ h.session → rule ≡ h.rule → op ≡ op_of holds rule → name ≡ operation_name o op →
-    new ≡ old ++ words_text (held_words o holds h)
-call_made o holds h old new name number session rule op made numbered seated ruled is named =
-    made
-    ∙ ap (λ n. old ++ words_text (bare (codes "holds") ∷ bare (decimal n) ∷ session_word session ∷ bare name ∷ [])) numbered
-    ∙ ap (λ s. old ++ words_text (bare (codes "holds") ∷ bare (decimal h.number) ∷ session_word s ∷ bare name ∷ [])) seated
-    ∙ ap (λ xs. old ++ words_text (bare (codes "holds") ∷ bare (decimal h.number) ∷ session_word h.session ∷ bare xs ∷ [])) (named ∙ ap (operation_name o) (is ∙ ap (op_of holds) ruled))
+    ∙ shape old (words_text (holds_words o holds row.call)) (behind_word (time_words row.seconds)) (behind_word (least_words row.is_least)) (behind_word (client_words row.name)) (behind_word (away_words row.away)) (10 ∷ [])
+    ∙ ap (λ l. old ++ ((words_text (holds_words o holds row.call) ++ l) ++ 10 ∷ [])) (sym (behind-four (time_words row.seconds) (least_words row.is_least) (client_words row.name) (away_words row.away)))
+    ∙ ap (λ l. old ++ (l ++ 10 ∷ [])) (sym (words-append (bare (codes "holds")) (bare (decimal row.call.number) ∷ session_word row.call.session ∷ bare (operation_name o (op_of holds row.call.rule)) ∷ []) (time_words row.seconds ++ (least_words row.is_least ++ (client_words row.name ++ away_words row.away)))))
 
 held_none : (now : ℕ) (object : Scene) (h : Holding) (out : List ℕ) → AddsHeld now object h [] 0 out out
 held_none now object h out = record { rows = []; are = tt; count = refl; added = sym (append-nil out) }

@@ -1,70 +1,33 @@
 //! What is held, as it is told to who asks `who`: since when, by whom, and for how long that one is gone.
 
 ghost use Rattle.std.specs.Prelude.{◌≡◌, ◌≢◌, ◌-◌, ◌++◌, ◌∷◌, [], ℕ, true, false, Some, IfOk, OnOk, option_map, slice_get, take};
-ghost use Rattle.decl_core.specs.HoldMap.{holds_of};
 ghost use Rattle.decl_core.specs.ObjectMap.{object_of};
 ghost use Rattle.word_core.specs.Words.{behind_word, words_text};
 ghost use Rattle.stuck_core.specs.Who.{client_words, time_words};
-ghost use Rattle.check_core.specs.HeldTold.{op_of};
+ghost use Rattle.check_core.specs.HeldTold.{holds_words};
 ghost use Rattle.live_core.specs.Calls.{seat_of as seat_in};
-ghost use Rattle.client_core.specs.HeldRows.{IsAwayOf, IsNameOf, away_of, away_words, held_words, is_least_of, least_words, may_be_away, seconds_of};
+ghost use Rattle.client_core.specs.HeldRows.{IsAwayOf, IsNameOf, away_of, away_words, is_least_of, least_words, may_be_away, seconds_of};
 ghost use Rattle.client_core.specs.HeldRows.{timed_of};
 ghost use Rattle.client_core.specs.ToldInside.{held_in};
 ghost use Rattle.inside_core.specs.Adds.{AddsHeld, AddsHeldBy};
 
 use crate::who::{Whom, is_between, sum_of};
+use check_core::held::push_held_words;
 use client_core::holder::Holder;
 use client_core::holding::Holding;
 use client_core::since::HeldSince;
-use decl_core::hold::Hold;
-use decl_core::object::Object;
 use guest_core::guests::Guests;
 use guest_core::held::HeldCall;
 use live_core::hosted::Hosted;
 use path_tree::name::Name;
-use path_tree::node::OpId;
 use std::alloc::AllocError;
-use word_core::event::name_of;
-use word_core::line::{push_more, push_words};
+use word_core::line::push_more;
 use word_core::word::Written;
 
 // At most so many of the calls that are held are told.
 const MOST_HELD: usize = 256;
 
-// The operation of the hold at this place.
-fn op_at(rules: &[Hold], place: usize) -> OpId
-    ensures { result ≡ op_of (holds_of rules.now) place }
-{
-    match rules.get(place) {
-        Some(hold) => hold.op,
-        None => 0,
-    }
-}
-
-// Adds `holds N sS OP`.
-fn push_call(
-    out: &mut Vec<u8>,
-    object: &Object,
-    rules: &[Hold],
-    held: &HeldCall,
-) -> Result<(), AllocError>
-    ensures { OnOk result (out.new.items ≡ out.old.items
-        ++ words_text (held_words (object_of object.now) (holds_of rules.now) held.now)) }
-{
-    let op = op_at(rules, held.rule());
-    push_words(
-        out,
-        &[
-            Written::Bare(b"holds"),
-            Written::Integer(held.number()),
-            Written::Session(held.session() as u64),
-            Written::Bare(name_of(object, op)),
-        ],
-    )?;
-    Ok(())
-}
-
-// The same, of a call that is held of this object.
+// Adds `holds N sS OP`, of a call that is held of this object.
 fn push_call_of(
     out: &mut Vec<u8>,
     object: &Hosted,
@@ -72,9 +35,9 @@ fn push_call_of(
     held: &HeldCall,
 ) -> Result<(), AllocError>
     ensures { OnOk result (out.new.items ≡ out.old.items
-        ++ words_text (held_words (object_of object.now.hall.object) holding.now.rules.holds held.now)) }
+        ++ words_text (holds_words (object_of object.now.hall.object) holding.now.rules.holds held.now)) }
 {
-    push_call(out, object.live().object(), &holding.rules().holds, held)?;
+    push_held_words(out, object.live().object(), &holding.rules().holds, held)?;
     Ok(())
 }
 

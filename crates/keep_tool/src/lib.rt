@@ -27,7 +27,6 @@ mod one;
 mod others;
 pub mod outside;
 pub mod pasts;
-mod short;
 pub mod sources;
 pub mod status;
 mod stuck;

@@ -56,7 +56,7 @@ fn told_fault(rt: &HostRuntime, failure: ToolFailure) -> ToolFailure
     ensures { result ≡ failure }
 {
     if let ToolFailure::WriteFault = &failure {
-        tell_unwritten(rt, Some(Cause::Unknown));
+        tell_unwritten(rt.alloc(), Some(Cause::Unknown), &mut rt.stderr());
     }
     failure
 }

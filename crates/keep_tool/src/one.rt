@@ -11,7 +11,7 @@ use crate::cuts::{CutFile, is_taken};
 use crate::folder::{FolderNames, FoundJournal, standing_of};
 use crate::lines::{count_lines, object_line, refused_line, short_line, taken_line, told_line};
 use crate::others::other_line;
-use crate::short::is_short;
+use crate::outside::ROOM;
 use crate::sources::{before_of, object_in};
 use crate::unread::{look_at_parts, told_parts, told_unread};
 use answer_core::failure::ToolFailure;
@@ -30,6 +30,7 @@ use mio_core::traces::epoch_of;
 use recover_core::changed::source_in;
 use recover_core::recover::RecoverFault;
 use std::io::Write;
+use taken_core::room::is_cut_off;
 use taken_core::taken::{TakeFault, TakenFile, take_file};
 
 /// So many names an object knows before a new one takes the place of another.
@@ -127,7 +128,7 @@ fn begin_whole<L: Write>(
 ) -> Result<Begun, ToolFailure>
     ensures { IfErr result IsFault }
 {
-    if taken.format == 1 || !is_short(&bytes, taken.size) {
+    if !is_cut_off(&bytes, &taken, false, ROOM) {
         return begin_taken(place, object, name, text, rules, &taken, &bytes, None, log);
     }
     let line = count_lines(bytes.get(..taken.size).unwrap_or(&bytes));

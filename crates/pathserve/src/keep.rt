@@ -160,7 +160,7 @@ pub(crate) fn run_keep(
         &mut writer,
         &mut rt.stderr(),
     );
-    tell_unwritten(rt, writer.fault());
+    tell_unwritten(rt.alloc(), writer.fault(), &mut rt.stderr());
     if let Some(socket) = socket {
         socket.remove(rt);
     }

@@ -1,1 +1,2 @@
 pub mod TakeFile
+pub mod Room
