@@ -14,6 +14,7 @@ use Rattle.decl_core.specs.ObjectMap.{object_of}
 use Rattle.word_core.specs.Events.{Called}
 use Rattle.live_core.specs.Hall.{Hall, Told, trace, Every, EachPair, IsKept, IsWaiting, Rests, MayBegin}
 use Rattle.live_core.specs.Epochs.{told_behind, numbered_from, IsShortOf, IsBegun}
+use Rattle.live_core.proofs.Numbering.{numbered_in_order, one_each}
 use Rattle.live_core.proofs.Opening.{fresh_before}
 
 -- calls that are numbered anew
@@ -27,22 +28,6 @@ numbered_every : (P Q : Called → Type 0) (most n : ℕ) (calls : List Called) 
 numbered_every P Q most n [] more fits all = tt
 numbered_every P Q most n (c ∷ calls) more fits all =
     (more c (n + 1) all.0 (omega arith) (omega (arith, fits)), numbered_every P Q most (n + 1) calls more (omega (arith, fits)) all.1)
-
-above : (k n : ℕ) (calls : List Called) → k ≤ n → Every (λ (d : Called). k < d.number) (numbered_from n calls)
-above k n [] less = tt
-above k n (c ∷ calls) less = (omega (arith, less), above k (n + 1) calls (omega (arith, less)))
-
-numbered_in_order : (n : ℕ) (calls : List Called) → EachPair (λ (c d : Called). c.number < d.number) (numbered_from n calls)
-numbered_in_order n [] = tt
-numbered_in_order n (c ∷ calls) = (above (n + 1) (n + 1) calls (omega arith), numbered_in_order (n + 1) calls)
-
-other_sessions : (session n : ℕ) (calls : List Called) → Every (λ (d : Called). session ≢ d.session) calls → Every (λ (d : Called). session ≢ d.session) (numbered_from n calls)
-other_sessions session n [] all = tt
-other_sessions session n (c ∷ calls) all = (all.0, other_sessions session (n + 1) calls all.1)
-
-one_each : (n : ℕ) (calls : List Called) → EachPair (λ (c d : Called). c.session ≢ d.session) calls → EachPair (λ (c d : Called). c.session ≢ d.session) (numbered_from n calls)
-one_each n [] pairs = tt
-one_each n (c ∷ calls) pairs = (other_sessions c.session (n + 1) calls pairs.0, one_each (n + 1) calls pairs.1)
 
 -- an operation may start behind the one trace where it may behind another one that leaves the same counters
 may_same : (c d : State) (n : ℕ) (paths : List Path) (op : ℕ) (t s : List Event) → StandsFor c n paths t → StandsFor d n paths s → c.words ≡ d.words →

@@ -7,6 +7,7 @@ pub mod Leaving
 pub mod Listing
 pub mod Numbering
 pub mod Opening
+pub mod Places
 pub mod Settling
 pub mod Written
 mod Adding

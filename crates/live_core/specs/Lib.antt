@@ -18,3 +18,4 @@ pub mod HostedLines
 pub mod Scene
 pub mod HostedSteps
 pub mod HostedView
+pub mod Waiters

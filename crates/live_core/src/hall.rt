@@ -20,7 +20,7 @@ ghost use Rattle.live_core.specs.Steps.{joined, Leaves, IsSame, RunsOne, Settles
 
 use crate::body::{are_of, do_call, fits};
 use crate::call::{Limits, LiveCall, Ran};
-use crate::waiting::{first_to_start, place_for, place_of, renumber, take_at};
+use crate::waiters::Waiters;
 use decl_core::object::Object;
 use guest_core::answer::SubmitFault;
 use path_count::counters::Counters;
@@ -52,7 +52,7 @@ pub(crate) struct Hall {
     object: Object,
     counters: Counters,
     parts: Vec<Value>,
-    waiting: Vec<LiveCall>,
+    waiting: Waiters,
     // the numbers that were given out in this epoch
     given: u32,
     // the calls of the past
@@ -141,12 +141,13 @@ impl Hall {
         let Some(counters) = counters_of(alloc, &object, past)? else {
             return Ok(None);
         };
+        let waiting = Waiters::new(alloc, limits.sessions)?;
         Ok(Some(Hall {
             alloc,
             object,
             counters,
             parts,
-            waiting: Vec::new(alloc),
+            waiting,
             given: 0,
             before: calls as u32,
             limits,
@@ -160,7 +161,8 @@ impl Hall {
         ensures none { (t : Told) → IsKept self.now t →
             IfNone result (Rests (object_of self.now.object) self.now.waiting t) }
     {
-        first_to_start(&self.counters, &self.waiting)
+        self.waiting
+            .next(&self.counters, self.object.operations.len() as OpId)
     }
 
     // Starts the call at this place, does it and ends it.
@@ -172,7 +174,7 @@ impl Hall {
         ensures same { IsSame self.old self.new }
         ensures fewer { length self.new.waiting + 1 ≡ length self.old.waiting }
     {
-        let call = take_at(&mut self.waiting, place);
+        let call = self.waiting.take(place);
         pass(&mut self.counters, call.operation());
         let reply = do_call(self.alloc, &self.object, &call, &mut self.parts);
         Ran { call, reply }
@@ -215,7 +217,7 @@ impl Hall {
         if calls + self.waiting.len() > MOST_NUMBERS as usize {
             return Ok(false);
         }
-        renumber(&mut self.waiting);
+        self.waiting.renumber();
         self.counters = counters;
         self.given = self.waiting.len() as u32;
         self.before = calls as u32;
@@ -249,7 +251,7 @@ impl Hall {
         if !fits(&self.object, operation, arguments) {
             return Some(SubmitFault::BadArgs);
         }
-        if place_for(&self.waiting, session).is_some() {
+        if self.waiting.place_for(session).is_some() {
             return Some(SubmitFault::SessionBusy);
         }
         if self.waiting.len() >= self.limits.waiting as usize {
@@ -266,7 +268,7 @@ impl Hall {
         ensures some { IfSome result (IsNumberedAt self.now.waiting number) }
         ensures none { IfNone result (Every (λ (c : Called). c.number ≢ number) self.now.waiting) }
     {
-        place_of(&self.waiting, number)
+        self.waiting.place_of(number)
     }
 
     // The place of the waiting call of this session.
@@ -274,7 +276,24 @@ impl Hall {
         ensures some { IfSome result (IsOfSessionAt self.now.waiting session) }
         ensures none { IfNone result (Every (λ (c : Called). c.session ≢ session) self.now.waiting) }
     {
-        place_for(&self.waiting, session)
+        self.waiting.place_for(session)
+    }
+
+    // The waiting call of this session.
+    pub(crate) fn call_of(&self, session: u32) -> Option<&LiveCall>
+        ensures some { IfSome result (λ c. (k : ℕ) × (slice_get self.now.waiting k ≡ Some c.now)
+            × (c.now.session ≡ session)) }
+        ensures none { IfNone result (Every (λ (c : Called). c.session ≢ session) self.now.waiting) }
+    {
+        self.waiting.call_of(session)
+    }
+
+    // The waiting call of this number.
+    pub(crate) fn call_numbered(&self, number: u32) -> Option<&LiveCall>
+        ensures { IfSome result (λ c. (k : ℕ) × (slice_get self.now.waiting k ≡ Some c.now)
+            × (c.now.number ≡ number)) }
+    {
+        self.waiting.call_numbered(number)
     }
 
     pub(crate) fn object(&self) -> &Object
@@ -298,7 +317,7 @@ impl Hall {
     pub(crate) fn waiting(&self) -> &[LiveCall]
         ensures { result.now ≡ self.now.waiting }
     {
-        &self.waiting
+        self.waiting.calls()
     }
 
     // How many numbers are left.
@@ -314,7 +333,7 @@ impl Hall {
         ensures waiting { result.1.items ≡ self.waiting }
     {
         let Hall { parts, waiting, .. } = self;
-        (parts, waiting)
+        (parts, waiting.into_calls())
     }
 
     // Takes out the waiting call at this place.
@@ -326,7 +345,7 @@ impl Hall {
         ensures rests { (t : Told) → Rests (object_of self.old.object) self.old.waiting t →
             Rests (object_of self.new.object) self.new.waiting t }
     {
-        take_at(&mut self.waiting, place)
+        self.waiting.take(place)
     }
 
     // Takes a call among those that wait, with the next number.
@@ -354,10 +373,9 @@ impl Hall {
         ensures kept { OnOk result ((t : Told) → IsKept self.old t → IsKept self.new t) }
         ensures err { OnErr result (self.new ≡ self.old) }
     {
-        self.waiting.reserve(1)?;
         let number = self.given + 1;
         self.waiting
-            .push_reserved(LiveCall::new(number, session, operation, arguments));
+            .add(LiveCall::new(number, session, operation, arguments))?;
         self.given = number;
         Ok(number)
     }

@@ -156,31 +156,6 @@ fn operation_for(object: &Object, name: &Name) -> Option<OpId>
     None
 }
 
-// The call of this number among those that wait.
-fn numbered(waiting: &[LiveCall], number: u32) -> Option<&LiveCall>
-    ensures { IfSome result (λ c. (k : ℕ) × (slice_get waiting.now k ≡ Some c.now) × (c.now.number ≡ number)) }
-{
-    for call in waiting {
-        if call.number() == number {
-            return Some(call);
-        }
-    }
-    None
-}
-
-// The call of this session among those that wait.
-fn made_by(waiting: &[LiveCall], session: u16) -> Option<&LiveCall>
-    ensures some { IfSome result (λ c. (k : ℕ) × (slice_get waiting.now k ≡ Some c.now) × (c.now.session ≡ session)) }
-    ensures none { IfNone result (Every (λ (c : Called). c.session ≢ session) waiting.now) }
-{
-    for place in 0..waiting.len() {
-        if waiting[place].session() == u32::from(session) {
-            return Some(&waiting[place]);
-        }
-    }
-    None
-}
-
 fn no_owners(alloc: Global, sessions: u16) -> Result<Vec<u32>, AllocError> {
     let mut owners = Vec::with_capacity(alloc, sessions as usize + 1)?;
     for _ in 0..sessions as usize + 1 {
@@ -325,7 +300,7 @@ impl Hosted {
         let Some(number) = self.number_of(told) else {
             return Err(Cancelled::Ended);
         };
-        match numbered(self.live.waiting(), number) {
+        match self.live.call_numbered(number) {
             Some(call) => Ok(call.session()),
             None => Err(Cancelled::Ended),
         }
@@ -348,7 +323,7 @@ impl Hosted {
             × (c.now.session ≡ session)) }
         ensures none { IfNone result (Every (λ (c : Called). c.session ≢ session) self.now.hall.waiting) }
     {
-        made_by(self.live.waiting(), session)
+        self.live.call_of(u32::from(session))
     }
 
     // What a key says of a call of a session that has a name.

@@ -39,5 +39,6 @@ mod runs;
 pub mod size;
 pub mod source;
 pub mod start;
+mod waiters;
 mod waiting;
 pub mod write;

@@ -1,7 +1,7 @@
 //! An object that is kept.
 
 ghost use Rattle.std.specs.Prelude.{◌≡◌, ◌≢◌, ◌+◌, ◌-◌, ◌<◌, List, [], ◌∷◌, ◌++◌, length, Ok, true, false, IsTrue, IfOk, IfErr};
-ghost use Rattle.std.specs.Prelude.{IfSome, OnErr};
+ghost use Rattle.std.specs.Prelude.{ℕ, IfSome, IfNone, OnErr, Some, slice_get};
 ghost use Rattle.path_count.specs.Past.{events_of};
 ghost use Rattle.word_core.specs.Events.{Called};
 ghost use Rattle.live_core.specs.declared.call.Carried.{Carried as ACarried};
@@ -208,6 +208,23 @@ impl Live {
         ensures { result.now ≡ self.now.waiting }
     {
         self.hall.waiting()
+    }
+
+    // The waiting call of a session.
+    pub(crate) fn call_of(&self, session: u32) -> Option<&LiveCall>
+        ensures some { IfSome result (λ c. (k : ℕ) × (slice_get self.now.waiting k ≡ Some c.now)
+            × (c.now.session ≡ session)) }
+        ensures none { IfNone result (Every (λ (c : Called). c.session ≢ session) self.now.waiting) }
+    {
+        self.hall.call_of(session)
+    }
+
+    // The waiting call of this number.
+    pub(crate) fn call_numbered(&self, number: u32) -> Option<&LiveCall>
+        ensures { IfSome result (λ c. (k : ℕ) × (slice_get self.now.waiting k ≡ Some c.now)
+            × (c.now.number ≡ number)) }
+    {
+        self.hall.call_numbered(number)
     }
 
     /// How many calls more this epoch takes before `HistoryFull`.

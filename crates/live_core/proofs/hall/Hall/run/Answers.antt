@@ -17,7 +17,7 @@ behind c = record {
   object = c.self.inside.object;
   counters = c.pass.new.counters;
   contents = c.do_call-reply.new.parts.items;
-  waiting = c.take_at-call.new.waiting.items;
+  waiting = c.take-call.new.self;
   given = c.self.inside.given;
   before = c.self.inside.before;
   sessions = c.self.inside.limits.sessions;
@@ -25,17 +25,17 @@ behind c = record {
 }
 
 abbrev ran : goal.After-do_call-reply → Ran
-ran c = record { call = c.take_at-call.result; reply = c.do_call-reply.result }
+ran c = record { call = c.take-call.result; reply = c.do_call-reply.result }
 
 runs : (c : goal.After-do_call-reply) → (t : Told) → IsKept (hall_of c.self.inside) t → RunsOne (hall_of c.self.inside) t (ran c) (behind c)
 runs c t kept =
     let h = hall_of c.self.inside in
-    let call = c.take_at-call.result in
+    let call = c.take-call.result in
     let all : (t : Told) → IsKept h t → IsFirstAt (object_of h.object).paths (trace t) h.waiting c.args.place =
     subst (λ x. (t : Told) → IsKept x t → IsFirstAt (object_of x.object).paths (trace t) x.waiting c.args.place) (sym c.self.view_is) c.requires.first in
     let first = all t kept in
-    let is : slice_get h.waiting c.args.place ≡ Some call = first.there ∙ ap Some (sym (c.take_at-call.ensures.call first.call first.there)) in
-    ran_one h (behind c) t c.args.place call c.do_call-reply.result kept first is refl refl refl c.take_at-call.ensures.rest
+    let is : slice_get h.waiting c.args.place ≡ Some call = first.there ∙ ap Some (sym (c.take-call.ensures.call first.call first.there)) in
+    ran_one h (behind c) t c.args.place call c.do_call-reply.result kept first is refl refl refl c.take-call.ensures.rest
     (λ one e stood known may few fresh. c.pass.ensures _ _ (trace t) one stood (ap (λ (x : Call). x.operation) e ∙ sym c.operation.ensures)
     (subst (λ op. op < length (object_of h.object).operations) (sym c.operation.ensures) known) (subst (λ op. MayStart (object_of h.object).paths op (trace t)) (sym c.operation.ensures) may) few
     (subst (λ (x : Call). IsFresh x.number (trace t)) (sym e) fresh))

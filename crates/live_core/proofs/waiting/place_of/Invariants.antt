@@ -1,7 +1,0 @@
-use Rattle.std.proofs.Common.{◌≢◌, ◌≤◌, take, length}
-use Rattle.word_core.specs.Events.{Called}
-use Rattle.live_core.specs.Hall.{Every}
-use Rattle.live_core.proofs.waiting.place_of.Given as goal
-
-abbrev pub invariant-loop-place : goal.invariant-loop-place
-invariant-loop-place l = (l.place ≤ length l.waiting) × Every (λ (c : Called). c.number ≢ l.number) (take l.place l.waiting)
