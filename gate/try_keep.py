@@ -32,11 +32,22 @@ CELL = """object cell;
   entry function get : integer; begin get := v[0] end;
 end;
 """
+<<<<<<< HEAD
 SLOT = """object slot;
   path 1:(grab; free) end;
   entry procedure grab; begin end;
   entry procedure free; begin end;
   hold grab until free;
+=======
+FETCHED = """object jobs;
+  path 2:(fetch; finish) end;
+  path 1:(fetch, finish, note) end;
+  var items : queue of text;
+  var n : array [1] of integer;
+  entry function fetch : text; begin fetch := first(items); take(items) end;
+  entry procedure finish; begin end;
+  entry procedure note; begin n[0] := 1 end;
+>>>>>>> why
 end;
 """
 POOL = """object {};
@@ -375,11 +386,35 @@ def all_nodes_that_refuse_are_told(place: Place) -> None:
     place.file.write_text((TOP / "examples" / "objects" / "build_slots.pp").read_text(encoding="ascii"), encoding="ascii")
     with place.served("keep") as say:
         heard = say("open build_slots", *["call take_slot"] * 4, "why 4", quits=False)
-        check(heard[-2:], ["why 4 Waiting 1", "path 1 node 0 full needs give_slot"], "why the fourth one waits")
+        taken = [f"open {n} s1 take_slot done" for n in (3, 2, 1)]
+        check(heard[-5:], ["why 4 Waiting 4", "path 1 node 0 full needs give_slot", *taken], "why the fourth one waits")
     two = Place(place.folder.parent / "two", BUFFER.replace("path 8:", "path 1:(put; get) end;\n  path 1:"))
     with two.served("keep") as say:
         heard = say("open buffer", "call get", "why 1", "call put 'a'", "call put 'b'", "why 2", "why 3", quits=False)
         check(heard[2:5], ["why 1 Waiting 2", *[f"path {p} node 1 turn 1 needs put" for p in (1, 2)]], "why a get waits")
+
+
+def what_fills_a_node_is_told(place: Place) -> None:
+    """Refused calls, too; the newest 16 of all that fill it, the newest first; also when an epoch has ended since, and not
+    when the server has started anew."""
+    place.file.write_text(FETCHED, encoding="ascii")
+    node, fetched = "path 1 node 0 full needs finish", [f"open {n} s1 fetch refused empty" for n in (2, 1)]
+    with place.served("keep", "--sync", "1000") as say:
+        heard = say("open jobs", *["call fetch"] * 3, "why 3", quits=False)
+        check(heard[-4:], ["why 3 Waiting 3", node, *fetched], "two that were refused")
+        heard = say("open jobs", *["call note"] * 70_000, "call fetch", "why 70004", quits=False)
+        check(heard[-4:], ["why 70004 Waiting 3", node, *fetched], "two epochs later")
+    with place.served("keep"), place.server.connect(SECONDS) as it, it.makefile("r", encoding="ascii") as answers:
+        it.sendall(b"open jobs\ncall fetch\n")
+        number = [answers.readline() for _ in range(2)][1].split()[1]
+        it.sendall(f"why {number}\n".encode())
+        check([answers.readline() for _ in range(2)], [f"why {number} Waiting 1\n", f"{node}\n"], "behind a start")
+    many = Place(place.folder.parent / "many", FETCHED.replace("2:(fetch; finish)", "20:((fetch, look); finish)").replace("note)", "note, look)").replace(
+        "  entry procedure note;", "  entry procedure look; begin end;\n  entry procedure note;"))
+    with many.served("keep") as say:
+        heard = say("open jobs", *["call fetch", "call look"] * 10, "call look", "why 21", quits=False)
+        filled = [f"open {n} s1 {'fetch refused empty' if n % 2 else 'look done'}" for n in range(20, 4, -1)]
+        check(heard[-18:], ["why 21 Waiting 17", node, *filled], "sixteen of twenty")
 
 
 def lines_that_ask_for_nothing_are_bad(place: Place) -> None:
@@ -415,6 +450,7 @@ TRIES = [
     one_that_waits_asks_why,
     a_refusal_tells_what_there_is,
     all_nodes_that_refuse_are_told,
+    what_fills_a_node_is_told,
     lines_that_ask_for_nothing_are_bad,
     a_page_has_256_sessions,
     objects_that_can_get_stuck_are_told,

@@ -238,7 +238,9 @@ def a_past_that_is_left_in_counts_once(room: pathlib.Path) -> None:
             check([line.split(" ")[0] for line in heard], ["accepted", "done", "accepted"], "two calls for one slot")
             number = heard[2].split(" ")[1]
             it.say(f"why {number}")
-            it.hears(f"why {number} Waiting 1", "path 1 node 0 full needs give_slot")
+            it.hears(f"why {number} Waiting 2", "path 1 node 0 full needs give_slot")
+            filled = it.hear()
+            holds(re.fullmatch(rf"open {int(number) - 1} s\d+ take_slot done", filled), f"the call that fills it is {filled!r}")
         until(lambda: server.says("open slots", "who")[1] == "who 0", "what is held is not given back")
         ended = end()
         check(ended, ("slots entries 2\n", 0) if ended else None, "the end")

@@ -10,6 +10,7 @@ pub mod Deeds
 pub mod Given
 pub mod Gone
 pub mod HeldRows
+pub mod LastCalls
 pub mod ToldInside
 pub mod Laws
 pub mod Moves

@@ -11,11 +11,13 @@ use Rattle.client_core.specs.declared.ask.Sight.{Sight}
 use Rattle.client_core.specs.declared.ask.Sight.TheVariants as insides
 use Rattle.client_core.specs.declared.client.OpenObject.{OpenObject}
 use Rattle.client_core.specs.People.{Person, name_in, since_in, called_in}
+use Rattle.client_core.specs.declared.last.LastCall.{LastCall}
+use Rattle.client_core.specs.LastCalls.{AreNodes, filled_text, rows_in}
 use Rattle.stuck_core.specs.Lacks.{Why}
 use Rattle.stuck_core.specs.Tells.{Tells}
 use Rattle.stuck_core.specs.declared.why.CallStatus.{CallStatus as CallState}
 use Rattle.stuck_core.specs.declared.why.CallStatus.TheVariants as states
-use Rattle.stuck_core.specs.Why.{state_line, why_text}
+use Rattle.stuck_core.specs.Why.{state_line}
 use Rattle.stuck_core.specs.Who.{Sitting, Refused, who_line, seat_line, waits_line}
 use Rattle.stuck_core.specs.List.{list_text}
 use Rattle.decl_core.specs.HoldForm.{HoldForm}
@@ -30,15 +32,17 @@ abbrev pub AreWhys : Scene → ℕ → List Why → Type 0
 AreWhys object operation whys =
     (t : Told) → IsHeld object.hall t → Tells (object_of object.hall.object).paths operation (trace t) whys
 
--- a call waits of which this number was told, and this is why
-pub record SaysWhy (object : Scene) (told : ℕ) (text : List ℕ) : Type 0 where
+-- A call waits of which this number was told, and this is why, where these are the last calls of each operation.
+pub record SaysWhy (object : Scene) (rows : List (List (Option LastCall))) (told : ℕ) (text : List ℕ) : Type 0 where
   pub place : ℕ
   pub call : Called
   pub there : slice_get object.hall.waiting place ≡ Some call
   pub told_is : told_of object call.number ≡ told
   pub whys : List Why
   pub are : AreWhys object call.operation whys
-  pub text_is : text ≡ why_text (object_of object.hall.object) told whys []
+  pub nodes : List (Why × List LastCall)
+  pub are_nodes : AreNodes (object_of object.hall.object) rows whys nodes
+  pub text_is : text ≡ filled_text (object_of object.hall.object) told nodes
 
 -- what a call of this number is that does not wait
 abbrev pub state_by : Bool → CallState
@@ -51,8 +55,8 @@ pub record SaysState (object : Scene) (told : ℕ) (text : List ℕ) : Type 0 wh
   pub text_is : text ≡ state_line told (state_by (is_given object told))
 
 -- What is said of the call of a number.
-abbrev pub IsWhy : Scene → ℕ → List ℕ → Type 0
-IsWhy object told text = SaysWhy object told text ⊎ SaysState object told text
+abbrev pub IsWhy : Scene → List (List (Option LastCall)) → ℕ → List ℕ → Type 0
+IsWhy object rows told text = SaysWhy object rows told text ⊎ SaysState object told text
 
 -- one that has opened the object at a place, by a session of this number or a greater one
 abbrev pub is_asked : ℕ → ℕ → OpenObject → Bool
@@ -184,20 +188,22 @@ object_in opened = option_map (λ (o : OpenObject). o.object) opened
 abbrev pub IsList : List Scene → Option ℕ → List ℕ → Type 0
 IsList objects at text = text ≡ list_text (map (λ (s : Scene). s.hall.object.name) objects) (form_at objects at)
 
--- the one at a place is told why a call waits of the object that it has opened
-pub record SeesWhy (place number : ℕ) (old : State) (said added : Texts) (new : State) : Type 0 where
+-- The second in which one looks, what is known of what is held of each object (since when, and who is gone), and the last calls
+-- that ended of each object, by their operations.
+pub record Known : Type 0 where
+  pub now : ℕ
+  pub custody : List Holding
+  pub last : List (List (List (Option LastCall)))
+
+-- the one at a place is told why a call waits of the object that it has opened, where this is known of calls that ended
+pub record SeesWhy (known : Known) (place number : ℕ) (old : State) (said added : Texts) (new : State) : Type 0 where
   pub opened : OpenObject
   pub by : opened_at old place ≡ Some opened
   pub object : Scene
   pub there : slice_get old.objects opened.object ≡ Some object
   pub text : List ℕ
-  pub is : IsWhy object number text
+  pub is : IsWhy object (rows_in (slice_get known.last opened.object)) number text
   pub only : OnlyTold place text old said added new
-
--- The second in which one looks, and what is known of what is held of each object: since when, and who is gone.
-pub record Known : Type 0 where
-  pub now : ℕ
-  pub custody : List Holding
 
 -- or who is there, where these clients are, and this is known of what is held
 pub record SeesWho (people : List Person) (known : Known) (place from : ℕ) (old : State) (said added : Texts) (new : State) : Type 0 where
@@ -217,9 +223,9 @@ pub record SeesList (place : ℕ) (old : State) (said added : Texts) (new : Stat
   pub is : IsList old.objects (object_in (opened_at old place)) text
   pub only : OnlyTold place text old said added new
 
--- where these clients are, and this is known of what is held
+-- where these clients are, and this is known of what is held and of what ended
 abbrev pub SeesOf : List Person → Known → ℕ → Sight → Deed
-SeesOf people known place (insides.Why number) = SeesWhy place number
+SeesOf people known place (insides.Why number) = SeesWhy known place number
 SeesOf people known place (insides.Who from) = SeesWho people known place from
 SeesOf people known place insides.List = SeesList place
 

@@ -24,6 +24,7 @@ pub mod client;
 pub mod clients;
 pub mod holder;
 pub mod holding;
+pub mod last;
 pub mod laws;
 pub mod one;
 pub mod since;

@@ -46,6 +46,7 @@ use Rattle.client_core.specs.Refusals.{refusal_text}
 use Rattle.client_core.specs.Asked.{IsNew, IsRefused, OpensBare, OpensAs, Opens, Ends, AllEnd, Submits, GetsNumber, Sits, Calls, Repeats, RepeatsUnder, IsTurnedAway, AnswersCall, LetsGo, AnswersCancel, AnswersInside, Goes, Quits, Acts, Heeds, keyed_text}
 use Rattle.client_core.specs.Custody.{not_held_text}
 use Rattle.client_core.specs.Gone.{CallsFor, SeatsOne, Frees}
+use Rattle.client_core.specs.declared.last.LastCall.{LastCall}
 use Rattle.client_core.specs.ToldInside.{Sees, IsWhy, state_by, form_at, object_in}
 use Rattle.client_core.proofs.Doing.{ends_keeps, all_end_keeps}
 use Rattle.history_law.specs.Said.{Account, SaysNoReply}
@@ -108,9 +109,9 @@ repeat_of : (object : Scene) (session : Option ℕ) (count key : ℕ) (operation
 repeat_of object (Some s) count key operation arguments told reply says = (s, says)
 repeat_of object None count key operation arguments told reply says = absurd says
 
-why_none : (object : Scene) (number : ℕ) (text : List ℕ) → IsWhy object number text → SaysNoReply text
-why_none object number text (inl is) = subst SaysNoReply (sym is.text_is) (why_plain (object_of object.hall.object) number is.whys)
-why_none object number text (inr is) = subst SaysNoReply (sym is.text_is) (state_plain number (state_by (is_given object number)))
+why_none : (object : Scene) (rows : List (List (Option LastCall))) (number : ℕ) (text : List ℕ) → IsWhy object rows number text → SaysNoReply text
+why_none object rows number text (inl is) = subst SaysNoReply (sym is.text_is) (why_plain (object_of object.hall.object) number is.nodes)
+why_none object rows number text (inr is) = subst SaysNoReply (sym is.text_is) (state_plain number (state_by (is_given object number)))
 
 -- no call waits of the session without a name of the one at a place
 abbrev pub IsIdleAt : ℕ → State → Type 0
@@ -532,7 +533,7 @@ module _ (claims : Claims) where
   cancel place told old new said added a (inr (inr is)) = done_refused place old new said added a is
 
   sees : (place : ℕ) (inside : Sight) → DoneBy (Sees place inside)
-  sees place (insides.Why number) old new said added a (people, now, is) = done_only place is.text (why_none is.object number is.text is.is) old new said added a is.only
+  sees place (insides.Why number) old new said added a (people, now, is) = done_only place is.text (why_none is.object _ number is.text is.is) old new said added a is.only
   sees place (insides.Who from) old new said added a (people, now, is) =
       done_only place is.text (subst SaysNoReply (sym is.is.text_is) (who_plain (object_of is.object.hall.object) _ is.is.seats is.is.calls _)) old new said added a is.only
   sees place insides.List old new said added a (people, now, is) =

@@ -35,6 +35,7 @@ use Rattle.client_core.specs.Refusals.{refusal_text}
 use Rattle.client_core.specs.Asked.{IsRefused, OpensBare, OpensAs, Opens, Ends, AllEnd, Submits, IsUnheld, GetsNumber, Sits, Calls, Repeats, RepeatsUnder, IsTurnedAway, AnswersCall, LetsGo, AnswersCancel, AnswersInside, LeavesObject, Goes, Quits, Acts, Heeds, keyed_text}
 use Rattle.client_core.specs.Custody.{not_held_text}
 use Rattle.client_core.specs.Gone.{CallsFor, SeatsOne, Frees}
+use Rattle.client_core.specs.declared.last.LastCall.{LastCall}
 use Rattle.client_core.specs.ToldInside.{Sees, IsWhy, state_by, form_at, object_in}
 use Rattle.client_core.proofs.Doing.{ends_keeps, all_end_keeps, follows_keeps}
 use Rattle.history_law.specs.Said.{Account, AllWent, SaysNoReply, IsTrue, Says}
@@ -341,12 +342,12 @@ cancel place told old new said added (inr (inl is)) =
     tells_only place (cancelled_line told (cancel_name is.answer)) (cancelled_plain told (cancel_name is.answer)) old new said added is.only
 cancel place told old new said added (inr (inr is)) = tells_refused place old new said added is
 
-why_none : (object : Scene) (number : ℕ) (text : List ℕ) → IsWhy object number text → SaysNoReply text
-why_none object number text (inl is) = subst SaysNoReply (sym is.text_is) (why_plain (object_of object.hall.object) number is.whys)
-why_none object number text (inr is) = subst SaysNoReply (sym is.text_is) (state_plain number (state_by (is_given object number)))
+why_none : (object : Scene) (rows : List (List (Option LastCall))) (number : ℕ) (text : List ℕ) → IsWhy object rows number text → SaysNoReply text
+why_none object rows number text (inl is) = subst SaysNoReply (sym is.text_is) (why_plain (object_of object.hall.object) number is.nodes)
+why_none object rows number text (inr is) = subst SaysNoReply (sym is.text_is) (state_plain number (state_by (is_given object number)))
 
 sees : (place : ℕ) (inside : Sight) → TellsBy (Sees place inside)
-sees place (insides.Why number) old new said added (people, now, is) = tells_only place is.text (why_none is.object number is.text is.is) old new said added is.only
+sees place (insides.Why number) old new said added (people, now, is) = tells_only place is.text (why_none is.object _ number is.text is.is) old new said added is.only
 sees place (insides.Who from) old new said added (people, now, is) =
     tells_only place is.text (subst SaysNoReply (sym is.is.text_is) (who_plain (object_of is.object.hall.object) _ is.is.seats is.is.calls _)) old new said added is.only
 sees place insides.List old new said added (people, now, is) =

@@ -42,6 +42,7 @@ use Rattle.client_core.specs.Custody.{not_held_text}
 use Rattle.client_core.specs.Deeds.{Texts, OnlyTold}
 use Rattle.client_core.specs.Held.{is_some}
 use Rattle.client_core.specs.State.{Peer, State, one_text, opened_at, opened_in, opening, session_by, told_to, who_in, waits_at, who_at, with_object}
+use Rattle.client_core.specs.declared.last.LastCall.{LastCall}
 use Rattle.client_core.specs.ToldInside.{IsWhy, state_by}
 use Rattle.history_law.specs.Said.{Account}
 use Rattle.history_law.specs.Asked.{ClientHas, IsHere}
@@ -169,13 +170,13 @@ cancel_quiet place number old new said added (inr (inl is)) =
     only_quiet place (cancelled_line number (cancel_name is.answer)) old new said added (cancelled_quiet number (cancel_name is.answer)) is.only
 cancel_quiet place number old new said added (inr (inr is)) = refused_quiet place old new said added is
 
-why_quiet : (object : Scene) (number : ℕ) (text : List ℕ) → IsWhy object number text → IsQuiet text
-why_quiet object number text (inl is) = subst IsQuiet (sym is.text_is) (quiet_by 119 _ (λ e. omega (arith, e)) (λ e. omega (arith, e)) (_, refl) (why_plain (object_of object.hall.object) number is.whys))
-why_quiet object number text (inr is) = subst IsQuiet (sym is.text_is) (quiet_by 119 _ (λ e. omega (arith, e)) (λ e. omega (arith, e)) (_, refl) (state_plain number (state_by (is_given object number))))
+why_quiet : (object : Scene) (rows : List (List (Option LastCall))) (number : ℕ) (text : List ℕ) → IsWhy object rows number text → IsQuiet text
+why_quiet object rows number text (inl is) = subst IsQuiet (sym is.text_is) (quiet_by 119 _ (λ e. omega (arith, e)) (λ e. omega (arith, e)) (_, refl) (why_plain (object_of object.hall.object) number is.nodes))
+why_quiet object rows number text (inr is) = subst IsQuiet (sym is.text_is) (quiet_by 119 _ (λ e. omega (arith, e)) (λ e. omega (arith, e)) (_, refl) (state_plain number (state_by (is_given object number))))
 
 pub inside_quiet : (place : ℕ) (sight : Sight) (old new : State) (said added : Texts) → AnswersInside place sight old said added new → AreQuiet said
 inside_quiet place sight old new said added (inr is) = refused_quiet place old new said added is
-inside_quiet place (insides.Why number) old new said added (inl (people, now, is)) = only_quiet place is.text old new said added (why_quiet is.object number is.text is.is) is.only
+inside_quiet place (insides.Why number) old new said added (inl (people, now, is)) = only_quiet place is.text old new said added (why_quiet is.object _ number is.text is.is) is.only
 inside_quiet place (insides.Who from) old new said added (inl (people, now, is)) =
     only_quiet place is.text old new said added
     (subst IsQuiet (sym is.is.text_is) (quiet_by 119 _ (λ e. omega (arith, e)) (λ e. omega (arith, e)) (_, refl) (who_plain (object_of is.object.hall.object) _ is.is.seats is.is.calls _))) is.only

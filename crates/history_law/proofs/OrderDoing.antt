@@ -40,6 +40,7 @@ use Rattle.client_core.specs.Asked.{OpensBare, OpensAs, Opens, GetsNumber, Sits,
 use Rattle.client_core.specs.Custody.{not_held_text}
 use Rattle.client_core.specs.Deeds.{Texts, OnlyTold}
 use Rattle.client_core.specs.Gone.{SeatsOne, Frees}
+use Rattle.client_core.specs.declared.last.LastCall.{LastCall}
 use Rattle.client_core.specs.ToldInside.{IsWhy, state_by, form_at, object_in}
 use Rattle.client_core.specs.State.{Peer, State, change, changed, counted, nobody, opened_at, opened_in, opening, session_by, told_to, who_at, who_in}
 use Rattle.history_law.proofs.Going.{at_one, both}
@@ -241,9 +242,9 @@ keyed_end (keys.Waits number) new = plain_end (keyed_text (keys.Waits number)) (
 keyed_end (keys.Refused fault) new = plain_end (keyed_text (keys.Refused fault)) (refusal_plain (lines.Unkeyed fault) tt)
 
 -- what is told to one that asks to see something
-why_none : (object : Scene) (number : ℕ) (text : List ℕ) → IsWhy object number text → SaysNoReply text
-why_none object number text (inl is) = subst SaysNoReply (sym is.text_is) (why_plain (object_of object.hall.object) number is.whys)
-why_none object number text (inr is) = subst SaysNoReply (sym is.text_is) (state_plain number (state_by (is_given object number)))
+why_none : (object : Scene) (rows : List (List (Option LastCall))) (number : ℕ) (text : List ℕ) → IsWhy object rows number text → SaysNoReply text
+why_none object rows number text (inl is) = subst SaysNoReply (sym is.text_is) (why_plain (object_of object.hall.object) number is.nodes)
+why_none object rows number text (inr is) = subst SaysNoReply (sym is.text_is) (state_plain number (state_by (is_given object number)))
 
 pub inside_voice : (c n place : ℕ) (sight : Sight) (Is : Part → Type 0) (old new : State) (said added : Texts) (t : Talk) (lines : List (List ℕ × LineEnd)) (ok : List ℕ → Type 0) → Lead c n place old Is t lines ok →
     ((text : List ℕ) → SaysNoReply text → ok text) → AnswersInside place sight old said added new → Voice c Is no_ends said (StandsIn c n new) t lines
@@ -252,7 +253,7 @@ inside_voice c n place sight Is old new said added t lines ok lead fits (inr is)
     let plain = hinted_plain is.line is.is is.hint in
     only_voice c n place text Is old new said added t lines ok lead (fits text plain) (plain_end text plain) is.only
 inside_voice c n place (insides.Why number) Is old new said added t lines ok lead fits (inl (people, now, is)) =
-    let plain = why_none is.object number is.text is.is in
+    let plain = why_none is.object _ number is.text is.is in
     only_voice c n place is.text Is old new said added t lines ok lead (fits is.text plain) (plain_end is.text plain) is.only
 inside_voice c n place (insides.Who from) Is old new said added t lines ok lead fits (inl (people, now, is)) =
     let plain : SaysNoReply is.text = subst SaysNoReply (sym is.is.text_is) (who_plain (object_of is.object.hall.object) _ is.is.seats is.is.calls _) in

@@ -6,7 +6,9 @@ use Rattle.apply_core.specs.declared.reply.Reply.TheVariants.{Done, Refused, Fai
 use Rattle.decl_core.specs.ObjectForm.{ObjectForm}
 use Rattle.stuck_core.specs.Lacks.{Why}
 use Rattle.stuck_core.specs.declared.why.CallStatus.{CallStatus}
-use Rattle.stuck_core.specs.Why.{state_line, why_text}
+use Rattle.stuck_core.specs.Why.{state_line}
+use Rattle.client_core.specs.declared.last.LastCall.{LastCall}
+use Rattle.client_core.specs.LastCalls.{filled_text}
 use Rattle.stuck_core.specs.Who.{Sitting, Refused as Waits}
 use Rattle.stuck_core.specs.List.{list_text}
 use Rattle.word_core.specs.Answers.{kept_line, cancelled_line, finished_line}
@@ -174,8 +176,8 @@ waiting_plain n = says_none_again 119 (kept_line (codes "waiting") n) _ of_w ref
 pub gone_plain : (n : ℕ) → SaysNoReply (kept_line (codes "cancelled") n)
 gone_plain n = says_none_again 99 (kept_line (codes "cancelled") n) _ of_c refl
 
-pub why_plain : (o : ObjectForm) (n : ℕ) (whys : List Why) → SaysNoReply (why_text o n whys [])
-why_plain o n whys = says_none 119 (why_text o n whys []) of_w (_, refl)
+pub why_plain : (o : ObjectForm) (n : ℕ) (nodes : List (Why × List LastCall)) → SaysNoReply (filled_text o n nodes)
+why_plain o n nodes = says_none 119 (filled_text o n nodes) of_w (_, refl)
 
 pub state_plain : (n : ℕ) (state : CallStatus) → SaysNoReply (state_line n state)
 state_plain n state = says_none 119 (state_line n state) of_w (_, refl)

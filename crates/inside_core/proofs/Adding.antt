@@ -13,7 +13,7 @@ use Rattle.stuck_core.specs.Who.{Sitting, Refused, seat_line, waits_line, who_li
 use Rattle.client_core.specs.ToldInside.{Crowd, IsSeatOf, AreSeats, IsWaitOf, AreWaits, AreSitting, last_told, is_between, waiting_in, IsWho}
 use Rattle.inside_core.specs.Adds.{AddsSeats, AddsWaits, AddsHeldBy}
 
-flat_map-append : {X Y : Type 0} (f : X → List Y) (xs ys : List X) → flat_map f (xs ++ ys) ≡ flat_map f xs ++ flat_map f ys
+pub flat_map-append : {X Y : Type 0} (f : X → List Y) (xs ys : List X) → flat_map f (xs ++ ys) ≡ flat_map f xs ++ flat_map f ys
 flat_map-append f [] ys = refl
 flat_map-append f (x ∷ xs) ys = ap (λ l. f x ++ l) (flat_map-append f xs ys) ∙ sym (append_assoc (f x) (flat_map f xs) (flat_map f ys))
 
@@ -49,7 +49,7 @@ sum-append f (x ∷ xs) ys =
     ∙ ap (λ n. n + sum (map f ys)) (sym (sum_first (f x) (map f xs)))
 
 -- two pieces, one behind the other
-added_then : {X : Type 0} (f : X → List ℕ) (xs ys : List X) (before mid after : List ℕ) → mid ≡ before ++ flat_map f xs → after ≡ mid ++ flat_map f ys →
+pub added_then : {X : Type 0} (f : X → List ℕ) (xs ys : List X) (before mid after : List ℕ) → mid ≡ before ++ flat_map f xs → after ≡ mid ++ flat_map f ys →
     after ≡ before ++ flat_map f (xs ++ ys)
 added_then f xs ys before mid after one two =
     two ∙ ap (λ l. l ++ flat_map f ys) one ∙ append_assoc before (flat_map f xs) (flat_map f ys) ∙ ap (λ l. before ++ l) (sym (flat_map-append f xs ys))

@@ -4,6 +4,7 @@ pub mod Listing
 pub mod People
 pub mod Sitting
 pub mod Whys
+mod LastOnes
 mod Looking
 mod Counting
 mod StatusAdding

@@ -1,6 +1,7 @@
 pub mod Adds
 pub mod Looks
 pub mod Tallies
+pub mod LastRows
 pub mod Laws
 pub mod Metrics
 pub mod Labels

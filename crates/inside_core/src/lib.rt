@@ -6,7 +6,7 @@
 //! refused.
 //!
 //! `tallies::Tallies` has of each object how many calls were taken, and of each of its operations how many calls ended,
-//! by how: all since it was made. `laws` says that the counts are those of the calls that ran, and that their sum grows
+//! by how: all since it was made; `last_calls` has the last 16 of each operation, of which `why` tells. `laws` says that the counts are those of the calls that ran, and that their sum grows
 //! as the history does.
 //!
 //! A status is a text in the format of Prometheus. `server::push_server` writes what is outside of a server's objects:
@@ -21,6 +21,7 @@ mod counted;
 mod durations;
 mod held;
 pub mod labels;
+pub mod last_calls;
 pub mod laws;
 pub mod list;
 mod longest;

@@ -1,8 +1,10 @@
 //! Counts of calls.
 
-ghost use Rattle.std.specs.Prelude.{◌≡◌, ◌<◌, ◌≤◌, ◌==◌, ℕ, if◌then◌else◌, length, slice_get, IfOk, OnOk};
+ghost use Rattle.std.specs.Prelude.{◌≡◌, ◌<◌, ◌≤◌, ◌==◌, ◌++◌, ◌∷◌, [], ℕ, if◌then◌else◌, length, slice_get, IfOk, OnOk};
+ghost use Rattle.inside_core.specs.LastRows.{no_calls};
 ghost use Rattle.inside_core.specs.Tallies.{nones, next, more, counted, counted_all, ends_of, taken_of, HasOneMore};
 
+use crate::last_calls::{LastOfObject, none_of_all};
 use apply_core::reply::Reply;
 use live_core::call::Ran;
 use live_core::live::Taken;
@@ -23,11 +25,12 @@ pub struct ObjectTally {
     pub(crate) ends: Vec<CallEnds>,
 }
 
-/// The counts of objects.
+/// The counts of objects, and the last calls that ended of each.
 #[derive(Drop)]
 pub struct Tallies {
     alloc: Global,
     pub(crate) objects: Vec<ObjectTally>,
+    pub(crate) last: Vec<LastOfObject>,
 }
 
 const NONE: CallEnds = CallEnds {
@@ -108,19 +111,23 @@ fn count_at(objects: &mut Vec<ObjectTally>, at: usize, taken: &Taken)
 impl Tallies {
     /// Counts of no object.
     pub fn new(alloc: Global) -> Tallies
-        ensures { length result.objects.items ≡ 0 }
+        ensures objects { length result.objects.items ≡ 0 }
+        ensures last { result.last.items ≡ [] }
     {
         Tallies {
             alloc,
             objects: Vec::new(alloc),
+            last: Vec::new(alloc),
         }
     }
 
     /// One object more, of so many operations, of which no call was taken. The error is that memory was refused.
     pub fn add(&mut self, operations: usize) -> Result<(), AllocError>
-        ensures { OnOk result (HasOneMore operations self.old.objects.items self.new.objects.items) }
+        ensures counts { OnOk result (HasOneMore operations self.old.objects.items self.new.objects.items) }
+        ensures last { OnOk result (self.new.last.items ≡ self.old.last.items ++ no_calls operations ∷ []) }
     {
         let ends = nones(self.alloc, operations)?;
+        self.last.push(none_of_all(self.alloc, operations)?)?;
         self.objects.push(ObjectTally { taken: 0, ends })?;
         Ok(())
     }
@@ -134,6 +141,7 @@ impl Tallies {
             ≡ (if at == k then next (taken_of (slice_get self.old.objects.items k))
             else taken_of (slice_get self.old.objects.items k)) }
         ensures none { length self.old.objects.items ≤ at → self.new ≡ self.old }
+        ensures last { self.new.last ≡ self.old.last }
     {
         if at < self.objects.len() {
             count_at(&mut self.objects, at, taken);

@@ -17,6 +17,8 @@ use Rattle.client_core.specs.State.{State, opened_at}
 use Rattle.client_core.specs.Deeds.{Texts, OnlyTold}
 use Rattle.client_core.specs.Refusals.{IsRefusal}
 use Rattle.client_core.specs.Asked.{IsRefused, AnswersInside}
+use Rattle.client_core.specs.declared.last.LastCall.{LastCall}
+use Rattle.client_core.specs.LastCalls.{rows_in}
 use Rattle.client_core.specs.ToldInside.{Crowd, Known, IsWhy, IsWho, IsList, object_in}
 use Rattle.table_core.specs.Brings.{Brings}
 use Rattle.table_core.specs.Looks.{LooksOf}
@@ -56,7 +58,7 @@ pub show_told : (a b : Post) (old new : State) (place : ℕ) (text : List ℕ) �
 show_told a b old new place text brings = brings_as (OnlyTold place text) (ShowsText place text) a b old new (λ said added only. inl only) brings
 
 pub why_shown : (a b : Post) (old new : State) (people : List Person) (known : Known) (place number : ℕ) (opened : OpenObject) (text : Result (Vec ℕ) AllocError) → Some opened ≡ opened_at old place →
-    IfOk text (λ t. (object : Scene) × (slice_get old.objects opened.object ≡ Some object) × IsWhy object number t.items) →
+    IfOk text (λ t. (object : Scene) × (slice_get old.objects opened.object ≡ Some object) × IsWhy object (rows_in (slice_get known.last opened.object)) number t.items) →
     Brings (Shows place text) a old b new → Brings (LooksOf people known place (insides.Why number)) a old b new
 why_shown a b old new people known place number opened (Ok t) by (object, there, is) brings =
     brings_as (ShowsText place t.items) (LooksOf people known place (insides.Why number)) a b old new
@@ -85,10 +87,10 @@ list_shown a b old new people known place at (Err e) same is brings =
     brings_as (IsRefused place) (LooksOf people known place insides.List) a b old new (λ said added refused. inr refused) brings
 
 -- what is said of the object at a place
-pub why_there : (objects : List Scene) (at number : ℕ) (object : Scene) (text : Result (Vec ℕ) AllocError) → slice_get objects at ≡ Some object →
-    IfOk text (λ t. IsWhy object number t.items) → IfOk text (λ t. (x : Scene) × (slice_get objects at ≡ Some x) × IsWhy x number t.items)
-why_there objects at number object (Ok t) there is = (object, there, is)
-why_there objects at number object (Err e) there is = tt
+pub why_there : (objects : List Scene) (rows : List (List (Option LastCall))) (at number : ℕ) (object : Scene) (text : Result (Vec ℕ) AllocError) → slice_get objects at ≡ Some object →
+    IfOk text (λ t. IsWhy object rows number t.items) → IfOk text (λ t. (x : Scene) × (slice_get objects at ≡ Some x) × IsWhy x rows number t.items)
+why_there objects rows at number object (Ok t) there is = (object, there, is)
+why_there objects rows at number object (Err e) there is = tt
 
 pub who_there : (objects : List Scene) (crowd : Crowd) (at from : ℕ) (object : Scene) (known holding : Option Holding) (text : Result (Vec ℕ) AllocError) →
     slice_get objects at ≡ Some object → holding ≡ known → IfOk text (λ t. IsWho crowd object holding from t.items) →

@@ -7,9 +7,9 @@ use Rattle.client_core.specs.Asked.{IsRefused}
 use Rattle.client_core.specs.ToldInside.{Known, SeesOf}
 use Rattle.table_core.specs.declared.table.Table.{Table}
 
--- the second, and what a table knows of what is held of its objects
+-- the second, what a table knows of what is held of its objects, and which calls of them ended last
 abbrev pub known_of : Table → Known
-known_of t = record { now = t.second; custody = t.custody }
+known_of t = record { now = t.second; custody = t.custody; last = t.tallies.last.items }
 
 -- it is told that, where these clients are there, and this is known of what is held, or is refused
 abbrev pub LooksOf : List Person → Known → ℕ → Sight → Deed

@@ -7,6 +7,7 @@ ghost use Rattle.std.specs.Prelude.{◌≡◌, ◌<◌, ◌++◌, [], List, Bool
 ghost use Rattle.live_core.specs.Scene.{Scene};
 ghost use Rattle.client_core.specs.declared.client.OpenObject.{OpenObject as AnOpened};
 ghost use Rattle.keep_loop.specs.Posts.{Tells};
+ghost use Rattle.inside_core.specs.LastRows.{KeepsLast};
 ghost use Rattle.inside_core.specs.Tallies.{CountsTaken};
 ghost use Rattle.client_core.specs.Asked.{Opens, Follows};
 ghost use Rattle.client_core.specs.Custody.{Custody, HasNone, not_held_text};
@@ -32,6 +33,7 @@ use client_core::holding::OwedCall;
 use client_core::one::HoldNote;
 use client_core::ticking::Ticking;
 use guest_core::answer::SubmitFault;
+use inside_core::tallies::Tallies;
 use keep_loop::Post;
 use live_core::call::Ran;
 use live_core::hosted::Hosted;
@@ -105,6 +107,18 @@ fn before<'a>(text: &'a [u8], last: &[u8]) -> Option<&'a [u8]>
     Some(front)
 }
 
+// Calls of the object at a place ran: they are the last ones of their operations.
+fn keep_last_at(tallies: &mut Tallies, objects: &[Hosted], at: usize, ran: &[Ran])
+    ensures last { (object : Scene) → slice_get objects.now at ≡ Some object → at < length tallies.old.last.items
+        → KeepsLast at object ran.now tallies.old.last.items tallies.new.last.items }
+    ensures counts { tallies.new.objects ≡ tallies.old.objects }
+{
+    match objects.get(at) {
+        None => {}
+        Some(object) => tallies.keep_last(at, object, ran),
+    }
+}
+
 impl Table {
     // Whether the session of one may not make a call of the object that it has opened, by what is held.
     fn is_unheld(&self, opened: OpenObject, operation: Option<OpId>, arguments: &[Datum]) -> bool
@@ -170,8 +184,12 @@ impl Table {
             → Follows at object taken.now.ran.items (seen self.old) (seen self.new)) }
         ensures counts { OnOk result (at < length self.old.tallies.objects.items
             → CountsTaken at taken.now self.old.tallies.objects.items self.new.tallies.objects.items) }
+        ensures last { OnOk result ((object : Scene) → slice_get self.old.objects.items at ≡ Some object
+            → at < length self.old.tallies.last.items
+            → KeepsLast at object taken.now.ran.items self.old.tallies.last.items self.new.tallies.last.items) }
     {
         self.tallies.count(at, taken);
+        keep_last_at(&mut self.tallies, &self.objects, at, &taken.ran);
         self.custody
             .ended(at, &self.objects, self.second, &taken.ran)?;
         Ok(())
@@ -562,6 +580,9 @@ impl Table {
             → Brings (EndsAll at object taken.now.ran.items) post.old (seen self.old) post.new (seen self.new)) }
         ensures counts { OnOk result (at < length self.old.tallies.objects.items
             → CountsTaken at taken.now self.old.tallies.objects.items self.new.tallies.objects.items) }
+        ensures last { OnOk result ((object : Scene) → slice_get self.old.objects.items at ≡ Some object
+            → at < length self.old.tallies.last.items
+            → KeepsLast at object taken.now.ran.items self.old.tallies.last.items self.new.tallies.last.items) }
     {
         self.all_ended(at, &taken.ran, post)?;
         self.follow(at, taken)?;

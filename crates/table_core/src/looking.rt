@@ -6,6 +6,7 @@ ghost use Rattle.client_core.specs.declared.ask.Sight.TheVariants as insides;
 ghost use Rattle.client_core.specs.People.{people_of};
 ghost use Rattle.inside_core.specs.Adds.{crowd_of};
 ghost use Rattle.client_core.specs.Asked.{AnswersInside};
+ghost use Rattle.client_core.specs.LastCalls.{rows_in};
 ghost use Rattle.client_core.specs.ToldInside.{IsWhy, IsWho, object_in};
 ghost use Rattle.client_core.specs.State.{opened_in, peers_of};
 ghost use Rattle.table_core.specs.Brings.{Brings};
@@ -21,6 +22,7 @@ use client_core::ask::Sight;
 use client_core::clients::ClientPlaces;
 use guest_core::answer::SubmitFault;
 use inside_core::list::list_of;
+use inside_core::tallies::Tallies;
 use inside_core::who::{Whom, who_of};
 use inside_core::why::why_of;
 use keep_loop::Post;
@@ -32,15 +34,16 @@ use std::alloc::{AllocError, Global};
 fn why_at(
     alloc: Global,
     objects: &[Hosted],
+    tallies: &Tallies,
     at: usize,
     told: u64,
 ) -> Option<Result<Vec<u8>, AllocError>>
     ensures { IfSome result (λ r. IfOk r (λ text. (object : Scene) × (slice_get objects.now at ≡ Some object)
-        × IsWhy object told text.items)) }
+        × IsWhy object (rows_in (slice_get tallies.now.last.items at)) told text.items)) }
 {
     match objects.get(at) {
         None => None,
-        Some(object) => Some(why_of(alloc, object, told)),
+        Some(object) => Some(why_of(alloc, object, tallies.last(at), told)),
     }
 }
 
@@ -120,7 +123,13 @@ impl Table {
             self.refuse(place, LineRefusal::NotOpen, post)?;
             return Ok(());
         };
-        match why_at(self.alloc, &self.objects, opened.object, told) {
+        match why_at(
+            self.alloc,
+            &self.objects,
+            &self.tallies,
+            opened.object,
+            told,
+        ) {
             None => {
                 self.refuse(place, LineRefusal::NoObject, post)?;
                 Ok(())

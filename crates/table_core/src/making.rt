@@ -8,6 +8,7 @@ ghost use Rattle.client_core.specs.declared.client.OpenObject.{OpenObject as AnO
 ghost use Rattle.live_core.specs.declared.hosted.KeyState.TheVariants as keys;
 ghost use Rattle.live_core.specs.Scene.{Scene, told_of};
 ghost use Rattle.keep_loop.specs.Posts.{Tells};
+ghost use Rattle.inside_core.specs.LastRows.{KeepsLast};
 ghost use Rattle.inside_core.specs.Tallies.{CountsTaken};
 ghost use Rattle.client_core.specs.Asked.{Sits, Ends, AllEnd, AnswersCall, AnswersCancel, keyed_text};
 ghost use Rattle.client_core.specs.Deeds.{OnlyTold};
@@ -304,6 +305,9 @@ impl Table {
             → Brings (TellsAll place seat taken.now object) post.old (seen self.old) post.new (seen self.new)) }
         ensures counts { OnOk result (seat.object < length self.old.tallies.objects.items
             → CountsTaken seat.object taken.now self.old.tallies.objects.items self.new.tallies.objects.items) }
+        ensures last { OnOk result ((object : Scene) → slice_get self.old.objects.items seat.object ≡ Some object
+            → seat.object < length self.old.tallies.last.items
+            → KeepsLast seat.object object taken.now.ran.items self.old.tallies.last.items self.new.tallies.last.items) }
     {
         self.taken(place, seat, taken, post)?;
         self.follow(seat.object, taken)?;

@@ -1,20 +1,8 @@
-use Rattle.std.proofs.Common.{◌∙◌, ap, subst, List, [], ◌++◌}
-use Rattle.decl_core.specs.ObjectMap.{object_of}
-use Rattle.stuck_core.specs.declared.reason.Reason.{Reason}
-use Rattle.stuck_core.specs.ReasonViews.{whys_of}
-use Rattle.stuck_core.specs.Why.{why_text}
-use Rattle.client_core.specs.ToldInside.{AreWhys}
+use Rattle.inside_core.proofs.LastOnes.{says_why}
 use Rattle.inside_core.proofs.why.say_why.Goals as goal
 
 pub returns : goal.returns
-returns c = record {
-  place = c.requires.there.0;
-  call = c.args.call.now;
-  there = c.requires.there.1;
-  told_is = c.requires.told;
-  whys = whys_of c.in_ok-reasons.reasons.items;
-  are = subst (λ op. AreWhys c.args.object.now op (whys_of c.in_ok-reasons.reasons.items)) c.operation.ensures c.in_ok-reasons.ensures;
-  text_is = c.in_ok-push_reasons.ensures
-      ∙ ap (λ l. l ++ why_text (object_of c.args.object.now.hall.object) c.args.told (whys_of c.deref.result.now) []) c.new-out.ensures.items
-      ∙ ap (λ (l : List Reason). why_text (object_of c.args.object.now.hall.object) c.args.told (whys_of l) []) c.deref.ensures.value;
-}
+returns c =
+    says_why c.args.object.now c.form_of-form.result.now c.args.rows.now c.args.told c.requires.there.0 c.args.call.now c.operation.result c.deref.result.now c.in_ok-reasons.reasons.items
+    c.new-out.result.items c.push_reasons.new.out.items c.requires.there.1 c.requires.told c.form_of-form.ensures c.deref.ensures.value c.new-out.ensures.items c.operation.ensures
+    c.in_ok-reasons.ensures c.in_ok-push_reasons.ensures

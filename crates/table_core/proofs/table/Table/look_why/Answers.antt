@@ -4,6 +4,7 @@ use Rattle.client_core.specs.declared.ask.Sight.TheVariants as insides
 use Rattle.session_text.specs.declared.line.ReplyLine.TheVariants as lines
 use Rattle.session_text.specs.declared.line.LineRefusal.TheVariants as refusals
 use Rattle.live_core.specs.Scene.{Scene}
+use Rattle.client_core.specs.LastCalls.{rows_in}
 use Rattle.client_core.specs.ToldInside.{IsWhy}
 use Rattle.client_core.specs.People.{people_of}
 use Rattle.table_core.specs.Looks.{known_of}
@@ -22,6 +23,6 @@ returns-in_ok-refuse-in-None c = look_refused c.args.post.now c.refuse-in-None.n
 pub returns-in_ok-show-in-Some-why_at : goal.returns-in_ok-show-in-Some-why_at
 returns-in_ok-show-in-Some-why_at c = why_shown c.args.post.now c.show.new.post (seen c.args.self.now) (seen c.show.new.self) (people_of c.args.self.now.clients) (known_of c.args.self.now) c.args.place c.args.told c.in-Some.opened
     c.in-Some-why_at.text c.in-Some.ensures
-    (subst (λ (l : List Scene). IfOk c.in-Some-why_at.text (λ t. (x : Scene) × (slice_get l c.in-Some.opened.object ≡ Some x) × IsWhy x c.args.told t.items))
+    (subst (λ (l : List Scene). IfOk c.in-Some-why_at.text (λ t. (x : Scene) × (slice_get l c.in-Some.opened.object ≡ Some x) × IsWhy x (rows_in (slice_get c.args.self.now.tallies.last.items c.in-Some.opened.object)) c.args.told t.items))
     c.deref.ensures.value c.in-Some-why_at.ensures)
     c.in_ok-show-in-Some-why_at.ensures
