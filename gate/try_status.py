@@ -34,6 +34,7 @@ from collections.abc import Callable, Iterable, Iterator, Mapping
 from typing import Any
 
 from gate import served, shown, sums
+from gate.crowd import LONG
 from gate.fakes import Fake, FakeServer
 from gate.kept import Mounted, Server
 from gate.served import free_port, resets
@@ -631,6 +632,160 @@ def a_log_of_text(folder: pathlib.Path) -> None:
     check((server.folder / "status.prom").read_text(), "of another\n", "a file that is no status of the server")
 
 
+LEASES = f"""object slots;
+  path 1:(grab, free, lock, unlock, [name]) end;
+  var locked : array [1] of integer;
+  entry procedure grab(who : text); begin end;
+  entry procedure free(who : text); begin if locked[0] = 1 then refuse('locked') end;
+  entry procedure lock; begin locked[0] := 1 end;
+  entry procedure unlock; begin locked[0] := 0 end;
+  entry function name : text; begin name := '{LONG}' end;
+  hold grab until free;
+end;
+"""
+# What a client says, and no line of a log may have.
+SECRET = "Zq1secret"
+
+
+def told_of(server: Server, event: str) -> list[dict[str, Any]]:
+    """What a log of JSON tells of an event, in order."""
+    found = [json.loads(line) for line in server.error().splitlines() if line.startswith("{")]
+    return [{key: it[key] for key in it if key not in ("time", "event")} for it in found if it["event"] == event]
+
+
+def seconds_of(server: Server, event: str) -> list[float]:
+    """When it tells of it."""
+    found = [json.loads(line) for line in server.error().splitlines() if line.startswith("{")]
+    return [datetime.datetime.fromisoformat(it["time"].replace("Z", "+00:00")).timestamp() for it in found if it["event"] == event]
+
+
+def is_seldom(server: Server, event: str) -> None:
+    """There is at most one such line in each second of the server: no three of them within one."""
+    times = seconds_of(server, event)
+    holds(all(last - first > 0.9 for first, last in zip(times, times[2:])), f"{event} is told too often: {times}")
+
+
+def grabs(it: Talk, other: Talk) -> dict[str, Any]:
+    """What a log tells of a call that is held, once it is given back. The other one sees the session that holds it."""
+    it.say(f"call grab '{SECRET}'")
+    number = int(it.hear().split(" ")[1])
+    check(it.hear(), f"done {number}")
+    other.say("who")
+    rows = [other.hear().split(" ") for _ in range(int(other.hear().split(" ")[1]))]
+    session, = [int(row[2][1:]) for row in rows if row[:2] == ["holds", str(number)]]
+    return {"level": "info", "object": "slots", "number": number, "held": "grab", "undo": "free", "session": session}
+
+
+def what_is_given_back_is_logged(folder: pathlib.Path) -> None:
+    """For one that is gone: at once, behind --away, where it is refused, behind a crash, and at an end. Nothing that a client
+    said stands there."""
+    server = Server(folder, LEASES, "--log", "json", "--away", "1").start()
+    with Talk(server, "open slots", "opened slots") as other:
+        bob, ann = Talk(server, "open slots", "opened slots"), Talk(server, "open slots as ann", "opened slots next 1")
+        first, second, third = grabs(bob, other), grabs(bob, other), grabs(ann, other)
+        check(ann.calls(f"free '{SECRET}'"), ["done"])
+        check(told_of(server, "gave-back"), [], "what is told of who is there")
+        third = grabs(ann, other)
+        bob.close()
+        until(lambda: len(told_of(server, "gave-back")) == 2, "nothing is told of one without a name")
+        check(told_of(server, "gave-back"), [second, first], "what is told of one without a name")
+        ann.close()
+        until(lambda: len(told_of(server, "gave-back")) == 3, "nothing is told of one with a name")
+        check(told_of(server, "gave-back")[2], third | {"name": "ann"}, "what is told of one with a name")
+        carl = Talk(server, "open slots", "opened slots")
+        fourth = grabs(carl, other)
+        check(other.calls("lock"), ["done"])
+        carl.close()
+        until(lambda: len(told_of(server, "gave-back")) == 5, "it is not tried twice")
+        check(other.calls("unlock"), ["done"])
+        until(lambda: len(told_of(server, "gave-back")) == 6, "it is not given back")
+        refused = [fourth | {"level": "warn", "again": seconds} for seconds in (1, 2)]
+        check(told_of(server, "gave-back")[3:], [*refused, fourth], "what is told of one that was refused")
+        dora = Talk(server, "open slots", "opened slots")
+        fifth = grabs(dora, other)
+        server.revive()
+        until(lambda: told_of(server, "gave-back") == [fifth], "nothing is told behind a crash")
+    with Talk(server, "open slots", "opened slots") as other, Talk(server, "open slots", "opened slots") as dora:
+        sixth = grabs(dora, other)
+        check(server.end()[1], 0, "the status")
+        check(told_of(server, "gave-back"), [fifth, sixth], "what is told at an end")
+    holds(SECRET not in server.error(), "an argument stands in the log")
+
+
+def more_is_given_back_than_is_told(folder: pathlib.Path) -> None:
+    """In one turn: 256 lines are told, the newest, and how many are left out."""
+    server = Server(folder, LEASES, "--log", "json").start()
+    with Talk(server, "open slots", "opened slots") as it:
+        check(it.calls(*["grab 'a'"] * 300), ["done"] * 300)
+    until(lambda: len(told_of(server, "gave-back")) == 256, "it is not told")
+    check(told_of(server, "left-out"), [{"level": "warn", "of": "gave-back", "lines": 44}], "what is left out")
+    check([it["number"] for it in told_of(server, "gave-back")], list(range(256, 0, -1)), "what is told")
+    check(server.end()[1], 0, "the status")
+
+
+def one_that_reads_nothing_is_logged(folder: pathlib.Path) -> None:
+    """Once each, in seconds of their own, with what it is owed."""
+    server = Server(folder, LEASES, "--log", "json").start()
+    deaf = [Talk(server, "open slots", "opened slots", seconds=0.5, buffer=4096) for _ in range(2)]
+    for it in deaf:
+        with contextlib.suppress(TimeoutError):
+            while True:
+                it.send(b"call name\n" * 400)
+    until(lambda: len(told_of(server, "stalled")) == 2, "it is not told")
+    time.sleep(2.5)
+    found = told_of(server, "stalled")
+    check([(it["level"], it["object"], it["owed"] >= 65_536) for it in found], [("warn", "slots", True)] * 2, "who reads nothing")
+    holds(found[0]["connection"] != found[1]["connection"], "one is told twice")
+    with Talk(server, "open slots", "opened slots") as it:
+        check(it.calls("lock"), ["done"])
+    for it in deaf:
+        it.close()
+    check(server.end()[1], 0, "the status")
+    is_seldom(server, "stalled")
+
+
+def a_line_that_asks_for_nothing_is_logged(folder: pathlib.Path) -> None:
+    """The newest, once a second, by the word that the client hears, and how many there were. None of its letters stand there."""
+    server, said = Server(folder, SOURCE, "--log", "json").start(), 0
+    with Talk(server, "open cell", "opened cell") as it:
+        end = time.monotonic() + 2.5
+        while time.monotonic() < end:
+            it.say(f"{SECRET} {said}")
+            check(it.hear().split(" ")[:2], ["no", "BadLine"])
+            said += 1
+            time.sleep(0.01)
+        until(lambda: sum(one["lines"] for one in told_of(server, "bad-line")) == said, "not all are told of")
+    found = told_of(server, "bad-line")
+    connection = found[0]["connection"]
+    for one in found:
+        lines = one.pop("lines")
+        check(one, {"level": "warn", "connection": connection, "object": "cell", "word": "BadLine"})
+        holds(lines > 0, "a line tells of none")
+    holds(len(found) < 6, f"{len(found)} lines in 3 s")
+    is_seldom(server, "bad-line")
+    for line in ("GET / HTTP/1.1", SECRET * 600):
+        with Talk(server) as it:
+            it.say(line)
+            word = it.hear().split(" ")[1]
+            until(lambda: told_of(server, "bad-line")[-1].get("word") == word and "object" not in told_of(server, "bad-line")[-1], f"{word} is not told")
+    check(server.end()[1], 0, "the status")
+    holds(SECRET not in server.error() and "HTTP" not in server.error(), "what a client said stands in the log")
+
+
+def these_as_text(folder: pathlib.Path) -> None:
+    """The same lines for people."""
+    server = Server(folder, LEASES, "--log", "text").start()
+    with Talk(server, "open slots", "opened slots") as it:
+        it.say("nothing")
+        it.hear()
+        check(it.calls("grab 'a'"), ["done"])
+    until(lambda: "gave-back" in server.error(), "it is not told")
+    lines = [MOMENT.sub("T", it) for it in server.error().splitlines()]
+    holds(re.fullmatch(r'T WARN bad-line connection=\d+ object="slots" word="BadLine" lines=1', lines[2]), f"the log is {lines}")
+    check(lines[3:], ['T INFO gave-back object="slots" number=1 held="grab" undo="free" session=1'], "the log")
+    check(server.end()[1], 0, "the status")
+
+
 def a_new_epoch(folder: pathlib.Path) -> None:
     """Where none can begin a line says so, and the counts go on over the one that does."""
     server = Server(folder, SOURCE, "--status", "1", "--log", "json")
@@ -929,7 +1084,8 @@ def what_is_asked_of_prometheus(folder: pathlib.Path) -> None:
 INSIDE = (who_is_inside, no_server_holds_up_the_page, what_is_said_is_escaped, many_sessions, nodes_are_those_of_check, what_is_asked_of_prometheus,
           what_it_imports_is_released)
 SERVED = (numbers_are_those_of_the_clients, what_is_held_is_told, a_status_that_cannot_be_written, what_a_label_has_to_escape,
-          a_status_on_a_full_disk, a_log_of_json, a_log_of_text, a_new_epoch)
+          a_status_on_a_full_disk, a_log_of_json, a_log_of_text, what_is_given_back_is_logged, more_is_given_back_than_is_told,
+          one_that_reads_nothing_is_logged, a_line_that_asks_for_nothing_is_logged, these_as_text, a_new_epoch)
 
 
 def over_a_server(trial: Callable[[pathlib.Path], object], folder: pathlib.Path) -> str | None:

@@ -1,5 +1,7 @@
 -- One thing more of a list.
-use Rattle.std.proofs.Common.{◌≡◌, ℕ, ◌+◌, ◌<◌, List, [], ◌∷◌, ◌++◌, length, take, get_or, sym, ap, ◌∙◌, append_assoc}
+use Rattle.std.proofs.Common.{◌≡◌, ℕ, ◌+◌, ◌<◌, List, [], ◌∷◌, ◌++◌, length, take, get_or, sym, ap, refl, ◌∙◌, append_assoc}
+use Rattle.keep_log.specs.declared.line.LineForm.{LineForm}
+use Rattle.keep_log.specs.Lines.{Field, field_text, fields_text}
 use Rattle.std.specs.Prelude.{flat_map}
 use Rattle.std.proofs.lemmas.List.{take_more, append-nil}
 
@@ -25,3 +27,20 @@ pub three_parts : (a b c d x y v w : List ℕ) → b ≡ a ++ x → c ≡ b ++ y
 three_parts a b c d x y v w p q r =
     three a b c d x y (v ++ w) p q r
     ∙ ap (λ t. a ++ t) (sym (append_assoc (x ++ y) v w) ∙ ap (λ t. t ++ w) (append_assoc x y v))
+
+-- the fields of two lists, one behind the other
+fields_joined : (form : LineForm) (xs ys : List Field) → fields_text form (xs ++ ys) ≡ fields_text form xs ++ fields_text form ys
+fields_joined form [] ys = refl
+fields_joined form (x ∷ xs) ys =
+    ap (λ t. field_text form x ++ t) (fields_joined form xs ys) ∙ sym (append_assoc (field_text form x) (fields_text form xs) (fields_text form ys))
+
+pub fields_of_two : (form : LineForm) (a b c : List ℕ) (xs ys : List Field) → b ≡ a ++ fields_text form xs → c ≡ b ++ fields_text form ys →
+    c ≡ a ++ fields_text form (xs ++ ys)
+fields_of_two form a b c xs ys p q =
+    two a b c (fields_text form xs) (fields_text form ys) p q ∙ ap (λ t. a ++ t) (sym (fields_joined form xs ys))
+
+-- a line with these
+pub line_of_two : (form : LineForm) (a b c d e h z : List ℕ) (xs ys : List Field) → b ≡ a ++ h → c ≡ b ++ fields_text form xs →
+    d ≡ c ++ fields_text form ys → e ≡ d ++ z → e ≡ a ++ ((h ++ fields_text form (xs ++ ys)) ++ z)
+line_of_two form a b c d e h z xs ys p q r s =
+    three a b d e h (fields_text form (xs ++ ys)) z p (fields_of_two form b c d xs ys q r) s

@@ -2,11 +2,12 @@
 
 ghost use Rattle.std.specs.Prelude.{◌≡◌, OnOk, OnErr};
 ghost use Rattle.keep_log.specs.Told.{Tells, TellsFront};
-ghost use Rattle.keep_log.specs.Events.{begins, carries_on, changes, ends, fails, keeps, lacks, lets_go, notes, starts};
+ghost use Rattle.keep_log.specs.Events.{begins, carries_on, changes, ends, fails, gives_back, keeps, lacks, leaves_out, lets_go, mishears, notes, stalls, starts};
 
 use crate::event::{
-    LetGo, Work, push_begun, push_epoch, push_failed, push_let_go, push_no_epoch, push_no_status,
-    push_notice, push_recovered, push_start, push_stop,
+    BackLine, LetGo, Work, push_bad_line, push_begun, push_epoch, push_failed, push_gave_back,
+    push_left_out, push_let_go, push_no_epoch, push_no_status, push_notice, push_recovered,
+    push_stalled, push_start, push_stop,
 };
 use crate::line::LineForm;
 use crate::moment::moment_of;
@@ -150,6 +151,70 @@ impl<R: Clock, E: Write> Log<R, E> {
         let moment = moment_at(&self.clock);
         self.line.clear();
         let made = push_notice(&mut self.line, form, moment, said);
+        self.tell(made);
+    }
+
+    /// What a client held that is gone is given back, or could not be.
+    pub fn gave_back(&mut self, back: BackLine<'_>)
+        ensures { Tells self.old.form (E.contents self.old.errors) (E.contents self.new.errors)
+            (λ form moment. gives_back form moment back.entry) }
+    {
+        let Some(form) = self.form else {
+            return;
+        };
+        let moment = moment_at(&self.clock);
+        self.line.clear();
+        let made = push_gave_back(&mut self.line, form, moment, back);
+        self.tell(made);
+    }
+
+    /// So many lines of what was given back are left out.
+    pub fn left_out(&mut self, lines: u64)
+        ensures { Tells self.old.form (E.contents self.old.errors) (E.contents self.new.errors)
+            (λ form moment. leaves_out form moment lines) }
+    {
+        let Some(form) = self.form else {
+            return;
+        };
+        let moment = moment_at(&self.clock);
+        self.line.clear();
+        let made = push_left_out(&mut self.line, form, moment, lines);
+        self.tell(made);
+    }
+
+    /// A client reads nothing, and is owed so many bytes.
+    pub fn stalled(&mut self, connection: u64, object: &[u8], owed: u64)
+        ensures { Tells self.old.form (E.contents self.old.errors) (E.contents self.new.errors)
+            (λ form moment. stalls form moment connection object.now owed) }
+    {
+        let Some(form) = self.form else {
+            return;
+        };
+        let moment = moment_at(&self.clock);
+        self.line.clear();
+        let made = push_stalled(&mut self.line, form, moment, connection, object, owed);
+        self.tell(made);
+    }
+
+    /// A line was refused that asks for nothing, the last of so many.
+    pub fn bad_line(&mut self, connection: Option<u64>, object: &[u8], word: &[u8], lines: u64)
+        ensures { Tells self.old.form (E.contents self.old.errors) (E.contents self.new.errors)
+            (λ form moment. mishears form moment connection object.now word.now lines) }
+    {
+        let Some(form) = self.form else {
+            return;
+        };
+        let moment = moment_at(&self.clock);
+        self.line.clear();
+        let made = push_bad_line(
+            &mut self.line,
+            form,
+            moment,
+            connection,
+            object,
+            word,
+            lines,
+        );
         self.tell(made);
     }
 

@@ -36,7 +36,7 @@ pub mod uncalled;
 
 pub use keep::{LoopLimits, MOST_LINE};
 pub use laws::{crash_keeps_the_last_epoch, crash_keeps_what_was_answered};
-pub use outside::{Fault, Outside, ReadEnd, Visible};
+pub use outside::{BadLine, Fault, GivenBack, MOST_NOTICES, Outside, ReadEnd, Visible};
 pub use post::{ConnectionPlace, OwedText, Post, Stage};
 pub use rounds::run;
 pub use served::{LineEnd, Note, Served};

@@ -35,6 +35,35 @@ pub enum ReadEnd {
     Broken,
 }
 
+/// An object knows so many notices, the newest.
+pub const MOST_NOTICES: usize = 256;
+
+/// A call that was made for a client that is gone, which gives back what that held: it has ended, or was not taken.
+#[derive(Clone, Copy, Debug, PartialEq, Eq)]
+pub struct GivenBack {
+    /// The place of the object.
+    pub object: usize,
+    /// The session of the client.
+    pub session: u32,
+    /// The number of the call that is held, as it was told.
+    pub number: u64,
+    /// The operation of that call, by its place in the object.
+    pub operation: u16,
+    /// The operation that gives it back, by its place in the object.
+    pub undo: u16,
+    /// In so many seconds it is called again; `None`: it was done.
+    pub again: Option<u64>,
+}
+
+/// A line that was refused and asked for nothing.
+#[derive(Clone, Copy, Debug, PartialEq, Eq)]
+pub struct BadLine {
+    /// The connection on which it came, if it was there still.
+    pub who: Option<u64>,
+    /// The place of the object that this connection had opened, if it had opened one.
+    pub object: Option<usize>,
+}
+
 /// An object at which those may look who run its server.
 pub trait Visible {
     /// This text is a status of this state.
@@ -43,6 +72,33 @@ pub trait Visible {
     /// Puts a status in place of what is in `text`. The error is that memory was refused.
     fn status(&self, text: &mut Vec<u8>) -> Result<(), AllocError>
         ensures { OnOk result (shows self.now text.new.items) };
+
+    /// How many notices there were of what is given back for clients that are gone. Of these the newest 256 are known.
+    fn count_notices(&self) -> u64;
+
+    /// The notice of a number, from 0, where it is known. `None`: it is not, or what was given back is held still.
+    fn notice(&self, number: u64) -> Option<GivenBack>;
+
+    /// How many lines were refused that ask for nothing.
+    fn count_bad(&self) -> u64;
+
+    /// The newest of these, if there was one.
+    fn bad_line(&self) -> Option<BadLine>;
+
+    /// The word by which that was refused; no bytes, where there was none.
+    fn bad_word(&self) -> &[u8];
+
+    /// The place of the object that a connection has opened, if it has opened one.
+    fn opened_by(&self, who: u64) -> Option<usize>;
+
+    /// The name of the object at a place; no bytes where there is none.
+    fn object_name(&self, at: usize) -> &[u8];
+
+    /// The name of an operation of the object at a place; no bytes where there is none.
+    fn operation_name(&self, at: usize, operation: u16) -> &[u8];
+
+    /// The name of the client of a session of the object at a place; no bytes where it has none.
+    fn client_name(&self, at: usize, session: u32) -> &[u8];
 }
 
 /// Connections, a clock, and journals. A connection is known by its number, and a journal by its place.

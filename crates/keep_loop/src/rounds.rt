@@ -505,6 +505,19 @@ fn finish<O: Served, W: Outside>(keep: &mut Keep<O>, outside: &mut W) -> Result<
     Ok(())
 }
 
+// The same, and has the object looked at once more.
+fn finish_shown<O: Served + Visible, W: Outside>(
+    keep: &mut Keep<O>,
+    outside: &mut W,
+) -> Result<(), Fault>
+    ensures ok { OnOk result (Keeps (rules_of O.gives O.fronts) (W.seen outside.old) keep.old (W.seen outside.new) keep.new) }
+    ensures err { OnErr result (Fails (rules_of O.gives O.fronts) (W.seen outside.old) keep.old (W.seen outside.new)) }
+{
+    finish(keep, outside)?;
+    show(keep, outside);
+    Ok(())
+}
+
 // Waits, and makes a round. `false`: the server is to end.
 fn go_on<O: Served + Visible, W: Outside>(
     keep: &mut Keep<O>,
@@ -558,7 +571,7 @@ fn serve<O: Served + Visible, W: Outside>(
 {
     for _round in 0..rounds {
         if !go_on(keep, outside, piece)? {
-            finish(keep, outside)?;
+            finish_shown(keep, outside)?;
             return Ok(());
         }
     }

@@ -171,7 +171,7 @@ fn outside_of(
     let stored = journals_of(alloc, names, fronts)?;
     let file = StatusFile::new(rt, asked.folder, Log::new(alloc, form, *rt, rt.stderr()))?;
     let wires = Wires::open(*rt, waiting, journals, rt.stderr());
-    let logged = Logged::new(wires, Log::new(alloc, form, *rt, rt.stderr()), told);
+    let logged = Logged::new(alloc, wires, Log::new(alloc, form, *rt, rt.stderr()), told);
     let server = server_of(asked, watching, start);
     let folder = asked.folder.as_bytes();
     Ok(Showing::new(alloc, logged, file, folder, server, stored)?)

@@ -22,6 +22,7 @@ ghost use Rattle.table_core.specs.Parts.{AsksCall, TellsUnheld, MayAsk, MayNotAs
 ghost use Rattle.table_core.specs.Seen.{seen};
 
 use crate::making::{Asker, Ready};
+use crate::notices::{note_ran, note_untaken};
 use crate::objects::{admit_at, begin_at, is_known_at, leave_at};
 use crate::peers::{has_session, opened_at};
 use crate::table::Table;
@@ -178,7 +179,7 @@ impl Table {
         Ok(())
     }
 
-    // A call was taken: it is counted, and what is held follows from those that ran.
+    // A call was taken: it is counted, what is held follows from those that ran, and what gives back is noticed.
     pub(crate) fn follow(&mut self, at: usize, taken: &Taken) -> Result<(), AllocError>
         ensures follows { OnOk result ((object : Scene) → slice_get self.old.objects.items at ≡ Some object
             → Follows at object taken.now.ran.items (seen self.old) (seen self.new)) }
@@ -189,7 +190,17 @@ impl Table {
             → KeepsLast at object taken.now.ran.items self.old.tallies.last.items self.new.tallies.last.items) }
     {
         self.tallies.count(at, taken);
+<<<<<<< HEAD
         keep_last_at(&mut self.tallies, &self.objects, at, &taken.ran);
+=======
+        note_ran(
+            &mut self.notices,
+            &self.objects,
+            &self.custody,
+            at,
+            &taken.ran,
+        );
+>>>>>>> log
         self.custody
             .ended(at, &self.objects, self.second, &taken.ran)?;
         Ok(())
@@ -408,8 +419,7 @@ impl Table {
             self.note_made(at, session);
             return Ok(());
         }
-        self.custody
-            .note(at, HoldNote::Refused(session, self.second));
+        self.note_untaken(at, session);
         Ok(())
     }
 
@@ -420,6 +430,15 @@ impl Table {
         if has_waiting(&self.objects, at, session) {
             self.custody.note(at, HoldNote::Waits(session));
         }
+    }
+
+    // A call for a gone session was not taken: it is made again.
+    fn note_untaken(&mut self, at: usize, session: u16)
+        ensures { seen self.new ≡ seen self.old }
+    {
+        note_untaken(&mut self.notices, &self.objects, &self.custody, at, session);
+        self.custody
+            .note(at, HoldNote::Refused(session, self.second));
     }
 
     // Makes the call at a place that is made again and again, where the one before it does not wait.

@@ -13,6 +13,7 @@ mod gone;
 mod hints;
 mod looking;
 mod making;
+mod notices;
 mod objects;
 mod peers;
 pub mod table;

@@ -15,6 +15,7 @@ ghost use Rattle.table_core.specs.Seen.{state_of};
 use client_core::ask::Ask;
 use client_core::client::OpenObject;
 use client_core::clients::ClientPlaces;
+use keep_loop::BadLine;
 use path_tree::name::Name;
 use std::alloc::AllocError;
 
@@ -30,6 +31,18 @@ pub(crate) fn opened_at(clients: &ClientPlaces, place: usize) -> Option<OpenObje
     ensures { result ≡ opened_in (slice_get (peers_of clients.now) place) }
 {
     clients.opened(place)
+}
+
+/// What a log may tell of a line of the one at a place.
+pub(crate) fn bad_at(clients: &ClientPlaces, place: usize) -> BadLine {
+    let object = match clients.opened(place) {
+        None => None,
+        Some(opened) => Some(opened.object),
+    };
+    BadLine {
+        who: clients.who(place),
+        object,
+    }
 }
 
 /// The place of a connection that is here.

@@ -13,8 +13,9 @@ ghost use Rattle.table_core.specs.Objects.{IsNamed};
 ghost use Rattle.table_core.specs.Parts.{TellsOpened, ComesAt, LeavesOf};
 ghost use Rattle.table_core.specs.Seen.{IsQuiet, NobodyIsThere, seen};
 
+use crate::notices::{Notices, note_bad};
 use crate::objects::{Comer, enter_at, may_come, object_for};
-use crate::peers::{go, open_as, opened_at, who_at};
+use crate::peers::{bad_at, go, open_as, opened_at, who_at};
 use crate::tell::tell_line;
 use client_core::all::AllHeld;
 use client_core::client::OpenObject;
@@ -52,6 +53,8 @@ pub struct Table {
     pub(crate) tallies: Tallies,
     // what is held of each object, or of none where no object says anything of gone clients and of time
     pub(crate) custody: AllHeld,
+    // what a log may tell
+    pub(crate) notices: Notices,
 }
 
 // Counts of these objects, of which no call was taken.
@@ -106,6 +109,7 @@ impl Table {
         let clients = ClientPlaces::new(alloc, places)?;
         let line = Vec::with_capacity(alloc, MOST_LINE)?;
         let tallies = tallies_of(alloc, &objects)?;
+        let notices = Notices::new(alloc)?;
         Ok(Table {
             alloc,
             objects,
@@ -114,6 +118,7 @@ impl Table {
             second: now,
             tallies,
             custody,
+            notices,
         })
     }
 
@@ -150,6 +155,22 @@ impl Table {
             post.new (seen self.new)) }
     {
         self.say(place, ReplyLine::Refused(refusal), post)?;
+        Ok(())
+    }
+
+    // The same of a line that asks for nothing, which is noticed.
+    pub(crate) fn refuse_line(
+        &mut self,
+        place: usize,
+        refusal: LineRefusal,
+        post: &mut Post,
+    ) -> Result<(), AllocError>
+        ensures { OnOk result (Brings (OnlyTold place (line_text (lines.Refused refusal))) post.old (seen self.old)
+            post.new (seen self.new)) }
+    {
+        let bad = bad_at(&self.clients, place);
+        note_bad(&mut self.notices, bad, refusal);
+        self.refuse(place, refusal, post)?;
         Ok(())
     }
 

@@ -18,6 +18,7 @@ ghost use Rattle.client_core.specs.declared.ask.Ask.TheVariants as asks;
 ghost use Rattle.table_core.specs.Brings.{Brings, Continues, EndsSome};
 ghost use Rattle.table_core.specs.Seen.{seen};
 
+use crate::notices::{client_name, is_held, notice_at, object_name, operation_name, word_of};
 use crate::objects::{has_name_at, next_front, put_off_at, tell_time};
 use crate::peers::{
     come, count, goes_on, hold, must_hold, next, opened_at, place_of, stall, take, taken_by, wake,
@@ -28,7 +29,7 @@ use client_core::ask::{Ask, Sight, ask_of, cancel_of, inside_of};
 use client_core::client::OpenObject;
 use guest_core::answer::SubmitFault;
 use inside_core::look::write_look;
-use keep_loop::{LineEnd, Note, Post, Served, Visible};
+use keep_loop::{BadLine, GivenBack, LineEnd, Note, Post, Served, Visible};
 use live_core::hosted::Hosted;
 use session_text::line::{LineRefusal, ReplyLine};
 use std::alloc::AllocError;
@@ -60,7 +61,7 @@ impl Table {
                 Ok(())
             }
             Ask::Answer(refusal) => {
-                self.refuse(place, refusal, post)?;
+                self.refuse_line(place, refusal, post)?;
                 Ok(())
             }
         }
@@ -358,7 +359,7 @@ impl Table {
                 Ok(())
             }
             Ok(Ask::Answer(refusal)) => {
-                self.refuse(place, refusal, post)?;
+                self.refuse_line(place, refusal, post)?;
                 Ok(())
             }
             Ok(Ask::Cancel(number)) => {
@@ -476,7 +477,7 @@ impl Table {
     {
         match end {
             LineEnd::TooLong => {
-                self.refuse(place, LineRefusal::LineTooLong, post)?;
+                self.refuse_line(place, LineRefusal::LineTooLong, post)?;
                 Ok(())
             }
             LineEnd::Feed => {
@@ -723,5 +724,55 @@ impl Visible for Table {
             self.second,
             text,
         )
+    }
+
+    fn count_notices(&self) -> u64 {
+        self.notices.count
+    }
+
+    fn notice(&self, number: u64) -> Option<GivenBack> {
+        match notice_at(&self.notices, number) {
+            None => None,
+            Some(one) => {
+                if one.again.is_none() && is_held(&self.custody, one.object, one.number) {
+                    return None;
+                }
+                Some(one)
+            }
+        }
+    }
+
+    fn count_bad(&self) -> u64 {
+        self.notices.count_bad
+    }
+
+    fn bad_line(&self) -> Option<BadLine> {
+        self.notices.bad
+    }
+
+    fn bad_word(&self) -> &[u8] {
+        word_of(self.notices.refusal)
+    }
+
+    fn opened_by(&self, who: u64) -> Option<usize> {
+        match place_of(&self.clients, who) {
+            None => None,
+            Some(place) => match opened_at(&self.clients, place) {
+                None => None,
+                Some(opened) => Some(opened.object),
+            },
+        }
+    }
+
+    fn object_name(&self, at: usize) -> &[u8] {
+        object_name(&self.objects, at)
+    }
+
+    fn operation_name(&self, at: usize, operation: u16) -> &[u8] {
+        operation_name(&self.objects, at, operation)
+    }
+
+    fn client_name(&self, at: usize, session: u32) -> &[u8] {
+        client_name(&self.objects, at, session)
     }
 }

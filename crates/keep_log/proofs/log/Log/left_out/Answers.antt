@@ -1,0 +1,8 @@
+use Rattle.keep_log.specs.Events.{leaves_out}
+use Rattle.keep_log.proofs.Telling.{told_line}
+use Rattle.keep_log.proofs.log.Log.left_out.Goals as goal
+
+pub returns : goal.returns
+returns g c = told_line c.args.self.now.form c.in-Some.form c.moment_at-moment.result (λ form moment. leaves_out form moment c.args.lines) c.push_left_out-made.result
+    c.clear.new.self.items c.push_left_out-made.new.out.items (g.E.Write.contents c.args.self.now.errors) (g.E.Write.contents c.tell.new.self.errors)
+    c.in-Some.is c.clear.ensures.items c.push_left_out-made.ensures c.tell.ensures.made c.tell.ensures.none
