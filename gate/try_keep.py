@@ -32,13 +32,13 @@ CELL = """object cell;
   entry function get : integer; begin get := v[0] end;
 end;
 """
-<<<<<<< HEAD
 SLOT = """object slot;
   path 1:(grab; free) end;
   entry procedure grab; begin end;
   entry procedure free; begin end;
   hold grab until free;
-=======
+end;
+"""
 FETCHED = """object jobs;
   path 2:(fetch; finish) end;
   path 1:(fetch, finish, note) end;
@@ -47,7 +47,6 @@ FETCHED = """object jobs;
   entry function fetch : text; begin fetch := first(items); take(items) end;
   entry procedure finish; begin end;
   entry procedure note; begin n[0] := 1 end;
->>>>>>> why
 end;
 """
 POOL = """object {};

@@ -190,9 +190,7 @@ impl Table {
             → KeepsLast at object taken.now.ran.items self.old.tallies.last.items self.new.tallies.last.items) }
     {
         self.tallies.count(at, taken);
-<<<<<<< HEAD
         keep_last_at(&mut self.tallies, &self.objects, at, &taken.ran);
-=======
         note_ran(
             &mut self.notices,
             &self.objects,
@@ -200,7 +198,6 @@ impl Table {
             at,
             &taken.ran,
         );
->>>>>>> log
         self.custody
             .ended(at, &self.objects, self.second, &taken.ran)?;
         Ok(())
