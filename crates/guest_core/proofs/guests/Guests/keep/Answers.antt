@@ -9,7 +9,7 @@ use Rattle.guest_core.proofs.guests.Guests.keep.Goals as goal
 pub invariant_of-self : goal.invariant_of-self
 invariant_of-self c =
     let stay = stays c.args.self.now.guests in
-    subst (λ (gs : List Guest). IsSound (record { guests = gs; seats = c.self.inside.seats; most = c.self.inside.most })) (sym (c.keep.ensures stay c.requires))
+    subst (λ (gs : List Guest). IsSound (record { guests = gs; seats = c.self.inside.seats; most = c.self.inside.most; least = c.self.inside.least })) (sym (c.keep.ensures stay c.requires))
     (sound_by stay (guests_of c.self.inside) c.self.invariant)
 
 pub returns : goal.returns

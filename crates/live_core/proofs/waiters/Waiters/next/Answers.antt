@@ -16,9 +16,9 @@ returns-clause-some c =
     let place = c.first_ready-place.result in
     subst (λ ws. (n : ℕ) (paths : List Path) (t : List Event) → StandsFor c.args.counters.now n paths t → n ≡ c.args.operations → Every (λ (x : Called). x.operation < n) ws → IsFirstAt paths t ws place) c.self.view_is
     (λ n paths t stands same known.
-      let at = subst (λ ws. IsReadyAt n paths t (λ x. x < c.args.operations) ws place) c.deref.ensures.value (c.first_ready-place.ensures n paths t stands) in
-      let ready = subst (λ o. IsReadyAt n paths t (λ x. x < o) rows place) (sym same) at in
-      first_at n paths t rows place ready known (omega (arith, c.if-place-many.false, c.len-many.ensures)))
+    let at = subst (λ ws. IsReadyAt n paths t (λ x. x < c.args.operations) ws place) c.deref.ensures.value (c.first_ready-place.ensures n paths t stands) in
+    let ready = subst (λ o. IsReadyAt n paths t (λ x. x < o) rows place) (sym same) at in
+    first_at n paths t rows place ready known (omega (arith, c.if-place-many.false, c.len-many.ensures)))
 
 pub returns-then-place-many-clause-none : goal.returns-then-place-many-clause-none
 returns-then-place-many-clause-none c =
@@ -26,6 +26,6 @@ returns-then-place-many-clause-none c =
     let place = c.first_ready-place.result in
     subst (λ ws. (n : ℕ) (paths : List Path) (t : List Event) → StandsFor c.args.counters.now n paths t → n ≡ c.args.operations → Every (λ (x : Called). x.operation < n) ws → Every (λ (x : Called). MayStart paths x.operation t → ⊥) ws) c.self.view_is
     (λ n paths t stands same known.
-      let at = subst (λ ws. IsReadyAt n paths t (λ x. x < c.args.operations) ws place) c.deref.ensures.value (c.first_ready-place.ensures n paths t stands) in
-      let ready = subst (λ o. IsReadyAt n paths t (λ x. x < o) rows place) (sym same) at in
-      none_ready n paths t rows place ready known (omega (arith, c.if-place-many.true, c.len-many.ensures)))
+    let at = subst (λ ws. IsReadyAt n paths t (λ x. x < c.args.operations) ws place) c.deref.ensures.value (c.first_ready-place.ensures n paths t stands) in
+    let ready = subst (λ o. IsReadyAt n paths t (λ x. x < o) rows place) (sym same) at in
+    none_ready n paths t rows place ready known (omega (arith, c.if-place-many.true, c.len-many.ensures)))
