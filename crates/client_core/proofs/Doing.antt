@@ -166,6 +166,7 @@ acts_moves place (asks.Cancel told) = cancel_moves place told
 acts_moves place (asks.Inside inside) = inside_moves place inside
 acts_moves place asks.Quit = quits_moves place
 acts_moves place (asks.Answer refusal) = by_keeping (OnlyTold place _) (told_keeps place _)
+acts_moves place (asks.Bad advice) = by_keeping (OnlyTold place _) (told_keeps place _)
 
 pub heeds_moves : (place : ℕ) (asked : Result Ask AllocError) → MovesBy (Heeds place asked)
 heeds_moves place (Ok ask) = acts_moves place ask

@@ -202,6 +202,7 @@ acts_holds place (asks.Cancel told) = cancel_holds place told
 acts_holds place (asks.Inside inside) = inside_holds place inside
 acts_holds place asks.Quit = λ old new said added is. goes_holds place old new [] added is.goes
 acts_holds place (asks.Answer refusal) = told_holds place _
+acts_holds place (asks.Bad advice) = told_holds place _
 
 heeds_holds : (place : ℕ) (asked : Result Ask AllocError) → HoldsBy (Heeds place asked)
 heeds_holds place (Ok ask) = acts_holds place ask
@@ -241,6 +242,7 @@ ends_ask_holds place (Ok (asks.Cancel told)) = cancel_holds place told
 ends_ask_holds place (Ok (asks.Inside inside)) = told_holds place _
 ends_ask_holds place (Ok asks.Quit) = told_holds place _
 ends_ask_holds place (Ok (asks.Answer refusal)) = told_holds place _
+ends_ask_holds place (Ok (asks.Bad advice)) = told_holds place _
 ends_ask_holds place (Err e) = told_holds place _
 
 ends_held_holds : (place : ℕ) → HoldsBy (EndsHeld place)

@@ -70,6 +70,7 @@ ends_ask_moves place (Ok (asks.Cancel told)) = cancel_moves place told
 ends_ask_moves place (Ok (asks.Inside inside)) = told_moves place _
 ends_ask_moves place (Ok asks.Quit) = told_moves place _
 ends_ask_moves place (Ok (asks.Answer refusal)) = told_moves place _
+ends_ask_moves place (Ok (asks.Bad advice)) = told_moves place _
 ends_ask_moves place (Err e) = told_moves place _
 
 held_moves : (place : ℕ) → MovesBy (EndsHeld place)

@@ -33,7 +33,7 @@ use Rattle.client_core.specs.declared.client.OpenObject.{OpenObject}
 use Rattle.client_core.specs.Custody.{Custody, Custodies, MayMake, FollowsIn, IsFreeOf, HasSome, not_held_text}
 use Rattle.client_core.specs.State.{State, nobody, opening, waiting, opened_at, changed, with_object, with_custody, told_to, counted, session_by}
 use Rattle.client_core.specs.Deeds.{Texts, Deed, Nothing, OnlyTold}
-use Rattle.client_core.specs.Refusals.{IsHint, IsRefusal, refusal_text}
+use Rattle.client_core.specs.Refusals.{IsHint, IsRefusal, bad_text, refusal_text}
 use Rattle.client_core.specs.ToldInside.{Sees}
 
 -- It is refused: it is told why, with a text for people or none, and nothing changes.
@@ -309,6 +309,7 @@ Acts place (asks.Cancel told) = AnswersCancel place told
 Acts place (asks.Inside inside) = AnswersInside place inside
 Acts place asks.Quit = Quits place
 Acts place (asks.Answer refusal) = OnlyTold place (line_text (lines.Refused refusal))
+Acts place (asks.Bad advice) = OnlyTold place (bad_text advice)
 
 -- the same, where memory to read the line was there
 abbrev pub Heeds : ℕ → Result Ask AllocError → Deed

@@ -13,6 +13,7 @@ use Rattle.client_core.specs.declared.ask.Ask.TheVariants as asks
 use Rattle.client_core.specs.declared.ask.Sight.{Sight}
 use Rattle.client_core.specs.declared.ask.Sight.TheVariants as insides
 use Rattle.client_core.specs.Inside.{IsInside}
+use Rattle.client_core.specs.Advice.{advice_of}
 use Rattle.client_core.specs.Numbers.{cancel_in}
 
 -- what the table does for a line, behind which an LF stood or not
@@ -95,14 +96,15 @@ abbrev pub SeesNothing : List ℕ → Type 0
 SeesNothing line = (inside : Sight) → IsInside line inside → ⊥
 
 -- what a line may ask for that is no line of the table: to see something; a call under a key and a cancel, where an object
--- is opened; each where an LF stood behind it. Else it is refused
+-- is opened; each where an LF stood behind it. Else it is refused, and a bad line with what is wrong with it
 abbrev pub IsWide : Bool → Bool → List ℕ → Ask → Type 0
 IsWide opened true line (asks.Inside inside) = SeesInside opened line inside
 IsWide true true line (asks.Call (Some key) op arguments) = IsKeyedCall line key op arguments.items
 IsWide true true line (asks.Cancel number) = IsLongCancel line number
 IsWide false whole line (asks.Answer refusals.NotOpen) = Unit {0}
 IsWide true false line (asks.Answer refusals.Gone) = Unit {0}
-IsWide opened true line (asks.Answer refusals.BadLine) = SeesNothing line
+IsWide opened true line (asks.Bad advice) = SeesNothing line × (advice ≡ advice_of line)
+IsWide opened false line (asks.Bad advice) = advice ≡ advice_of line
 IsWide opened false line (asks.Answer refusals.BadLine) = Unit {0}
 IsWide opened whole line ask = ⊥
 

@@ -1,3 +1,4 @@
+pub mod Advice
 pub mod Asks
 pub mod Held
 pub mod Inside

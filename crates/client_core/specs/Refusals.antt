@@ -10,7 +10,9 @@ use Rattle.session_text.specs.declared.line.ReplyLine.{ReplyLine}
 use Rattle.session_text.specs.declared.line.ReplyLine.TheVariants as lines
 use Rattle.session_text.specs.Lines.{line_text}
 use Rattle.live_core.specs.Scene.{Scene}
+use Rattle.client_core.specs.declared.ask.Advice.{Advice}
 use Rattle.client_core.specs.declared.client.OpenObject.{OpenObject}
+use Rattle.client_core.specs.Advice.{advice_text}
 use Rattle.client_core.specs.State.{State, opened_at}
 
 -- it is refused: it is told why, and nothing changes
@@ -30,6 +32,10 @@ without_feed (b ∷ c ∷ line) = b ∷ without_feed (c ∷ line)
 abbrev pub refusal_text : ReplyLine → List ℕ → List ℕ
 refusal_text line [] = line_text line
 refusal_text line (b ∷ hint) = without_feed (line_text line) ++ 32 ∷ b ∷ hint ++ 10 ∷ []
+
+-- what a bad line is answered: what is wrong with it stands behind the word
+abbrev pub bad_text : Advice → List ℕ
+bad_text advice = refusal_text (lines.Refused refusals.BadLine) (advice_text advice)
 
 -- A text has these names in so many bytes, the first behind this sign and each other one behind `, `; ` ..` stands in it for those that have no room.
 abbrev pub AreListed : List ℕ → ℕ → List (List ℕ) → List ℕ → Type 0

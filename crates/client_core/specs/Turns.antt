@@ -21,6 +21,7 @@ use Rattle.client_core.specs.declared.ask.Ask.{Ask}
 use Rattle.client_core.specs.declared.ask.Ask.TheVariants as asks
 use Rattle.client_core.specs.declared.ask.Sight.{Sight}
 use Rattle.client_core.specs.declared.client.OpenObject.{OpenObject}
+use Rattle.client_core.specs.Refusals.{bad_text}
 use Rattle.client_core.specs.Asks.{Asks}
 use Rattle.client_core.specs.Held.{IsFirstLine, is_some, is_whole_before}
 use Rattle.client_core.specs.Inside.{inside_in}
@@ -90,6 +91,7 @@ EndsAsk place (Ok (asks.Cancel told)) = AnswersCancel place told
 EndsAsk place (Ok (asks.Inside inside)) = OnlyTold place (line_text (lines.Unsubmitted faults.Gone))
 EndsAsk place (Ok asks.Quit) = OnlyTold place bye_text
 EndsAsk place (Ok (asks.Answer refusal)) = OnlyTold place (line_text (lines.Refused refusal))
+EndsAsk place (Ok (asks.Bad advice)) = OnlyTold place (bad_text advice)
 EndsAsk place (Err e) = OnlyTold place (line_text (lines.Unsubmitted faults.Gone))
 
 -- each held line of one that has left is answered, in order, up to a `quit`

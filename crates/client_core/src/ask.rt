@@ -4,6 +4,7 @@ ghost use Rattle.std.specs.Prelude.{◌≡◌, true, IfOk, IfSome};
 ghost use Rattle.word_core.specs.Reads.{Reads};
 ghost use Rattle.session_text.specs.declared.line.LineRefusal.TheVariants as refusals;
 ghost use Rattle.session_text.specs.declared.session.Action.TheVariants as actions;
+ghost use Rattle.client_core.specs.Advice.{advice_at, advice_of, call_advice, has_none, is_web};
 ghost use Rattle.client_core.specs.Asks.{TableDoes, asked_by, IsKeyed, IsLongCancel, IsWide, Asks};
 ghost use Rattle.client_core.specs.Asks.{IsCallVerb, IsKey, IsKeyFront, IsBehindKey};
 ghost use Rattle.client_core.specs.Asks.{may_see, SeesInside};
@@ -15,7 +16,7 @@ use session_text::line::LineRefusal;
 use session_text::session::{Action, Session};
 use std::alloc::{AllocError, Global};
 use value_core::datum::Datum;
-use value_core::words::is_same_word;
+use value_core::words::{is_same_word, skip_spaces};
 use word_core::arguments::data_of;
 use word_core::front::{is_blank, next_bare, only_bare};
 use word_core::number::long_of;
@@ -29,6 +30,25 @@ pub enum Sight {
     Who(u64),
     /// Which objects there are, and the operations of the one that is open.
     List,
+}
+
+/// What is wrong with a bad line.
+#[derive(Clone, Copy)]
+pub enum Advice {
+    /// It has nothing but spaces.
+    Blank,
+    /// It begins with no word of a line.
+    Verb,
+    /// It is the first line of a request of HTTP.
+    Web,
+    /// It is a call, with a `"` in it.
+    Double,
+    /// It is a call, with a `(` in it.
+    Parens,
+    /// It is a call, with a `,` in it.
+    Comma,
+    /// It is another call.
+    Argument,
 }
 
 /// What a line asks for.
@@ -46,6 +66,70 @@ pub enum Ask {
     Quit,
     /// The line is refused.
     Answer(LineRefusal),
+    /// The line is bad, and this is wrong with it.
+    Bad(Advice),
+}
+
+// Whether there are no bytes.
+fn has_none(bytes: &[u8]) -> bool
+    ensures { result ≡ has_none bytes.now }
+{
+    match bytes {
+        [] => true,
+        [_, ..] => false,
+    }
+}
+
+// Whether a request of HTTP begins so.
+fn is_web(bytes: &[u8]) -> bool
+    ensures { result ≡ is_web bytes.now }
+{
+    if bytes.starts_with(b"GET /") {
+        return true;
+    }
+    if bytes.starts_with(b"HEAD /") {
+        return true;
+    }
+    bytes.starts_with(b"POST /")
+}
+
+// What is wrong with a bad line that begins with `call`.
+fn call_advice(bytes: &[u8]) -> Advice
+    ensures { result ≡ call_advice bytes.now }
+{
+    if bytes.contains(&b'"') {
+        return Advice::Double;
+    }
+    if bytes.contains(&b'(') {
+        return Advice::Parens;
+    }
+    if bytes.contains(&b',') {
+        return Advice::Comma;
+    }
+    Advice::Argument
+}
+
+// The same of each, without the spaces at its front.
+fn advice_at(bytes: &[u8]) -> Advice
+    ensures { result ≡ advice_at bytes.now }
+{
+    if has_none(bytes) {
+        return Advice::Blank;
+    }
+    if bytes.starts_with(b"call ") {
+        return call_advice(bytes);
+    }
+    if is_web(bytes) {
+        return Advice::Web;
+    }
+    Advice::Verb
+}
+
+// What is wrong with a bad line.
+fn advice_of(line: &[u8]) -> Advice
+    ensures { result ≡ advice_of line.now }
+{
+    advice_at(skip_spaces(line))
 }
 
 // The number that is the one word of a line.
@@ -227,7 +311,7 @@ fn fed(alloc: Global, is_open: bool, is_whole: bool, line: &[u8]) -> Result<Acti
     session.feed_last(alloc, line)
 }
 
-// What a line asks for whose number or key has more than 32 bits, and nothing where it is bad.
+// What a line asks for whose number or key has more than 32 bits, and what is wrong with it where it is bad.
 fn wide(alloc: Global, is_open: bool, is_whole: bool, line: &[u8]) -> Result<Ask, AllocError>
     ensures { IfOk result (IsWide is_open is_whole line.now) }
 {
@@ -238,7 +322,7 @@ fn wide(alloc: Global, is_open: bool, is_whole: bool, line: &[u8]) -> Result<Ask
         return Ok(wide_cancel(is_open, is_whole, line, number));
     }
     match keyed_call(alloc, line)? {
-        None => Ok(Ask::Answer(LineRefusal::BadLine)),
+        None => Ok(Ask::Bad(advice_of(line))),
         Some(call) => Ok(wide_call(is_open, is_whole, line, call)),
     }
 }
@@ -293,7 +377,8 @@ fn is_bad(action: &Action) -> bool
 }
 
 /// What a line asks for, of a connection that has opened an object or none, by the table of sessions; numbers and keys
-/// may have 64 bits, and `why N`, `who`, `who N` and `list` ask to see something. `is_whole`: an LF stood behind it; else
+/// may have 64 bits, and `why N`, `who`, `who N` and `list` ask to see something. Of a bad line it is what is wrong with
+/// it. `is_whole`: an LF stood behind it; else
 /// it may be the front of a longer line.
 ///
 /// The error is that memory was refused.

@@ -25,6 +25,7 @@ use Rattle.client_core.specs.declared.ask.Ask.{Ask}
 use Rattle.client_core.specs.declared.ask.Ask.TheVariants as asks
 use Rattle.client_core.specs.declared.ask.Sight.{Sight}
 use Rattle.client_core.specs.declared.client.OpenObject.{OpenObject}
+use Rattle.client_core.specs.Refusals.{bad_text}
 use Rattle.client_core.specs.Asks.{Asks}
 use Rattle.client_core.specs.Held.{is_some, waits_of}
 use Rattle.client_core.specs.Asked.{OpensBare, OpensAs, Opens, GetsNumber, Sits, Calls, RepeatsUnder, AnswersCall, AnswersInside, LeavesObject, Goes, Quits, Acts, Heeds, keyed_text}
@@ -33,7 +34,7 @@ use Rattle.client_core.specs.Deeds.{Texts}
 use Rattle.client_core.specs.Gone.{SeatsOne, Frees}
 use Rattle.client_core.specs.State.{Peer, State, change, changed, nobody, opened_at, opened_in, one_text, opening, session_by, told_to, waits_at, who_at, who_in}
 use Rattle.history_law.proofs.Going.{no_account}
-use Rattle.history_law.proofs.Plain.{refusal_plain, opened_plain, bye_plain, waiting_plain, gone_plain, not_held_plain}
+use Rattle.history_law.proofs.Plain.{refusal_plain, opened_plain, bye_plain, waiting_plain, gone_plain, not_held_plain, bad_plain}
 use Rattle.history_law.specs.Answers.{IsTold, AllAlong}
 use Rattle.history_law.specs.Awaits.{Lines, AreHeard, IsOpenedBy, SaidBy, waits_in, Awaits}
 use Rattle.history_law.specs.Awaits.AreHeard.{none}
@@ -330,6 +331,7 @@ module _ (heard : Lines) where
   did_acts place asks.Quit past old new said added a w is = did_quits place past old new said added a is
   did_acts place (asks.Answer refusal) past old new said added a w is =
       did_only heard place (line_text (lines.Refused refusal)) (refusal_plain (lines.Refused refusal) tt) past old new said added a is
+  did_acts place (asks.Bad advice) past old new said added a w is = did_only heard place (bad_text advice) (bad_plain advice) past old new said added a is
 
   -- the same, where memory to read the line was there
   abbrev pub IsWish : ℕ → State → Result Ask AllocError → Type 0

@@ -34,7 +34,7 @@ use Rattle.history_law.specs.Done.{AreAnswered, CrashLeavesDone, IsDone, IsDoneI
 use Rattle.history_law.proofs.Going.{every_map}
 use Rattle.history_law.proofs.Keying.{repeats_are_of_their_keys}
 use Rattle.history_law.proofs.Lists.{every_in}
-use Rattle.history_law.proofs.Plain.{bye_plain, cancelled_plain, gone_plain, hinted_plain, not_held_plain, opened_plain, refusal_plain, waiting_plain}
+use Rattle.history_law.proofs.Plain.{bye_plain, cancelled_plain, gone_plain, hinted_plain, not_held_plain, opened_plain, refusal_plain, waiting_plain, bad_plain}
 use Rattle.history_law.proofs.Standing.{repeats_stand}
 use Rattle.history_law.proofs.AskedTurning.{nobody_asked}
 use Rattle.history_law.proofs.OpenParts.{Along, Knows, Names, Opens, by_open}
@@ -135,6 +135,7 @@ module _ (first last : Table) (turns : List Turn) (h : HaveOneHistory first last
   by_ask (Ok (asks.Inside sight)) opened asks_so plain = absurd (no_repeat text text number reply plain refl is)
   by_ask (Ok asks.Quit) opened asks_so same = absurd (no_repeat text _ number reply bye_plain same is)
   by_ask (Ok (asks.Answer refusal)) opened asks_so same = absurd (no_repeat text _ number reply (refusal_plain (lines.Refused refusal) tt) same is)
+  by_ask (Ok (asks.Bad advice)) opened asks_so same = absurd (no_repeat text _ number reply (bad_plain advice) same is)
   by_ask (Err e) opened asks_so refused = absurd (refused_no_repeat text number reply refused is)
 
 abbrev lines_answered : (first last : Table) (turns : List Turn) → IsEmpty (seen first) → Over [] first turns last → AreAnswered first last turns

@@ -42,7 +42,7 @@ use Rattle.client_core.specs.Held.{waits_of}
 use Rattle.history_law.specs.Happens.{with_ran, all_happen}
 use Rattle.client_core.specs.State.{Peer, State, change, changed, counted, nobody, opened_at, opened_in, opening, told_to, waits_at, who_at, who_in, with_object, session_by}
 use Rattle.client_core.specs.Deeds.{Texts, Deed, Nothing, OnlyTold, Then}
-use Rattle.client_core.specs.Refusals.{refusal_text}
+use Rattle.client_core.specs.Refusals.{bad_text, refusal_text}
 use Rattle.client_core.specs.Asked.{IsNew, IsRefused, OpensBare, OpensAs, Opens, Ends, AllEnd, Submits, GetsNumber, Sits, Calls, Repeats, RepeatsUnder, IsTurnedAway, AnswersCall, LetsGo, AnswersCancel, AnswersInside, Goes, Quits, Acts, Heeds, keyed_text}
 use Rattle.client_core.specs.Custody.{not_held_text}
 use Rattle.client_core.specs.Gone.{CallsFor, SeatsOne, Frees}
@@ -50,7 +50,7 @@ use Rattle.client_core.specs.declared.last.LastCall.{LastCall}
 use Rattle.client_core.specs.ToldInside.{Sees, IsWhy, state_by, form_at, object_in}
 use Rattle.client_core.proofs.Doing.{ends_keeps, all_end_keeps}
 use Rattle.history_law.specs.Said.{Account, SaysNoReply}
-use Rattle.history_law.proofs.Plain.{hinted_plain, refusal_plain, opened_plain, accepted_plain, withdrawn_plain, cancelled_plain, bye_plain, waiting_plain, gone_plain, not_held_plain, why_plain, state_plain, who_plain, list_plain}
+use Rattle.history_law.proofs.Plain.{hinted_plain, refusal_plain, opened_plain, accepted_plain, withdrawn_plain, cancelled_plain, bye_plain, waiting_plain, gone_plain, not_held_plain, why_plain, state_plain, who_plain, list_plain, bad_plain}
 use Rattle.history_law.proofs.Going.{ran_more, all_alike, told_alike, no_account, both, at_one, at_own, every_map, every_both}
 use Rattle.history_law.proofs.Doing.{to_true}
 use Rattle.history_law.specs.Awaits.{IsElementOf}
@@ -224,6 +224,7 @@ module _ (claims : Claims) where
   Tells place s (Ok (asks.Inside sight)) = Unit {0}
   Tells place s (Ok asks.Quit) = Unit {0}
   Tells place s (Ok (asks.Answer refusal)) = Unit {0}
+  Tells place s (Ok (asks.Bad advice)) = Unit {0}
   Tells place s (Err e) = Unit {0}
 
   -- one opens an object
@@ -596,6 +597,7 @@ module _ (claims : Claims) where
   acts place (asks.Inside sight) old new said added a idle tells is = inside place sight old new said added a is
   acts place asks.Quit old new said added a idle tells is = bye place old new said added a (idle_at place old a idle) is
   acts place (asks.Answer refusal) old new said added a idle tells is = done_only place (line_text (lines.Refused refusal)) (refusal_plain (lines.Refused refusal) tt) old new said added a is
+  acts place (asks.Bad advice) old new said added a idle tells is = done_only place (bad_text advice) (bad_plain advice) old new said added a is
 
   pub heeds : (place : ℕ) (asked : Result Ask AllocError) (old new : State) (said added : Texts) → AllAsked claims old.objects old.peers → waits_at old place ≡ false → Tells place old asked → Heeds place asked old said added new → Done old said added new
   heeds place (Ok ask) old new said added a idle tells is = acts place ask old new said added a idle tells is

@@ -24,6 +24,7 @@ use Rattle.keep_loop.specs.declared.served.Note.TheVariants as notes
 use Rattle.client_core.specs.declared.ask.Ask.{Ask}
 use Rattle.client_core.specs.declared.ask.Ask.TheVariants as asks
 use Rattle.client_core.specs.declared.client.OpenObject.{OpenObject}
+use Rattle.client_core.specs.Refusals.{bad_text}
 use Rattle.client_core.specs.Asks.{Asks}
 use Rattle.client_core.specs.Held.{is_some, waits_of}
 use Rattle.client_core.specs.State.{Peer, State, change, changed, comer, holding, left_with, opened_at, opened_in, waiting, waits_at, who_at, with_object}
@@ -38,7 +39,7 @@ use Rattle.client_core.specs.Given as told
 use Rattle.client_core.specs.Gone.{CallsFor, Frees, SeatsOne, Settles}
 use Rattle.client_core.specs.Gone.Settles.{rests as settled, goes_on as settles_on, calls as calls_one, seats as seats_two, frees as frees_one}
 use Rattle.history_law.specs.Said.{Account, SaysIn, Says}
-use Rattle.history_law.proofs.Plain.{refusal_plain, bye_plain}
+use Rattle.history_law.proofs.Plain.{refusal_plain, bye_plain, bad_plain}
 use Rattle.history_law.proofs.Going.{no_account}
 use Rattle.table_core.specs.Moves.{Gives}
 use Rattle.history_law.specs.Stands.{AreSeated}
@@ -238,6 +239,7 @@ module _ (claims : Claims) where
   ends_ask place (Ok (asks.Inside sight)) = unsubmitted place faults.Gone
   ends_ask place (Ok asks.Quit) = done_only claims place bye_text bye_plain
   ends_ask place (Ok (asks.Answer refusal)) = refused place refusal
+  ends_ask place (Ok (asks.Bad advice)) = done_only claims place (bad_text advice) (bad_plain advice)
   ends_ask place (Err e) = unsubmitted place faults.Gone
 
   ask_shrinks : (place : ℕ) (asked : Result Ask AllocError) (old new : State) (said added : Texts) → AllAsked claims old.objects old.peers → EndsAsk place asked old said added new → Shrinks old new
@@ -247,6 +249,7 @@ module _ (claims : Claims) where
   ask_shrinks place (Ok (asks.Inside sight)) old new said added a is = only_shrinks place _ old new said added is
   ask_shrinks place (Ok asks.Quit) old new said added a is = only_shrinks place _ old new said added is
   ask_shrinks place (Ok (asks.Answer refusal)) old new said added a is = only_shrinks place _ old new said added is
+  ask_shrinks place (Ok (asks.Bad advice)) old new said added a is = only_shrinks place _ old new said added is
   ask_shrinks place (Err e) old new said added a is = only_shrinks place _ old new said added is
 
   -- it is done, and no call of the one at a place waits
@@ -417,6 +420,7 @@ none_to_tell place s (Ok (asks.Cancel told)) = tt
 none_to_tell place s (Ok (asks.Inside sight)) = tt
 none_to_tell place s (Ok asks.Quit) = tt
 none_to_tell place s (Ok (asks.Answer refusal)) = tt
+none_to_tell place s (Ok (asks.Bad advice)) = tt
 none_to_tell place s (Err e) = tt
 
 none_kept : Keeps no_claims (λ s. Unit {0})

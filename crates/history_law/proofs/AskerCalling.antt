@@ -20,6 +20,7 @@ IsCall (asks.Cancel number) = ⊥
 IsCall (asks.Inside sight) = ⊥
 IsCall asks.Quit = ⊥
 IsCall (asks.Answer refusal) = ⊥
+IsCall (asks.Bad advice) = ⊥
 
 call_is : (ask : Ask) → IsCall ask → (opened : Bool) (line : List ℕ) → IsWide opened false line ask → ⊥
 call_is (asks.Open name client) is opened line wide = absurd is
@@ -29,6 +30,7 @@ call_is (asks.Cancel number) is opened line wide = absurd is
 call_is (asks.Inside sight) is opened line wide = absurd is
 call_is asks.Quit is opened line wide = absurd is
 call_is (asks.Answer refusal) is opened line wide = absurd is
+call_is (asks.Bad advice) is opened line wide = absurd is
 
 -- the last line of an input makes no call
 abbrev NoCall : Action → Type 0

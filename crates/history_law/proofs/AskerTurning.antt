@@ -17,6 +17,7 @@ use Rattle.keep_loop.specs.declared.served.Note.TheVariants as notes
 use Rattle.client_core.specs.declared.ask.Ask.{Ask}
 use Rattle.client_core.specs.declared.ask.Ask.TheVariants as asks
 use Rattle.client_core.specs.declared.client.OpenObject.{OpenObject}
+use Rattle.client_core.specs.Refusals.{bad_text}
 use Rattle.client_core.specs.Asks.{Asks}
 use Rattle.client_core.specs.Held.{is_some, is_whole_before, waits_of}
 use Rattle.client_core.specs.State.{Peer, State, change, changed, comer, holding, left_with, opened_at, opened_in, waits_at, who_at, who_in}
@@ -28,7 +29,7 @@ use Rattle.client_core.specs.Turns.EndsHeld.{all, quits, goes_on}
 use Rattle.client_core.specs.Turns.{HearsLine, HearsLast, HearsAt, TakesLine, GoesOn, EndsAsk, EndsHeld, Withdraws, WithdrawsAt, Leaves, LeavesIf, EndsFor, EndsForIf, Comes, IfHere, AllLeave, Notes, place_of}
 use Rattle.client_core.specs.Gone.{Settles}
 use Rattle.client_core.specs.Gone.Settles.{rests as settled, goes_on as settles_on, calls as calls_one, seats as seats_two, frees as frees_one}
-use Rattle.history_law.proofs.Plain.{refusal_plain, bye_plain}
+use Rattle.history_law.proofs.Plain.{refusal_plain, bye_plain, bad_plain}
 use Rattle.history_law.specs.Awaits.{Lines, SaidBy, AreHeard, waits_in, Awaits}
 use Rattle.history_law.proofs.Acting.{IsWish, clears_one, did_heeds, did_inside, did_leaves, did_seats_one, did_frees}
 use Rattle.history_law.proofs.Deeds.{Did, DidBy, same_awaits, did_as, did_from, did_nothing, did_only, did_still, did_then, did_two}
@@ -203,6 +204,7 @@ module _ (heard : Lines) where
   did_ends_ask place (Ok (asks.Inside sight)) = did_unsubmitted place faults.Gone
   did_ends_ask place (Ok asks.Quit) = did_only heard place bye_text bye_plain
   did_ends_ask place (Ok (asks.Answer refusal)) = did_refusal place refusal
+  did_ends_ask place (Ok (asks.Bad advice)) = did_only heard place (bad_text advice) (bad_plain advice)
   did_ends_ask place (Err e) = did_unsubmitted place faults.Gone
 
   did_held : (place : ℕ) → DidBy heard (EndsHeld place)

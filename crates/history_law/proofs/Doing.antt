@@ -31,7 +31,7 @@ use Rattle.client_core.specs.declared.client.OpenObject.{OpenObject}
 use Rattle.history_law.specs.Happens.{with_ran, all_happen}
 use Rattle.client_core.specs.State.{Peer, State, one_text, opened_at, told_to, who_in, session_by}
 use Rattle.client_core.specs.Deeds.{Texts, Deed, Nothing, OnlyTold, Then}
-use Rattle.client_core.specs.Refusals.{refusal_text}
+use Rattle.client_core.specs.Refusals.{bad_text, refusal_text}
 use Rattle.client_core.specs.Asked.{IsRefused, OpensBare, OpensAs, Opens, Ends, AllEnd, Submits, IsUnheld, GetsNumber, Sits, Calls, Repeats, RepeatsUnder, IsTurnedAway, AnswersCall, LetsGo, AnswersCancel, AnswersInside, LeavesObject, Goes, Quits, Acts, Heeds, keyed_text}
 use Rattle.client_core.specs.Custody.{not_held_text}
 use Rattle.client_core.specs.Gone.{CallsFor, SeatsOne, Frees}
@@ -39,7 +39,7 @@ use Rattle.client_core.specs.declared.last.LastCall.{LastCall}
 use Rattle.client_core.specs.ToldInside.{Sees, IsWhy, state_by, form_at, object_in}
 use Rattle.client_core.proofs.Doing.{ends_keeps, all_end_keeps, follows_keeps}
 use Rattle.history_law.specs.Said.{Account, AllWent, SaysNoReply, IsTrue, Says}
-use Rattle.history_law.proofs.Plain.{hinted_plain, refusal_plain, opened_plain, accepted_plain, withdrawn_plain, cancelled_plain, bye_plain, waiting_plain, gone_plain, not_held_plain, why_plain, state_plain, who_plain, list_plain}
+use Rattle.history_law.proofs.Plain.{hinted_plain, refusal_plain, opened_plain, accepted_plain, withdrawn_plain, cancelled_plain, bye_plain, waiting_plain, gone_plain, not_held_plain, why_plain, state_plain, who_plain, list_plain, bad_plain}
 use Rattle.history_law.proofs.Going.{ran_more, all_alike, told_alike, no_account, both, went_none, went_then, at_one, at_own, went_one, went_quiet, true_before, true_behind, every_map, every_both}
 
 -- it says what happened
@@ -384,6 +384,7 @@ acts place (asks.Cancel told) = cancel place told
 acts place (asks.Inside sight) = inside place sight
 acts place asks.Quit = bye place
 acts place (asks.Answer refusal) = tells_only place (line_text (lines.Refused refusal)) (refusal_plain (lines.Refused refusal) tt)
+acts place (asks.Bad advice) = tells_only place (bad_text advice) (bad_plain advice)
 
 pub heeds : (place : ℕ) (asked : Result Ask AllocError) → TellsBy (Heeds place asked)
 heeds place (Ok ask) = acts place ask

@@ -23,12 +23,12 @@ use Rattle.client_core.specs.declared.client.OpenObject.{OpenObject}
 use Rattle.client_core.specs.Held.{is_some, waits_of, with_waits}
 use Rattle.client_core.specs.Asked as told
 use Rattle.client_core.specs.Asked.{Goes}
-use Rattle.client_core.specs.Refusals.{IsRefusal}
+use Rattle.client_core.specs.Refusals.{IsRefusal, bad_text}
 use Rattle.client_core.specs.Deeds.{Texts, Nothing, OnlyTold, Then}
 use Rattle.client_core.specs.State.{Peer, State, change, comer, held_in, nobody, opened_at, opened_in, told_to, waiting, waits_at, who_at, who_in, with_object}
 use Rattle.client_core.specs.Turns.EndsHeld.{all, quits, goes_on}
 use Rattle.client_core.specs.Turns.{EndsAsk, EndsHeld, WithdrawsAt, Leaves, LeavesIf, AsksAgain, EndsFor, EndsForIf, Comes, IfHere, AllLeave, Notes, place_of}
-use Rattle.history_law.proofs.Plain.{bye_plain, plain_refusal, refusal_plain}
+use Rattle.history_law.proofs.Plain.{bye_plain, plain_refusal, refusal_plain, bad_plain}
 use Rattle.history_law.specs.Awaits.{Awaits, IsElementOf, Lines, waits_in}
 use Rattle.history_law.proofs.Acting.{did_leaves}
 use Rattle.history_law.proofs.Deeds.{Did, did_nothing, did_two}
@@ -78,6 +78,7 @@ ends_idle place (Ok (asks.Cancel number)) old new said added (inr (inr is)) idle
 ends_idle place (Ok (asks.Inside sight)) old new said added is idle = only_idle place _ old new said added is idle
 ends_idle place (Ok asks.Quit) old new said added is idle = only_idle place _ old new said added is idle
 ends_idle place (Ok (asks.Answer refusal)) old new said added is idle = only_idle place _ old new said added is idle
+ends_idle place (Ok (asks.Bad advice)) old new said added is idle = only_idle place _ old new said added is idle
 ends_idle place (Err e) old new said added is idle = only_idle place _ old new said added is idle
 
 no_feed_in : (line behind : List ℕ) → NoLineFeed (line ++ 10 ∷ behind) → ⊥
@@ -126,6 +127,8 @@ module _ (heard : Lines) where
       by (Ok asks.Quit) is = acted_only heard place bye_text (Ok asks.Quit) past old new said added (did_ends_ask heard place (Ok asks.Quit) past old new said added a is)
           (λ c here first asks_so. (Ok asks.Quit, is_some (opened_at old place), asks_so, refl)) (plain_end bye_text bye_plain) is
       by (Ok (asks.Answer refusal)) is = refused (Ok (asks.Answer refusal)) (lines.Refused refusal) tt (did_ends_ask heard place (Ok (asks.Answer refusal)) past old new said added a is) (λ c. refl) is
+      by (Ok (asks.Bad advice)) is = acted_only heard place (bad_text advice) (Ok (asks.Bad advice)) past old new said added (did_ends_ask heard place (Ok (asks.Bad advice)) past old new said added a is)
+          (λ c here first asks_so. (Ok (asks.Bad advice), is_some (opened_at old place), asks_so, refl)) (plain_end (bad_text advice) (bad_plain advice)) is
       by (Err e) is = refused (Err e) (lines.Unsubmitted faults.Gone) tt (did_ends_ask heard place (Err e) past old new said added a is) (λ c. plain_refusal (lines.Unsubmitted faults.Gone) tt) is
 
   -- the held lines of one that leaves are answered, and it has gone

@@ -159,6 +159,7 @@ module _ (first : Table) (whole : List Turn) (heard : Lines) (more : (who : ℕ)
   tells_of place s (Ok (asks.Inside sight)) same w = tt
   tells_of place s (Ok asks.Quit) same w = tt
   tells_of place s (Ok (asks.Answer refusal)) same w = tt
+  tells_of place s (Ok (asks.Bad advice)) same w = tt
   tells_of place s (Err e) same w = tt
 
   -- what stands between what is done

@@ -232,6 +232,7 @@ ends_ask_back place (Ok (asks.Cancel number)) old new said added is = back_cance
 ends_ask_back place (Ok (asks.Inside sight)) old new said added is = back_only place _ old new said added is
 ends_ask_back place (Ok asks.Quit) old new said added is = back_only place _ old new said added is
 ends_ask_back place (Ok (asks.Answer refusal)) old new said added is = back_only place _ old new said added is
+ends_ask_back place (Ok (asks.Bad advice)) old new said added is = back_only place _ old new said added is
 ends_ask_back place (Err e) old new said added is = back_only place _ old new said added is
 
 held_back : (place : ℕ) (old new : State) (said added : Texts) → EndsHeld place old said added new → Back old new

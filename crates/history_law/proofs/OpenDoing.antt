@@ -36,7 +36,7 @@ use Rattle.client_core.specs.declared.ask.Sight.TheVariants as insides
 use Rattle.client_core.specs.declared.client.OpenObject.{OpenObject}
 use Rattle.client_core.specs.Asks.{Asks, IsWide, TableDoes, asked_by}
 use Rattle.client_core.specs.Asked as told
-use Rattle.client_core.specs.Refusals.{refusal_text}
+use Rattle.client_core.specs.Refusals.{bad_text, refusal_text}
 use Rattle.client_core.specs.Asked.{AllEnd, AnswersCall, AnswersCancel, AnswersInside, Calls, Heeds, IsRefused, Opens as OpensOne, Repeats, Sits, keyed_text}
 use Rattle.client_core.specs.Custody.{not_held_text}
 use Rattle.client_core.specs.Deeds.{Texts, OnlyTold}
@@ -61,7 +61,7 @@ use Rattle.history_law.proofs.Doing.{to_true}
 use Rattle.history_law.proofs.Going.{every_both, every_map}
 use Rattle.history_law.proofs.Lists.{change_at, has_peer}
 use Rattle.history_law.proofs.OpenBack.{Back, HasAt, all_has, back_begun, back_call, back_cancel, back_goes, back_inside, back_makes, back_only, back_refused, begun, has_opened, sits_object, to_has}
-use Rattle.history_law.proofs.OpenParts.{AreCalm, AreQuiet, IsBusy, IsCalm, busy_in, calls_opens, calm_by, calm_ended, Fact, HasNone, IsOfIt, IsOpenFor, IsQuiet, Keeps, Knows, Names, Opens, OpensOn, Speaks, by_open, keeps_by, knows_any, knows_now, names_went, quiet_along, quiet_by, quiet_hinted, quiet_opens, quiet_refusal, quiet_to, texts_every}
+use Rattle.history_law.proofs.OpenParts.{AreCalm, AreQuiet, IsBusy, IsCalm, busy_in, calls_opens, calm_by, calm_ended, Fact, HasNone, IsOfIt, IsOpenFor, IsQuiet, Keeps, Knows, Names, Opens, OpensOn, Speaks, by_open, keeps_by, knows_any, knows_now, names_went, quiet_along, quiet_by, quiet_hinted, quiet_opens, quiet_refusal, quiet_to, texts_every, quiet_bad}
 use Rattle.history_law.proofs.OrderDoing.{Acted, IsTurn, said_of}
 use Rattle.history_law.proofs.OrderLists.{told_mine, told_other}
 use Rattle.history_law.proofs.OrderStanding.{mine_is}
@@ -477,6 +477,8 @@ module _ (heard : Lines) (c n place : ℕ) (past : Texts) (old new : State) (sai
   heeds_opens ends_where a idle (Ok asks.Quit) is turn = heeds_quiet (back_goes place old new [] added is.goes) (Ok asks.Quit) (λ names k had. tt) idle is (subst AreQuiet (sym is.told) (quiet_to old.peers place bye_text bye_quiet))
   heeds_opens ends_where a idle (Ok (asks.Answer refusal)) is turn =
       heeds_quiet (back_only place (line_text (lines.Refused refusal)) old new said added is) (Ok (asks.Answer refusal)) (λ names k had. tt) idle is (only_quiet place (line_text (lines.Refused refusal)) old new said added (quiet_refusal (lines.Refused refusal) tt) is)
+  heeds_opens ends_where a idle (Ok (asks.Bad advice)) is turn =
+      heeds_quiet (back_only place (bad_text advice) old new said added is) (Ok (asks.Bad advice)) (λ names k had. tt) idle is (only_quiet place (bad_text advice) old new said added (quiet_bad advice) is)
   heeds_opens ends_where a idle (Err e) is turn =
       heeds_quiet (back_only place (line_text (lines.Unsubmitted faults.Memory)) old new said added is) (Err e) (λ names k had. tt) idle is (only_quiet place (line_text (lines.Unsubmitted faults.Memory)) old new said added (quiet_refusal (lines.Unsubmitted faults.Memory) tt) is)
 

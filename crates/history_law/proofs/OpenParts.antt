@@ -13,6 +13,7 @@ use Rattle.decl_core.specs.declared.object.Object.{Object}
 use Rattle.apply_core.specs.History.{End}
 use Rattle.apply_core.specs.declared.reply.Reply.{Reply}
 use Rattle.apply_core.specs.declared.reply.Reply.TheVariants.{Done as DoneBy, Refused, Failed}
+use Rattle.session_text.specs.declared.line.LineRefusal.TheVariants as refusals
 use Rattle.session_text.specs.declared.line.ReplyLine.{ReplyLine as Answer}
 use Rattle.session_text.specs.declared.line.ReplyLine.TheVariants as lines
 use Rattle.session_text.specs.Lines.{accepted_text, ended_text, line_text, opened_text, repeated_text}
@@ -27,10 +28,12 @@ use Rattle.live_core.specs.HostedSteps.{goes_on}
 use Rattle.history_law.specs.Happens.{all_happen}
 use Rattle.keep_loop.specs.Texts.{to}
 use Rattle.keep_loop.specs.declared.served.LineEnd.{LineEnd}
+use Rattle.client_core.specs.declared.ask.Advice.{Advice}
 use Rattle.client_core.specs.declared.ask.Ask.TheVariants as asks
 use Rattle.client_core.specs.declared.client.OpenObject.{OpenObject}
 use Rattle.client_core.specs.Asks.{Asks}
-use Rattle.client_core.specs.Refusals.{IsRefusal, refusal_text}
+use Rattle.client_core.specs.Advice.{advice_text}
+use Rattle.client_core.specs.Refusals.{IsRefusal, bad_text, refusal_text}
 use Rattle.client_core.specs.Deeds.{Texts}
 use Rattle.client_core.specs.State.{Peer, State, opened_in, told_to, who_in}
 use Rattle.history_law.specs.Said.{Account, AllWent, SaysNoReply}
@@ -199,6 +202,9 @@ quiet_hinted (lines.Kept n state) is (b ∷ hint) = absurd is
 quiet_hinted (lines.Withdrawn n) is (b ∷ hint) = absurd is
 quiet_hinted (lines.Cancel n answer) is (b ∷ hint) = absurd is
 quiet_hinted lines.Bye is (b ∷ hint) = absurd is
+
+pub quiet_bad : (advice : Advice) → IsQuiet (bad_text advice)
+quiet_bad advice = quiet_hinted (lines.Refused refusals.BadLine) tt (advice_text advice)
 
 ended_begins : (n : ℕ) (reply : Reply) → OpensNothing (ended_text n reply)
 ended_begins n (DoneBy None) = opens_none_by 100 (ended_text n (DoneBy None)) (λ e. omega (arith, e)) (_, refl)

@@ -13,6 +13,7 @@ use Rattle.keep_loop.specs.declared.served.Note.{Note}
 use Rattle.keep_loop.specs.declared.served.Note.TheVariants as notes
 use Rattle.client_core.specs.declared.ask.Ask.{Ask}
 use Rattle.client_core.specs.declared.ask.Ask.TheVariants as asks
+use Rattle.client_core.specs.Refusals.{bad_text}
 use Rattle.client_core.specs.Deeds.{Texts}
 use Rattle.client_core.specs.Gone.{CallsFor, Settles}
 use Rattle.client_core.specs.Gone.Settles.{rests as settled, goes_on as settles_on, calls as calls_one, seats as seats_two, frees as frees_one}
@@ -32,7 +33,7 @@ use Rattle.history_law.proofs.OpenBack.{HasAt, all_has, back_calls_for, back_not
 use Rattle.history_law.proofs.Leaving.{spoke_notes}
 use Rattle.history_law.proofs.Lists.{changed_was}
 use Rattle.history_law.proofs.OpenDoing.{bye_quiet, cancel_quiet, heeds_speaks, lets_quiet, only_quiet, ran_calm}
-use Rattle.history_law.proofs.OpenParts.{AreQuiet, Fact, HasNone, IsQuiet, Keeps, SpeaksAs, along_map, busy_in, by_open, calls_opens, fact_behind, keeps_by, quiet_refusal, speaks_quiet, speaks_two}
+use Rattle.history_law.proofs.OpenParts.{AreQuiet, Fact, HasNone, IsQuiet, Keeps, SpeaksAs, along_map, busy_in, by_open, calls_opens, fact_behind, keeps_by, quiet_refusal, speaks_quiet, speaks_two, quiet_bad}
 use Rattle.history_law.proofs.OrderDoing.{acted_heeds, spoke_frees, spoke_seats_one, voiced_from}
 use Rattle.history_law.proofs.OrderMaking.{calls_for_where}
 use Rattle.history_law.proofs.OrderStanding.{change_size}
@@ -146,6 +147,7 @@ ends_ask_quiet place (Ok (asks.Cancel number)) old new said added is = cancel_qu
 ends_ask_quiet place (Ok (asks.Inside sight)) old new said added is = only_quiet place (line_text (lines.Unsubmitted faults.Gone)) old new said added (quiet_refusal (lines.Unsubmitted faults.Gone) tt) is
 ends_ask_quiet place (Ok asks.Quit) old new said added is = only_quiet place bye_text old new said added bye_quiet is
 ends_ask_quiet place (Ok (asks.Answer refusal)) old new said added is = only_quiet place (line_text (lines.Refused refusal)) old new said added (quiet_refusal (lines.Refused refusal) tt) is
+ends_ask_quiet place (Ok (asks.Bad advice)) old new said added is = only_quiet place (bad_text advice) old new said added (quiet_bad advice) is
 ends_ask_quiet place (Err e) old new said added is = only_quiet place (line_text (lines.Unsubmitted faults.Gone)) old new said added (quiet_refusal (lines.Unsubmitted faults.Gone) tt) is
 
 held_quiet : (place : ℕ) (old new : State) (said added : Texts) → EndsHeld place old said added new → AreQuiet said

@@ -35,7 +35,7 @@ use Rattle.client_core.specs.Held.{is_some, waits_of}
 use Rattle.history_law.specs.Happens.{with_ran as behind_ran}
 use Rattle.keep_loop.specs.declared.served.LineEnd.{LineEnd}
 use Rattle.client_core.specs.Asked as told
-use Rattle.client_core.specs.Refusals.{IsRefusalText, refusal_text}
+use Rattle.client_core.specs.Refusals.{IsRefusalText, bad_text, refusal_text}
 use Rattle.client_core.specs.Asked.{OpensBare, OpensAs, Opens, GetsNumber, Sits, Calls, Submits, RepeatsUnder, AnswersCall, AnswersInside, LeavesObject, NoneLeaves, Goes, Quits, Acts, Heeds, keyed_text}
 use Rattle.client_core.specs.Custody.{not_held_text}
 use Rattle.client_core.specs.Deeds.{Texts, OnlyTold}
@@ -44,7 +44,7 @@ use Rattle.client_core.specs.declared.last.LastCall.{LastCall}
 use Rattle.client_core.specs.ToldInside.{IsWhy, state_by, form_at, object_in}
 use Rattle.client_core.specs.State.{Peer, State, change, changed, counted, nobody, opened_at, opened_in, opening, session_by, told_to, who_at, who_in}
 use Rattle.history_law.proofs.Going.{at_one, both}
-use Rattle.history_law.proofs.Plain.{hinted_plain, plain_refusal, refusal_of, refusal_plain, opened_plain, waiting_plain, gone_plain, not_held_plain, why_plain, state_plain, who_plain, list_plain}
+use Rattle.history_law.proofs.Plain.{hinted_plain, plain_refusal, refusal_of, refusal_plain, opened_plain, waiting_plain, gone_plain, not_held_plain, why_plain, state_plain, who_plain, list_plain, bad_plain}
 use Rattle.history_law.specs.Said.{Account, AllWent, SaysNoReply}
 use Rattle.history_law.specs.Awaits.{HasOpened, Lines, waits_in, Awaits}
 use Rattle.history_law.proofs.Acting.{HasSat, IsWished, IsWish, did_gets, did_inside, did_opens, did_quits, did_repeats, did_seats_one, did_frees, has_sat, idle_of}
@@ -580,6 +580,11 @@ module _ (heard : Lines) where
       acted_only place text (Ok (asks.Answer refusal)) past old new said added (did_only heard place text (refusal_plain (lines.Refused refusal) tt) past old new said added a is)
       (λ c here first asks_so. (Ok (asks.Answer refusal), is_some (opened_at old place), asks_so, refl))
       (plain_end text (refusal_plain (lines.Refused refusal) tt)) is
+  acted_acts place (asks.Bad advice) past old new said added a w is =
+      let text = bad_text advice in
+      acted_only place text (Ok (asks.Bad advice)) past old new said added (did_only heard place text (bad_plain advice) past old new said added a is)
+      (λ c here first asks_so. (Ok (asks.Bad advice), is_some (opened_at old place), asks_so, refl))
+      (plain_end text (bad_plain advice)) is
 
   pub acted_heeds : (place : ℕ) (asked : Result Ask AllocError) (past : Texts) (old new : State) (said added : Texts) → Awaits heard past old.objects old.peers → IsWish heard place old asked → Heeds place asked old said added new →
       Acted heard past place asked old said added new

@@ -338,6 +338,7 @@ acts place (asks.Cancel told) = cancel place told
 acts place (asks.Inside sight) = inside place sight
 acts place asks.Quit = λ old new said added is. goes place old new [] added is.goes
 acts place (asks.Answer refusal) = only_told place _
+acts place (asks.Bad advice) = only_told place _
 
 pub heeds : (place : ℕ) (asked : Result Ask AllocError) → PassesBy (Heeds place asked)
 heeds place (Ok ask) = acts place ask
@@ -382,6 +383,7 @@ ends_ask place (Ok (asks.Cancel told)) = cancel place told
 ends_ask place (Ok (asks.Inside sight)) = only_told place _
 ends_ask place (Ok asks.Quit) = only_told place _
 ends_ask place (Ok (asks.Answer refusal)) = only_told place _
+ends_ask place (Ok (asks.Bad advice)) = only_told place _
 ends_ask place (Err e) = only_told place _
 
 held : (place : ℕ) → PassesBy (EndsHeld place)

@@ -15,9 +15,12 @@ use Rattle.word_core.specs.Answers.{kept_line, cancelled_line, finished_line}
 use Rattle.session_text.specs.Lines.{accepted_text, bye_text, ended_text, line_text, opened_text, withdrawn_text}
 use Rattle.session_text.specs.declared.line.ReplyLine.{ReplyLine}
 use Rattle.session_text.specs.declared.line.ReplyLine.TheVariants as lines
+use Rattle.session_text.specs.declared.line.LineRefusal.TheVariants as refusals
+use Rattle.client_core.specs.declared.ask.Advice.{Advice}
+use Rattle.client_core.specs.Advice.{advice_text}
 use Rattle.client_core.specs.Asked.{IsRefused}
 use Rattle.client_core.specs.Deeds.{Texts}
-use Rattle.client_core.specs.Refusals.{IsHint, IsRefusal, IsRefusalText, MayHint, refusal_text}
+use Rattle.client_core.specs.Refusals.{IsHint, IsRefusal, IsRefusalText, MayHint, bad_text, refusal_text}
 use Rattle.client_core.specs.Refusals.IsHint.{none as no_hint, objects as of_objects, operations as of_operations, declared as of_declared}
 use Rattle.client_core.specs.State.{State}
 use Rattle.decl_core.specs.HoldForm.{HoldForm}
@@ -137,6 +140,9 @@ hinted_plain (lines.Kept n state) is (b ∷ hint) = absurd is
 hinted_plain (lines.Withdrawn n) is (b ∷ hint) = absurd is
 hinted_plain (lines.Cancel n answer) is (b ∷ hint) = absurd is
 hinted_plain lines.Bye is (b ∷ hint) = absurd is
+
+pub bad_plain : (advice : Advice) → SaysNoReply (bad_text advice)
+bad_plain advice = hinted_plain (lines.Refused refusals.BadLine) tt (advice_text advice)
 
 -- behind which word a text may stand
 pub may_hint : (s : State) (place : ℕ) (line : ReplyLine) (hint : List ℕ) → IsHint s place line hint → MayHint line hint

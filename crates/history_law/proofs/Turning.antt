@@ -13,6 +13,7 @@ use Rattle.keep_loop.specs.declared.served.Note.{Note}
 use Rattle.keep_loop.specs.declared.served.Note.TheVariants as notes
 use Rattle.client_core.specs.declared.ask.Ask.{Ask}
 use Rattle.client_core.specs.declared.ask.Ask.TheVariants as asks
+use Rattle.client_core.specs.Refusals.{bad_text}
 use Rattle.client_core.specs.State.{State}
 use Rattle.client_core.specs.Deeds.{Texts, Deed, OnlyTold, Then}
 use Rattle.client_core.specs.Asked.{Goes}
@@ -23,7 +24,7 @@ use Rattle.client_core.specs.Turns.{HearsLine, HearsLast, HearsAt, TakesLine, Go
 use Rattle.client_core.specs.Gone.{Settles}
 use Rattle.client_core.specs.Gone.Settles.{rests as settled, goes_on as settles_on, calls as calls_one, seats as seats_two, frees as frees_one}
 use Rattle.history_law.specs.Said.{TurnsSay}
-use Rattle.history_law.proofs.Plain.{refusal_plain, bye_plain}
+use Rattle.history_law.proofs.Plain.{refusal_plain, bye_plain, bad_plain}
 use Rattle.history_law.proofs.Going.{no_account}
 use Rattle.history_law.proofs.Doing.{Tells, TellsBy, tells_nothing, tells_only, tells_still, tells_two, tells_then, heeds, cancel, inside, lets_go, goes, calls_for, seats_one, frees}
 
@@ -81,6 +82,7 @@ ends_ask place (Ok (asks.Cancel told)) = cancel place told
 ends_ask place (Ok (asks.Inside sight)) = unsubmitted place faults.Gone
 ends_ask place (Ok asks.Quit) = tells_only place bye_text bye_plain
 ends_ask place (Ok (asks.Answer refusal)) = refused place refusal
+ends_ask place (Ok (asks.Bad advice)) = tells_only place (bad_text advice) (bad_plain advice)
 ends_ask place (Err e) = unsubmitted place faults.Gone
 
 held : (place : ℕ) → TellsBy (EndsHeld place)

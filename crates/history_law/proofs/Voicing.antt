@@ -249,6 +249,7 @@ answer_before heard c objects first more (Ok (asks.Cancel number)) text is = is
 answer_before heard c objects first more (Ok (asks.Inside sight)) text is = is
 answer_before heard c objects first more (Ok asks.Quit) text is = is
 answer_before heard c objects first more (Ok (asks.Answer refusal)) text is = is
+answer_before heard c objects first more (Ok (asks.Bad advice)) text is = is
 answer_before heard c objects first more (Err e) text is = is
 
 answer_behind : (heard : Lines) (c : ℕ) (a b : List Scene) (added : Texts) (first more : Account) → AllWent a added first b → (asked : Result Ask AllocError) (text : List ℕ) → IsAnswerTo heard c b more asked text → IsAnswerTo heard c a (both first more) asked text
@@ -285,6 +286,7 @@ answer_behind heard c a b added first more went (Ok (asks.Cancel number)) text i
 answer_behind heard c a b added first more went (Ok (asks.Inside sight)) text is = is
 answer_behind heard c a b added first more went (Ok asks.Quit) text is = is
 answer_behind heard c a b added first more went (Ok (asks.Answer refusal)) text is = is
+answer_behind heard c a b added first more went (Ok (asks.Bad advice)) text is = is
 answer_behind heard c a b added first more went (Err e) text is = is
 
 -- what is known of a part stays so where more happens,

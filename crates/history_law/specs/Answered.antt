@@ -17,7 +17,7 @@ use Rattle.client_core.specs.declared.ask.Ask.{Ask}
 use Rattle.client_core.specs.declared.ask.Ask.TheVariants as asks
 use Rattle.client_core.specs.Asks.{Asks}
 use Rattle.client_core.specs.Asked.{keyed_text}
-use Rattle.client_core.specs.Refusals.{IsRefusalText}
+use Rattle.client_core.specs.Refusals.{IsRefusalText, bad_text}
 use Rattle.client_core.specs.Custody.{not_held_text}
 use Rattle.history_law.specs.Said.{Account, SaysNoReply}
 use Rattle.history_law.specs.Awaits.{HasOpened, Lines}
@@ -53,6 +53,7 @@ IsAnswerTo heard who objects account (Ok (asks.Cancel number)) text = AnswersCan
 IsAnswerTo heard who objects account (Ok (asks.Inside sight)) text = SaysNoReply text
 IsAnswerTo heard who objects account (Ok asks.Quit) text = text ≡ bye_text
 IsAnswerTo heard who objects account (Ok (asks.Answer refusal)) text = text ≡ line_text (lines.Refused refusal)
+IsAnswerTo heard who objects account (Ok (asks.Bad advice)) text = text ≡ bad_text advice
 IsAnswerTo heard who objects account (Err e) text = IsRefusalText text
 
 abbrev pub IsAnswer : Lines → ℕ → List Scene → Account → Line → List ℕ → Type 0

@@ -1,5 +1,5 @@
-//! Texts for people behind the words of refusals: which objects or operations there are, and how an operation is declared. Where
-//! memory is refused for one the word stands alone.
+//! Texts for people behind the words of refusals: which objects or operations there are, how an operation is declared, and
+//! what is wrong with a bad line. Where memory is refused for one the word stands alone.
 
 ghost use Rattle.std.specs.Prelude.{◌≡◌, ◌<◌, ◌+◌, ◌++◌, [], ℕ, Some, OnOk, IfOk, IfSome, IfNone, codes, length, slice_get};
 ghost use Rattle.decl_core.specs.ObjectMap.{object_of, operation_of, operations_of, params_of};
@@ -8,16 +8,19 @@ ghost use Rattle.session_text.specs.declared.line.ReplyLine.TheVariants as lines
 ghost use Rattle.session_text.specs.Lines.{line_text};
 ghost use Rattle.client_core.specs.Deeds.{OnlyTold};
 ghost use Rattle.client_core.specs.Asked.{IsRefused};
-ghost use Rattle.client_core.specs.Refusals.{IsHint, IsRefusal, TellsNames, declared_text, kind_text, listed_params, params_text, refusal_text, result_text, without_feed};
+ghost use Rattle.client_core.specs.Advice.{advice_text};
+ghost use Rattle.client_core.specs.Refusals.{IsHint, IsRefusal, TellsNames, bad_text, declared_text, kind_text, listed_params, params_text, refusal_text, result_text, without_feed};
 ghost use Rattle.table_core.specs.Brings.{Brings};
 ghost use Rattle.table_core.specs.Hints.{AddsListed, IsDeclared, IsHintAt, IsHintOf, names_in, names_of};
 ghost use Rattle.table_core.specs.Said.{no_word, said_more};
 ghost use Rattle.table_core.specs.Seen.{seen};
 
-use crate::peers::opened_at;
+use crate::notices::note_bad;
+use crate::peers::{bad_at, opened_at};
 use crate::said::more_said;
 use crate::table::Table;
 use crate::tell::tell;
+use client_core::ask::Advice;
 use decl_core::object::{Object, Operation, Param};
 use guest_core::answer::SubmitFault;
 use keep_loop::Post;
@@ -233,6 +236,31 @@ fn declared_of(alloc: Global, object: &Object, operation: OpId) -> Option<Vec<u8
     }
 }
 
+// What a client is told of a bad line.
+fn advice_text(advice: Advice) -> &'static [u8]
+    ensures { result.now ≡ advice_text advice }
+{
+    match advice {
+        Advice::Blank => b"",
+        Advice::Verb => {
+            b"a line begins with open, call, cancel, why, who, list or quit, in small letters; an operation is called so: call put 'x' 7"
+        }
+        Advice::Web => {
+            b"this is no server of HTTP: a line begins with open, call, cancel, why, who, list or quit"
+        }
+        Advice::Double => b"a text stands between two ' and not between two \": call put 'x' 7",
+        Advice::Parens => {
+            b"what an operation takes stands behind its name, without parentheses: call put 'x' 7"
+        }
+        Advice::Comma => {
+            b"between what an operation takes stands a space, and no comma: call put 'x' 7"
+        }
+        Advice::Argument => {
+            b"an operation takes numbers, up to 4294967295, and texts, each between two ': call put 'x' 7"
+        }
+    }
+}
+
 // Which operations an object has.
 fn operations_in(alloc: Global, object: &Object) -> Option<Vec<u8>>
     ensures { IfSome result (λ hint. TellsNames (names_in (object_of object.now).operations) hint.items) }
@@ -334,6 +362,22 @@ impl Table {
     {
         let hint = self.object_names();
         self.tell_refusal(place, ReplyLine::Refused(LineRefusal::NoObject), hint, post)?;
+        Ok(())
+    }
+
+    // Tells the one at a place that a line of it is bad, and what is wrong with it; the line is noticed.
+    pub(crate) fn refuse_bad(
+        &mut self,
+        place: usize,
+        advice: Advice,
+        post: &mut Post,
+    ) -> Result<(), AllocError>
+        ensures { OnOk result (Brings (OnlyTold place (bad_text advice)) post.old (seen self.old) post.new (seen self.new)) }
+    {
+        let bad = bad_at(&self.clients, place);
+        note_bad(&mut self.notices, bad, LineRefusal::BadLine);
+        let line = ReplyLine::Refused(LineRefusal::BadLine);
+        self.tell_hinted(place, line, advice_text(advice), post)?;
         Ok(())
     }
 

@@ -64,6 +64,10 @@ impl Table {
                 self.refuse_line(place, refusal, post)?;
                 Ok(())
             }
+            Ask::Bad(advice) => {
+                self.refuse_bad(place, advice, post)?;
+                Ok(())
+            }
         }
     }
 
@@ -360,6 +364,10 @@ impl Table {
             }
             Ok(Ask::Answer(refusal)) => {
                 self.refuse_line(place, refusal, post)?;
+                Ok(())
+            }
+            Ok(Ask::Bad(advice)) => {
+                self.refuse_bad(place, advice, post)?;
                 Ok(())
             }
             Ok(Ask::Cancel(number)) => {
