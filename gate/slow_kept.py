@@ -157,6 +157,27 @@ def declared(made: Object, op: str) -> str:
     return f"{op}({'; '.join(params)}){kind}" if names else f"{op}{kind}"
 
 
+ANY_LINE = "a line begins with open, call, cancel, why, who, list or quit, in small letters; an operation is called so: call put 'x' 7"
+WEB_LINE = "this is no server of HTTP: a line begins with open, call, cancel, why, who, list or quit"
+# What is wrong with a bad line that begins with `call `, by a letter that stands in it.
+BAD_CALLS = {
+    '"': "a text stands between two ' and not between two \": call put 'x' 7",
+    "(": "what an operation takes stands behind its name, without parentheses: call put 'x' 7",
+    ",": "between what an operation takes stands a space, and no comma: call put 'x' 7",
+    "": "an operation takes numbers, up to 4294967295, and texts, each between two ': call put 'x' 7",
+}
+
+
+def advice(line: str) -> tuple[str, ...]:
+    """What stands behind `no BadLine`: what is wrong with the line, and nothing where it is blank."""
+    line = line.lstrip(" ")
+    if line.startswith("call "):
+        return (next(text for letter, text in BAD_CALLS.items() if letter in line),)
+    if line.startswith(("GET /", "HEAD /", "POST /")):
+        return (WEB_LINE,)
+    return (ANY_LINE,) if line else ()
+
+
 class Slow:
     """All objects of a server, and what clients say."""
 
@@ -209,7 +230,7 @@ class Slow:
     def heed(self, speaker: "Speaker", line: str, is_whole: bool) -> None:
         request = read(line)
         if request is None:
-            speaker.tell("no", "BadLine")
+            speaker.tell("no", "BadLine", *advice(line))
         elif request[0] == "open":
             self.open(speaker, *request[1:])
         elif request[0] == "quit":
@@ -292,7 +313,9 @@ class Slow:
             there(speaker.hall).cancel(speaker.waits)
         for line, is_whole in speaker.held:
             request = read(line)
-            if request is None or request[0] == "cancel" and not is_whole:
+            if request is None:
+                speaker.tell("no", "BadLine", *advice(line))
+            elif request[0] == "cancel" and not is_whole:
                 speaker.tell("no", "BadLine")
             elif request[0] == "quit":
                 speaker.tell("bye")

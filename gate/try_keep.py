@@ -14,6 +14,7 @@ from collections.abc import Callable, Iterable, Iterator, Sequence
 
 from gate import served
 from gate.served import Server, free_port
+from gate.slow_kept import ANY_LINE, BAD_CALLS, WEB_LINE
 from gate.tried import TOP, Trial, check, given_words, holds, in_folder, loads, program, run, there, title_of
 
 SECONDS = 60
@@ -380,6 +381,25 @@ def a_refusal_tells_what_there_is(place: Place) -> None:
         holds(len(answer) - len("no UnknownOp ") <= 1_000, "it is too long")
 
 
+def a_bad_line_is_told_what_is_wrong(place: Place) -> None:
+    """Of each of the nine that a new user sends; before `open`, behind it, and of one who has left. A line of spaces has no text."""
+    place.file.write_text(BUFFER, encoding="ascii")
+    quotes, parens, comma, other = BAD_CALLS.values()
+    wrong = {
+        "help": ANY_LINE, "PING": ANY_LINE, "GET /": WEB_LINE, "put 'x'": ANY_LINE, "call put bread": other, 'call put "x"': quotes, "call put('x')": parens,
+        "call put 'x',": comma, "CALL waiting": ANY_LINE, "call": ANY_LINE, "  call put 7x": other, "POST /a HTTP/1.1": WEB_LINE, "call put 'x": other,
+    }
+    answers = [f"no BadLine {it}" for it in wrong.values()]
+    holds(all(len(it) <= len("no BadLine ") + 1_000 for it in answers), "a text is too long")
+    with place.served("keep") as say:
+        check(say(*wrong)[:-1], answers, "before an object is open")
+        check(say("open buffer", *wrong)[1:-1], answers, "behind `open`")
+        check(say("open buffer", "", "  ")[1:-1], ["no BadLine"] * 2, "of lines without a word")
+        for line, text in wrong.items():
+            check(says_cut(place.server, "open buffer", line), ["opened buffer", f"no BadLine {text}"], f"{line} without its LF")
+        check(says_cut(place.server, "open buffer", "call get", "help", "cancel 1")[2:], ["cancelled 1", f"no BadLine {ANY_LINE}", "no BadLine"], "of one who has left")
+
+
 def all_nodes_that_refuse_are_told(place: Place) -> None:
     """A slot that nobody has free: the bound of the path is full, and one that gives a slot back is waited for."""
     place.file.write_text((TOP / "examples" / "objects" / "build_slots.pp").read_text(encoding="ascii"), encoding="ascii")
@@ -423,7 +443,7 @@ def lines_that_ask_for_nothing_are_bad(place: Place) -> None:
         check(say("why 1", "who", "who 1", "list")[:-1], ["no NotOpen"] * 3 + ["list 1", "object cell"], "before `open`")
         most = str(2**64 - 1)
         lines = ("why", "why x", "why 1 2", "why 'a'", f"why {2**64}", "who x", "who 1 2", f"who {2**64}", "list 1", "WHO", f"why {most}", f"who {most}")
-        check(say("open cell", *lines)[1:-1], ["no BadLine"] * 10 + [f"why {most} Unknown", "who 0"], "what is answered")
+        check(say("open cell", *lines)[1:-1], [f"no BadLine {ANY_LINE}"] * 10 + [f"why {most} Unknown", "who 0"], "what is answered")
         for line, answer in (("why 1", "no BadLine"), ("who", "no BadLine"), ("list", "no BadLine")):
             check(says_cut(place.server, "open cell", line), ["opened cell", answer], f"{line} without its LF")
 
@@ -448,6 +468,7 @@ def a_page_has_256_sessions(place: Place) -> None:
 TRIES = [
     one_that_waits_asks_why,
     a_refusal_tells_what_there_is,
+    a_bad_line_is_told_what_is_wrong,
     all_nodes_that_refuse_are_told,
     what_fills_a_node_is_told,
     lines_that_ask_for_nothing_are_bad,

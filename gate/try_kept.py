@@ -290,7 +290,7 @@ def who_was_owed_much_keeps_little(folder: pathlib.Path, big: bool) -> None:
     server, count = Server(folder, COUNTER, "--sync", "1000", "--at-once", "200").start(), 100
     talks = [Talk(server) for _ in range(count)]
     for number, it in enumerate(talks):
-        it.say("open counter", *["x"] * 4_000)
+        it.say("open counter", *[""] * 4_000)
         it.hears("opened counter", *["no BadLine"] * 4_000)
         if number == 2:
             before = server.memory()
