@@ -312,6 +312,7 @@ fn fed(alloc: Global, is_open: bool, is_whole: bool, line: &[u8]) -> Result<Acti
 }
 
 // What a line asks for whose number or key has more than 32 bits, and what is wrong with it where it is bad.
+#[tactic(auto, using(crate::proofs::Insides::wide_bad))]
 fn wide(alloc: Global, is_open: bool, is_whole: bool, line: &[u8]) -> Result<Ask, AllocError>
     ensures { IfOk result (IsWide is_open is_whole line.now) }
 {

@@ -8,10 +8,12 @@ use Rattle.guest_core.specs.declared.answer.SubmitFault.{SubmitFault}
 use Rattle.session_text.specs.declared.line.LineRefusal.TheVariants as refusals
 use Rattle.session_text.specs.declared.line.ReplyLine.{ReplyLine}
 use Rattle.session_text.specs.declared.line.ReplyLine.TheVariants as lines
+use Rattle.client_core.specs.declared.ask.Advice.{Advice}
 use Rattle.client_core.specs.declared.client.OpenObject.{OpenObject}
+use Rattle.client_core.specs.Advice.{advice_text}
 use Rattle.client_core.specs.Deeds.{OnlyTold}
 use Rattle.client_core.specs.Asked.{IsRefused}
-use Rattle.client_core.specs.Refusals.{IsHint, IsRefusal, TellsNames, refusal_text, without_feed}
+use Rattle.client_core.specs.Refusals.{IsHint, IsRefusal, TellsNames, bad_text, refusal_text, without_feed}
 use Rattle.client_core.specs.Refusals.IsHint.{objects as of_objects, operations as of_operations, declared as of_declared}
 use Rattle.client_core.specs.State.{State, opened_at}
 use Rattle.live_core.specs.Scene.{Scene}
@@ -56,6 +58,12 @@ pub refuses_so : (a b : Post) (old new : State) (place : ℕ) (line : ReplyLine)
     Brings (IsRefused place) a old b new
 refuses_so a b old new place line hint is hinted brings =
     brings_as (OnlyTold place (refusal_text line hint)) (IsRefused place) a b old new (λ said added only. record { line = line; is = is; hint = hint; hinted = hinted; only = only }) brings
+
+-- what is wrong with a bad line is told
+pub tells_bad : (a b : Post) (old new : State) (place : ℕ) (advice : Advice) (hint : List ℕ) → hint ≡ advice_text advice →
+    Brings (OnlyTold place (refusal_text (lines.Refused refusals.BadLine) hint)) a old b new → Brings (OnlyTold place (bad_text advice)) a old b new
+tells_bad a b old new place advice hint is brings =
+    subst (λ (h : List ℕ). Brings (OnlyTold place (refusal_text (lines.Refused refusals.BadLine) h)) a old b new) is brings
 
 -- the text of the object that is open
 pub is_hint : (s : State) (place : ℕ) (opened : OpenObject) (fault : SubmitFault) (hint : List ℕ) → Some opened ≡ opened_at s place → IsHintAt s.objects opened.object fault hint →

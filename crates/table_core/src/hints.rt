@@ -366,6 +366,7 @@ impl Table {
     }
 
     // Tells the one at a place that a line of it is bad, and what is wrong with it; the line is noticed.
+    #[tactic(auto, using(crate::proofs::Hinting::tells_bad))]
     pub(crate) fn refuse_bad(
         &mut self,
         place: usize,
