@@ -5,6 +5,7 @@ use Rattle.value_core.specs.declared.datum.Datum.{Datum}
 use Rattle.word_core.specs.Words.{Word, bare, IsFirst, AreWords}
 use Rattle.word_core.specs.Data.{data_of, long_of}
 use Rattle.session_text.specs.Table.{Takes, TakesLast}
+use Rattle.session_text.specs.declared.line.LineRefusal.{LineRefusal}
 use Rattle.session_text.specs.declared.line.LineRefusal.TheVariants as refusals
 use Rattle.session_text.specs.declared.session.Action.{Action}
 use Rattle.session_text.specs.declared.session.Action.TheVariants as actions
@@ -108,7 +109,17 @@ IsWide opened false line (asks.Bad advice) = advice ≡ advice_of line
 IsWide opened false line (asks.Answer refusals.BadLine) = Unit {0}
 IsWide opened whole line ask = ⊥
 
--- a line asks for this: what the table does for it, but that a bad line may have a number of 64 bits
+-- the table takes a line for a bad one
+abbrev pub is_bad_word : LineRefusal → Bool
+is_bad_word refusals.BadLine = true
+is_bad_word refusal = false
+
+abbrev pub is_bad_action : Action → Bool
+is_bad_action (actions.Answer refusal) = is_bad_word refusal
+is_bad_action action = false
+
+-- a line asks for this: what the table does for it, but that one that is bad there may have a number of 64 bits, or ask to see
+-- something; else it is what is wrong with it
 abbrev pub Asks : Bool → Bool → List ℕ → Ask → Type 0
 Asks opened whole line ask = (action : Action) × TableDoes opened whole line action
-    × ((ask ≡ asked_by action) ⊎ ((action ≡ actions.Answer refusals.BadLine) × IsWide opened whole line ask))
+    × (((is_bad_action action ≡ false) × (ask ≡ asked_by action)) ⊎ ((is_bad_action action ≡ true) × IsWide opened whole line ask))

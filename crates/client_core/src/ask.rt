@@ -1,11 +1,9 @@
 //! What a line of a client asks for.
 
-ghost use Rattle.std.specs.Prelude.{◌≡◌, true, IfOk, IfSome};
+ghost use Rattle.std.specs.Prelude.{◌≡◌, IfOk, IfSome};
 ghost use Rattle.word_core.specs.Reads.{Reads};
-ghost use Rattle.session_text.specs.declared.line.LineRefusal.TheVariants as refusals;
-ghost use Rattle.session_text.specs.declared.session.Action.TheVariants as actions;
 ghost use Rattle.client_core.specs.Advice.{advice_at, advice_of, call_advice, has_none, is_web};
-ghost use Rattle.client_core.specs.Asks.{TableDoes, asked_by, IsKeyed, IsLongCancel, IsWide, Asks};
+ghost use Rattle.client_core.specs.Asks.{is_bad_action, is_bad_word, TableDoes, asked_by, IsKeyed, IsLongCancel, IsWide, Asks};
 ghost use Rattle.client_core.specs.Asks.{IsCallVerb, IsKey, IsKeyFront, IsBehindKey};
 ghost use Rattle.client_core.specs.Asks.{may_see, SeesInside};
 ghost use Rattle.client_core.specs.Inside.{inside_in, inside_by, why_behind, who_behind, list_behind, IsInside};
@@ -367,13 +365,31 @@ fn wide_call(is_open: bool, is_whole: bool, line: &[u8], call: Ask) -> Ask
     call
 }
 
+fn is_bad_word(refusal: LineRefusal) -> bool
+    ensures { result ≡ is_bad_word refusal }
+{
+    match refusal {
+        LineRefusal::BadLine => true,
+        LineRefusal::LineTooLong => false,
+        LineRefusal::NotOpen => false,
+        LineRefusal::Opened => false,
+        LineRefusal::NoObject => false,
+        LineRefusal::InUse => false,
+        LineRefusal::Full => false,
+        LineRefusal::Gone => false,
+    }
+}
+
 // Whether the table takes a line for a bad one.
 fn is_bad(action: &Action) -> bool
-    ensures { result ≡ true → action.now ≡ actions.Answer refusals.BadLine }
+    ensures { result ≡ is_bad_action action.now }
 {
     match action {
-        Action::Answer(LineRefusal::BadLine) => true,
-        _ => false,
+        Action::Answer(refusal) => is_bad_word(*refusal),
+        Action::Open(_, _) => false,
+        Action::Call(_, _, _) => false,
+        Action::Cancel(_) => false,
+        Action::Quit => false,
     }
 }
 

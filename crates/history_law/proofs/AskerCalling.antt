@@ -61,7 +61,7 @@ taken_none opened line action (inl (q, is, does)) = last_none opened q action do
 taken_none opened line action (inr (none, same)) = no_call action refusals.BadLine same
 
 not_last : (opened : Bool) (line : List ℕ) (ask : Ask) → IsCall ask → Asks opened false line ask → ⊥
-not_last opened line ask is (action, does, inl same) = taken_none opened line action does (subst IsCall same is)
+not_last opened line ask is (action, does, inl (good, same)) = taken_none opened line action does (subst IsCall same is)
 not_last opened line ask is (action, does, inr (bad, wide)) = call_is ask is opened line wide
 
 pub call_is_whole : (opened whole : Bool) (line : List ℕ) (key : Option ℕ) (name : List ℕ) (arguments : Vec Datum) → Asks opened whole line (asks.Call key name arguments) → whole ≡ true

@@ -101,7 +101,7 @@ not_wide false line name client is = is
 
 opens_false : (b whole : Bool) (line name : List ℕ) (client : Option (List ℕ)) → Asks b whole line (asks.Open name client) → b ≡ false
 opens_false false whole line name client is = refl
-opens_false true whole line name client (action, does, inl same) = absurd (not_by whole line name client action does same)
+opens_false true whole line name client (action, does, inl (good, same)) = absurd (not_by whole line name client action does same)
 opens_false true whole line name client (action, does, inr (bad, wide)) = absurd (not_wide whole line name client wide)
 
 -- what is told where nothing is opened, and no call is repeated
