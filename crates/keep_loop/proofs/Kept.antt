@@ -198,6 +198,11 @@ module _ {S : Type 0} (rules : Rules S) where
   pub renews_none : (a : Option (List Happened)) (one : Keep S) → Renews rules a one a one
   renews_none a one first limits = good_of_rested a one first limits
 
+  -- memory was refused for the front of the one that is due
+  pub renews_seen : (before after : Option (List Happened)) (old new : Keep S) → after ≡ before → new ≡ old → Renews rules before old after new
+  renews_seen before after old new is left =
+      subst (λ k. Renews rules before old after k) (sym left) (subst (λ a. Renews rules before old a old) (sym is) (renews_none before old))
+
   -- a journal was stored for which no answer waits
   pub sends_synced : (journal : ℕ) (before after : Option (List Happened)) (old : Keep S) → old.limits.waits ≡ false → Grows (Stored journal) before after → Sends rules before old after old
   sends_synced journal before after old waits is =
