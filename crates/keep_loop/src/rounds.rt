@@ -395,8 +395,8 @@ fn delay<O: Served, W: Outside>(keep: &mut Keep<O>, outside: &mut W, journal: us
     keep.delay(journal);
 }
 
-// Begins a journal anew, where one is due, or tells that memory was refused for its front, which is put in place of what is in
-// `front`.
+// Begins a journal anew, where one is due, with a front that is put in place of what is in `front`. Where memory was refused
+// for it, that is told.
 fn change<O: Served, W: Outside>(
     keep: &mut Keep<O>,
     outside: &mut W,

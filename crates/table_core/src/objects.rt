@@ -1,6 +1,6 @@
 //! What is done with the object at a place. Where there is none, nothing is done.
 
-ghost use Rattle.std.specs.Prelude.{◌≡◌, [], ◌∷◌, ℕ, Ok, Err, Some, true, false, IfOk, IfErr, IfSome, OnErr, slice_get, slice_set};
+ghost use Rattle.std.specs.Prelude.{◌≡◌, [], ◌∷◌, ℕ, Ok, Err, Some, true, false, IfOk, IfErr, IfSome, IsTrue, OnErr, slice_get, slice_set};
 ghost use Rattle.guest_core.specs.declared.answer.Cancelled.TheVariants as answers;
 ghost use Rattle.live_core.specs.declared.hosted.KeyState.TheVariants as keys;
 ghost use Rattle.live_core.specs.Keys.{Says, WaitsAs};
