@@ -215,7 +215,8 @@ impl<O: Served> Keep<O> {
 
     // Memory was refused for the front of a journal.
     pub(crate) fn delay(&mut self, journal: usize)
-        ensures { self.new ≡ self.old }
+        ensures stands { (first : O) (limits : LoopLimits) (seen : List Happened) → Stands O.gives first limits seen self.old
+            → Stands O.gives first limits seen self.new }
     {
         self.object.delay(journal);
     }

@@ -387,7 +387,7 @@ fn change_one<O: Served, W: Outside>(
 }
 
 // Memory was refused for the front of a journal, which is told.
-#[tactic(auto, using(crate::proofs::Kept::renews_seen))]
+#[tactic(auto, using(crate::proofs::Kept::renews_stays))]
 fn delay<O: Served, W: Outside>(keep: &mut Keep<O>, outside: &mut W, journal: usize)
     ensures { Renews (rules_of O.gives O.fronts) (W.seen outside.old) keep.old (W.seen outside.new) keep.new }
 {

@@ -1,6 +1,6 @@
 //! What is served.
 
-ghost use Rattle.std.specs.Prelude.{◌≡◌, [], List, ℕ, OnOk, IfOk, IfSome};
+ghost use Rattle.std.specs.Prelude.{[], false, List, ℕ, OnOk, IfOk, IfSome};
 ghost use Rattle.keep_loop.specs.Posts.{Does};
 ghost use Rattle.keep_loop.specs.Turns.{Asked};
 ghost use Rattle.keep_loop.specs.Turns.Asked.{Heard, Noted, Changes};
@@ -83,9 +83,9 @@ pub trait Served {
     fn due(&self, front: &mut Vec<u8>) -> Result<Option<usize>, NoFront>
         ensures { IfOk result (λ due. IfSome due (λ journal. fronts self.now journal front.new.items)) };
 
-    /// Memory was refused for the front of a journal: it is not due for a while. Nothing else changes.
+    /// Memory was refused for the front of a journal: it has not begun anew, and is not due for a while.
     fn delay(&mut self, journal: usize)
-        ensures { self.new ≡ self.old };
+        ensures { gives self.old (Changes journal [] false) [] [] self.new };
 
     /// A journal has begun anew, or it could not (`went` is false), and goes on.
     fn changed(&mut self, journal: usize, front: &[u8], went: bool) -> Result<(), AllocError>
