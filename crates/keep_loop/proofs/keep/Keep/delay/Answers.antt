@@ -6,5 +6,8 @@ use Rattle.keep_loop.proofs.keep.Keep.delay.Goals as goal
 
 pub returns : goal.returns
 returns g c =
-    let new : Keep g.row.O.Denot = record { object = c.delay.new.self; post = c.args.self.now.post; held = c.args.self.now.held; base = c.args.self.now.base; free = c.args.self.now.free; has_freed = c.args.self.now.has_freed; limits = c.args.self.now.limits } in
-    λ first limits seen s. stands_stays g.O.Served.gives first limits seen c.args.self.now new c.args.journal [] refl refl refl refl c.delay.ensures s
+    record {
+      stands = λ first limits seen s.
+          let new : Keep g.row.O.Denot = record { object = c.delay.new.self; post = c.args.self.now.post; held = c.args.self.now.held; base = c.args.self.now.base; free = c.args.self.now.free; has_freed = c.args.self.now.has_freed; limits = c.args.self.now.limits } in
+          stands_stays g.O.Served.gives first limits seen c.args.self.now new c.args.journal [] refl refl refl refl c.delay.ensures s;
+    }
