@@ -46,7 +46,7 @@ class Server(served.Server):
 
     def lines(self, name: str) -> bytes:
         """The lines of the journal of an object."""
-        return (self.folder / f"{name}.journal").read_bytes().split(b"\0")[0]
+        return (self.folder / f"{name}.journal").read_bytes().partition(b"\0")[0]
 
     def epoch(self, name: str) -> int:
         """The epoch of which they tell."""

@@ -14,6 +14,9 @@ all that it reads: FILE is not there.
 Of each kind so many numbers are tried, further and further apart, that there are N runs in all, 150 where no number is
 given; with `--runs 0` each number is tried, from the first one given on. KIND leaves out all kinds whose names do not
 have these words. Where there is no `cc` nothing is run.
+
+Where memory is refused for a new epoch the old one goes on, and standard error says that this is why: so it is in some
+run of `epochs, memory` where each number is tried.
 """
 import concurrent.futures
 import contextlib
@@ -60,6 +63,8 @@ PAST = ("--past", "buffer:put:2", "--past", "echo:say:3")
 WHY = re.compile(r"(?:(?:/\S+: this (?:file|folder) cannot be (?:opened|made|read|written|stored|renamed)"
                  r"|connections cannot be waited for)(?:: (?P<cause>.+))?|\w+\.\w+ not saved)")
 CAUSES = {errno.EIO: "the disk failed", errno.ENOSPC: "the disk is full", errno.EMFILE: "there are too many open files"}
+# What is said where memory is refused for a new epoch.
+NO_FRONT = re.compile(r"\w+: no new epoch could be written, the old one goes on: there is no memory")
 CALLS, PUMPED, ROUNDS = 12, 3300, 2400
 KILLED = -9
 
@@ -100,6 +105,8 @@ class Run:
     def __init__(self, libraries: Libraries, kind: Kind, number: int) -> None:
         self.kind, self.number, self.libraries, self.was_refused = kind, number, libraries, False
         self.wrong: str | None = None
+        # Whether no epoch could begin for want of memory, which was told.
+        self.lacks_front = False
 
     def go(self) -> "Run":
         with tempfile.TemporaryDirectory(prefix="refuse-", dir=ROOMS) as folder:
@@ -168,6 +175,11 @@ class Run:
         if status == 3:
             is_told(self.kind, error)
         holds(status != 4 or error == "out of memory\n", f"status 4, standard error {error!r}")
+        told = [it for it in error.splitlines() if "no new epoch" in it]
+        if told and not self.kind.env:
+            check(len(told), 1, "how often it is told that no epoch could begin")
+            holds(NO_FRONT.fullmatch(told[0]), f"standard error {error!r} does not tell that memory was refused")
+            self.lacks_front = True
 
     def tried(self, folder: pathlib.Path) -> None:
         # What was kept before has to be there too.
@@ -290,9 +302,10 @@ def spread(count: int) -> list[int]:
     return found
 
 
-def each_of(pool: concurrent.futures.Executor, libraries: Libraries, kind: Kind, numbers: Iterable[int], jobs: int) -> tuple[int, int]:
-    """Tries these numbers of a kind, as long as something is refused."""
-    passed = failed = 0
+def each_of(pool: concurrent.futures.Executor, libraries: Libraries, kind: Kind, numbers: Iterable[int], jobs: int) -> tuple[int, int, int]:
+    """Tries these numbers of a kind, as long as something is refused: how many passed, how many failed, and in how many of
+    the first no epoch could begin for want of memory."""
+    passed = failed = lacking = 0
     numbers, goes_on = iter(numbers), True
     while goes_on and failed < 5:
         batch = [it for it, _ in zip(numbers, range(jobs))] if jobs else []
@@ -304,8 +317,9 @@ def each_of(pool: concurrent.futures.Executor, libraries: Libraries, kind: Kind,
                 print(f"{kind.name}, {it.number}: {it.wrong}", flush=True)
             else:
                 passed += 1
+                lacking += it.lacks_front
                 goes_on = goes_on and it.was_refused
-    return passed, failed
+    return passed, failed, lacking
 
 
 def main() -> int:
@@ -325,6 +339,9 @@ def main() -> int:
             ran = each_of(pool, libraries, kind, numbers, given["jobs"])
             print(f"{kind.name}: {ran[0]} runs passed, {ran[1]} failed", flush=True)
             passed, failed = passed + ran[0], failed + ran[1]
+            if kind.name == "epochs, memory" and not given["runs"] and given["first"] == 1 and not ran[2]:
+                print(f"{kind.name}: in no run memory is refused for a new epoch", flush=True)
+                failed += 1
     print(f"refuse_kept: {passed} passed, {failed} failed")
     return 1 if failed or not passed else 0
 

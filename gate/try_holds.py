@@ -453,27 +453,30 @@ def the_clock_goes_by_itself(folder: pathlib.Path, seconds: float) -> None:
 
 
 def a_crash_makes_no_more_calls_by_the_clock(folder: pathlib.Path, seconds: float) -> None:
-    """The time of the last one stands in the journal, also in the front of the next epoch: the next one comes behind it."""
+    """The time of the last one stands in the journal, also in the front of the next epoch: the next one comes behind it. What
+    is looked at is the same where this machine has much else to do, and some have come before that."""
     server = Server(folder, CLOCK.replace("every 1", "every 5")).start()
-    until(lambda: number(server, "clock", "now") == 1, "no tick at the first start", 10)
 
-    def last() -> int:
-        found = re.findall(rb"^tick tick ([0-9]+) [0-9a-f]{8}$", server.lines("clock"), re.M)
-        return int(found[-1]) if found else 0
-    until(lambda: last() > 0, "the journal tells of no tick", 10)
-    first = last()
-    holds(abs(time.time() - first) < 5, f"the tick was in second {first}, it is {time.time()}")
-    for _ in range(3):
+    def told() -> list[int]:
+        return [int(it) for it in re.findall(rb"^tick tick ([0-9]+) [0-9a-f]{8}$", server.lines("clock"), re.M)]
+    until(told, "the journal tells of no tick", 10)
+    first = told()[0]
+    holds(abs(time.time() - first) < 60, f"the tick was in second {first}, it is {time.time()}")
+
+    def looked(when: str) -> int:
+        """How many came: no more than there can be by now."""
+        found, last, now = number(server, "clock", "now"), told()[-1], time.time()
+        holds(1 <= found <= 1 + (now - first) // 5, f"{when}: {found} ticks, {now - first:.1f} s behind the first")
+        holds(first <= last <= now, f"{when}: the last of which the journal tells was {now - last:.1f} s ago")
+        return found
+    for at in range(3):
         server.revive()
-        found = number(server, "clock", "now")
-        if time.time() < first + 5:
-            check((found, last()), (1, first), "the ticks, and the last one of which the journal tells")
-    until(lambda: number(server, "clock", "now") == 2, "no second tick", 15)
-    holds(time.time() >= first + 5, f"the second tick came {time.time() - first} seconds behind the first")
+        looked(f"behind crash {at + 1}")
+    until(lambda: looked("behind all crashes") >= 2, "no second tick", 15)
     server.end()
-    holds(last() >= first + 5, "the journal tells of no second tick")
+    holds(told()[-1] >= first + 5, "the journal tells of no second tick")
     server.start()
-    check(number(server, "clock", "now"), 2)
+    holds(looked("behind an end") >= 2, "ticks are gone")
     server.ends("clock")
     # Where the clock was put back it comes at most so many seconds behind the start.
     journal = server.folder / "clock.journal"
@@ -484,7 +487,8 @@ def a_crash_makes_no_more_calls_by_the_clock(folder: pathlib.Path, seconds: floa
     changed = lines[:begun] + words + b"%08x\n" % crc32c(words)
     journal.write_bytes(changed + bytes(len(text) - len(changed)))
     server.start()
-    until(lambda: number(server, "clock", "now") >= 3, "no tick behind a clock that was put back", 15)
+    found = number(server, "clock", "now")
+    until(lambda: number(server, "clock", "now") > found, "no tick behind a clock that was put back", 15)
     server.kill()
 
 
@@ -529,7 +533,7 @@ def a_crash_takes_nothing_and_gives_nothing_twice(folder: pathlib.Path, seconds:
         check(it.calls("grab"), ["done"])
     for _ in range(2):
         server.revive()
-        until(lambda: number(server, "slots", "inside") == 1, "the two without a name hold still", 10)
+        until(lambda: number(server, "slots", "inside") == 1, "the two without a name hold still", 30)
         time.sleep(0.2)
         check(number(server, "slots", "inside"), 1)
     with Talk(server, "open slots as ann", "opened slots next 2") as it:

@@ -148,7 +148,7 @@ def a_long_past_is_made_short(place: Place) -> None:
     place.file.write_text(BUFFER.replace("8:(put; get)", "put; get"), encoding="ascii")
     with place.served("keep", *["--past", "buffer:put:30000", "--past", "buffer:get:30000"], "--past", "buffer:put:2") as say:
         check(say("open buffer", "call get", "call get", "call put 'a'")[1:4], ["accepted 1", "refused 1 empty", "accepted 2"], "gets")
-    front = next(place.folder.glob("*.journal")).read_bytes().split(b"\0")[0].decode()
+    front = next(place.folder.glob("*.journal")).read_bytes().partition(b"\0")[0].decode()
     check(front.count("past "), 1, "the lines of its past")
 
 

@@ -164,7 +164,7 @@ def a_lost_block_is_told_and_can_be_accepted(room: pathlib.Path) -> None:
     server.kill()
     journal = server.folder / "cell.journal"
     whole = journal.read_bytes()
-    lines = whole.split(b"\0")[0].splitlines(keepends=True)
+    lines = whole.partition(b"\0")[0].splitlines(keepends=True)
     rounds = [at for at, it in enumerate(lines) if it.startswith(b"stored ")]
     end = rounds[10]
     start = sum(len(it) for it in lines[:end + 1])

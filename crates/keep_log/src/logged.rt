@@ -450,6 +450,11 @@ impl<W: Outside + Caused, R: Clock, E: Write> Outside for Logged<W, R, E> {
         went
     }
 
+    fn lacks_front(&mut self, journal: usize) {
+        self.inner.lacks_front(journal);
+        self.tell_no_epoch(journal);
+    }
+
     fn look<O: Visible>(&mut self, object: &O) {
         self.inner.look(object);
         self.tell_all(object);

@@ -305,6 +305,11 @@ impl<W: Outside, K: Sink> Outside for Showing<W, K> {
         Ok(went)
     }
 
+    fn lacks_front(&mut self, journal: usize) {
+        self.inner.lacks_front(journal);
+        self.note_change(journal, 0, false);
+    }
+
     fn look<O: Visible>(&mut self, object: &O) {
         self.inner.look(object);
         if self.is_due() {

@@ -198,6 +198,14 @@ module _ {S : Type 0} (rules : Rules S) where
   pub renews_none : (a : Option (List Happened)) (one : Keep S) → Renews rules a one a one
   renews_none a one first limits = good_of_rested a one first limits
 
+  -- memory was refused for the front of the one that is due
+  pub renews_stays : (before after : Option (List Happened)) (old new : Keep S) → after ≡ before →
+      ((first : S) (limits : LoopLimits) (seen : List Happened) → Stands rules.gives first limits seen old → Stands rules.gives first limits seen new) → Renews rules before old after new
+  renews_stays before after old new is stays first limits =
+      same before after is (λ s. Rests rules.gives first limits s old × Always (IsHonest rules first limits) s)
+      (λ s. Stands rules.gives first limits s new × Always (IsHonest rules first limits) s)
+      (λ seen p. (stays first limits seen p.0.stands, p.1))
+
   -- a journal was stored for which no answer waits
   pub sends_synced : (journal : ℕ) (before after : Option (List Happened)) (old : Keep S) → old.limits.waits ≡ false → Grows (Stored journal) before after → Sends rules before old after old
   sends_synced journal before after old waits is =

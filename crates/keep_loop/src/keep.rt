@@ -213,6 +213,14 @@ impl<O: Served> Keep<O> {
         Ok(())
     }
 
+    // Memory was refused for the front of a journal.
+    pub(crate) fn delay(&mut self, journal: usize)
+        ensures stands { (first : O) (limits : LoopLimits) (seen : List Happened) → Stands O.gives first limits seen self.old
+            → Stands O.gives first limits seen self.new }
+    {
+        self.object.delay(journal);
+    }
+
     // Does the line that ends with these bytes.
     fn answer(&mut self, who: u64, front: &[u8], end: LineEnd) -> Result<(), AllocError>
         requires { 0 < length self.old.held.items }

@@ -39,4 +39,4 @@ pub use laws::{crash_keeps_the_last_epoch, crash_keeps_what_was_answered};
 pub use outside::{BadLine, Fault, GivenBack, MOST_NOTICES, Outside, ReadEnd, Visible};
 pub use post::{ConnectionPlace, OwedText, Post, Stage};
 pub use rounds::run;
-pub use served::{LineEnd, Note, Served};
+pub use served::{LineEnd, NoFront, Note, Served};

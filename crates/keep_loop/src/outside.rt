@@ -184,6 +184,12 @@ pub trait Outside {
         ensures ok { IfOk result (λ went. GrowsIf went (Changed journal front.now) (seen self.old) (seen self.new)) }
         ensures err { OnErr result (Grows (Changed journal front.now) (seen self.old) (seen self.new)) };
 
+    /// A journal was to begin anew, and memory was refused for its front: it goes on as it is. Who tells why no epoch could
+    /// begin tells that.
+    fn lacks_front(&mut self, _journal: usize)
+        ensures { seen self.new ≡ seen self.old }
+    {}
+
     /// Looks at the object that is served, behind each round. Who has a place for a status puts it there, where it is time.
     fn look<O: Visible>(&mut self, _object: &O)
         ensures { seen self.new ≡ seen self.old }

@@ -386,7 +386,17 @@ fn change_one<O: Served, W: Outside>(
     Ok(())
 }
 
-// Begins a journal anew, where one is due. The front is put in place of what is in `front`.
+// Memory was refused for the front of a journal, which is told.
+#[tactic(auto, using(crate::proofs::Kept::renews_stays))]
+fn delay<O: Served, W: Outside>(keep: &mut Keep<O>, outside: &mut W, journal: usize)
+    ensures { Renews (rules_of O.gives O.fronts) (W.seen outside.old) keep.old (W.seen outside.new) keep.new }
+{
+    outside.lacks_front(journal);
+    keep.delay(journal);
+}
+
+// Begins a journal anew, where one is due, with a front that is put in place of what is in `front`. Where memory was refused
+// for it, that is told.
 fn change<O: Served, W: Outside>(
     keep: &mut Keep<O>,
     outside: &mut W,
@@ -395,9 +405,13 @@ fn change<O: Served, W: Outside>(
     ensures ok { OnOk result (Renews (rules_of O.gives O.fronts) (W.seen outside.old) keep.old (W.seen outside.new) keep.new) }
     ensures err { OnErr result (FailsRested (rules_of O.gives O.fronts) (W.seen outside.old) keep.old (W.seen outside.new)) }
 {
-    match keep.object.due(front)? {
-        Some(journal) => change_one(keep, outside, journal, front.as_slice()),
-        None => Ok(()),
+    match keep.object.due(front) {
+        Ok(Some(journal)) => change_one(keep, outside, journal, front.as_slice()),
+        Ok(None) => Ok(()),
+        Err(lack) => {
+            delay(keep, outside, lack.journal);
+            Ok(())
+        }
     }
 }
 

@@ -1,6 +1,6 @@
 //! What is served.
 
-ghost use Rattle.std.specs.Prelude.{[], List, ℕ, OnOk, IfOk, IfSome};
+ghost use Rattle.std.specs.Prelude.{[], false, List, ℕ, OnOk, IfOk, IfSome};
 ghost use Rattle.keep_loop.specs.Posts.{Does};
 ghost use Rattle.keep_loop.specs.Turns.{Asked};
 ghost use Rattle.keep_loop.specs.Turns.Asked.{Heard, Noted, Changes};
@@ -31,6 +31,13 @@ pub enum Note {
     Ticks(u64),
     /// The server ends: nothing is heard any more, and what is owed is still written.
     Ends,
+}
+
+/// Memory was refused for the front that a journal is to begin anew with: the journal at this place goes on as it is.
+#[derive(Clone, Copy, Debug, PartialEq, Eq)]
+pub struct NoFront {
+    /// The place of the journal.
+    pub journal: usize,
 }
 
 /// An object with its clients: it does one thing at a time. After a want of memory (`Err`) nothing is said of it: the
@@ -71,9 +78,14 @@ pub trait Served {
     ghost fronts: { Self → ℕ → List ℕ → Type 0 };
 
     /// A journal that is to begin anew, and the front that it is to begin with, which is put in place of what is in `front`;
-    /// or `None` where none is due.
-    fn due(&self, front: &mut Vec<u8>) -> Result<Option<usize>, AllocError>
+    /// or `None` where none is due. The error is that one is due, and memory was refused for its front; how much then stands
+    /// in `front` is not said.
+    fn due(&self, front: &mut Vec<u8>) -> Result<Option<usize>, NoFront>
         ensures { IfOk result (λ due. IfSome due (λ journal. fronts self.now journal front.new.items)) };
+
+    /// Memory was refused for the front of a journal: it has not begun anew, and is not due for a while.
+    fn delay(&mut self, journal: usize)
+        ensures { gives self.old (Changes journal [] false) [] [] self.new };
 
     /// A journal has begun anew, or it could not (`went` is false), and goes on.
     fn changed(&mut self, journal: usize, front: &[u8], went: bool) -> Result<(), AllocError>

@@ -597,14 +597,21 @@ impl<R: Files + AllocGlobal + Eprint + Drop> Journals<R> {
         why_not_replaced(ordered.journal.device(), tries, line)
     }
 
+    /// Memory was refused for the front that a journal was to begin anew with, or for its file: it goes on as it is, and
+    /// standard error is told so, once until it begins anew or does not for another cause.
+    pub fn lacks_front(&mut self, at: usize) {
+        self.cause = Cause::NoMemory;
+        self.traces
+            .tell_kept(at, self.cause, "there is no memory\n");
+    }
+
     // A journal could not begin anew, and goes on: the cause is noted, and told. `tries` is how often its file was to be
     // replaced before that; where it still is memory was refused.
     fn kept(&mut self, at: usize, tries: u64) {
         let mut line = Vec::new(self.alloc);
         self.cause = self.why_kept(at, tries, &mut line);
         if self.cause == Cause::NoMemory {
-            self.traces
-                .tell_kept(at, self.cause, "there is no memory\n");
+            self.lacks_front(at);
             return;
         }
         let why = str::from_utf8(&line).unwrap_or("");

@@ -404,6 +404,10 @@ impl<R: Files + AllocGlobal + Input + Clock + Eprint + Drop, E: Write + Drop> Ou
         }
     }
 
+    fn lacks_front(&mut self, journal: usize) {
+        self.journals.lacks_front(journal);
+    }
+
     fn look<O: Visible>(&mut self, _object: &O) {
         self.journals.go_on(self.watch.second());
     }

@@ -38,7 +38,7 @@ use client_core::ticking::Ticking;
 use guest_core::answer::SubmitFault;
 use inside_core::refused::NoWord;
 use inside_core::tallies::Tallies;
-use keep_loop::Post;
+use keep_loop::{NoFront, Post};
 use live_core::call::Ran;
 use live_core::hosted::Hosted;
 use live_core::live::Taken;
@@ -273,14 +273,18 @@ impl Table {
         }
     }
 
-    // Adds the lines of what is held of the object at a place to its front. `None`: memory was refused.
-    pub(crate) fn tells_held(&self, at: usize, front: &mut Vec<u8>) -> Option<usize>
+    // Adds the lines of what is held of the object at a place to its front. The error is that memory was refused.
+    pub(crate) fn tells_held(
+        &self,
+        at: usize,
+        front: &mut Vec<u8>,
+    ) -> Result<Option<usize>, NoFront>
         requires { IsFrontAt self.now.objects.items at front.old.items }
-        ensures { IfSome result (λ journal. FrontsHeld (seen self.now) journal front.new.items) }
+        ensures { IfOk result (λ found. IfSome found (λ journal. FrontsHeld (seen self.now) journal front.new.items)) }
     {
         match self.custody.push_lines(at, &self.objects, front) {
-            Ok(()) => Some(at),
-            Err(_) => None,
+            Ok(()) => Ok(Some(at)),
+            Err(_) => Err(NoFront { journal: at }),
         }
     }
 

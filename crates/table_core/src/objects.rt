@@ -1,6 +1,6 @@
 //! What is done with the object at a place. Where there is none, nothing is done.
 
-ghost use Rattle.std.specs.Prelude.{◌≡◌, [], ◌∷◌, ℕ, Ok, Err, Some, true, false, IfOk, IfErr, IfSome, OnErr, slice_get, slice_set};
+ghost use Rattle.std.specs.Prelude.{◌≡◌, [], ◌∷◌, ℕ, Ok, Err, Some, true, false, IfOk, IfErr, IfSome, IsTrue, OnErr, slice_get, slice_set};
 ghost use Rattle.guest_core.specs.declared.answer.Cancelled.TheVariants as answers;
 ghost use Rattle.live_core.specs.declared.hosted.KeyState.TheVariants as keys;
 ghost use Rattle.live_core.specs.Keys.{Says, WaitsAs};
@@ -14,6 +14,7 @@ ghost use Rattle.table_core.specs.Objects.{IsNamed, HasOperation, EntersAt, Seat
 
 use guest_core::answer::{Cancelled, SubmitFault};
 use guest_core::guests::{EnterFault, Entered};
+use keep_loop::NoFront;
 use live_core::hosted::{Hosted, KeyState};
 use live_core::live::Taken;
 use path_tree::name::Name;
@@ -351,39 +352,47 @@ pub(crate) fn cancel_at(
     }
 }
 
-// Writes the front of the next epoch of an object, where one is due and can begin.
-fn writes_next(object: &Hosted, front: &mut Vec<u8>) -> bool
-    ensures { result ≡ true → IsNextFront object.now front.new.items }
+// Writes the front of the next epoch of an object, where one is due and can begin. The error is that memory was refused.
+fn writes_next(object: &Hosted, front: &mut Vec<u8>) -> Result<bool, AllocError>
+    ensures { IfOk result (λ yes. IsTrue yes → IsNextFront object.now front.new.items) }
 {
     if !object.is_due() {
-        return false;
+        return Ok(false);
     }
-    match object.write_next(front) {
-        Ok(is_written) => is_written,
-        Err(_) => false,
-    }
+    let is_written = object.write_next(front)?;
+    Ok(is_written)
 }
 
 // The same, of the object at a place.
-fn writes_at(objects: &[Hosted], place: usize, front: &mut Vec<u8>) -> bool
-    ensures { result ≡ true → IsFrontAt objects.now place front.new.items }
+fn writes_at(objects: &[Hosted], place: usize, front: &mut Vec<u8>) -> Result<bool, AllocError>
+    ensures { IfOk result (λ yes. IsTrue yes → IsFrontAt objects.now place front.new.items) }
 {
     match objects.get(place) {
-        None => false,
-        Some(object) => writes_next(object, front),
+        None => Ok(false),
+        Some(object) => {
+            let is_written = writes_next(object, front)?;
+            Ok(is_written)
+        }
     }
 }
 
 /// The place of the first object that is to begin its next epoch and can. Its front is put in place of what is in `front`.
-pub(crate) fn next_front(objects: &[Hosted], front: &mut Vec<u8>) -> Option<usize>
-    ensures { IfSome result (λ at. IsFrontAt objects.now at front.new.items) }
+/// `None`: there is none. The error is that memory was refused for the front of one that is to begin, where none can.
+pub(crate) fn next_front(objects: &[Hosted], front: &mut Vec<u8>) -> Result<Option<usize>, NoFront>
+    ensures { IfOk result (λ found. IfSome found (λ at. IsFrontAt objects.now at front.new.items)) }
 {
+    let mut lacks = None;
     for place in 0..objects.len() {
-        if writes_at(objects, place, front) {
-            return Some(place);
+        match writes_at(objects, place, front) {
+            Ok(true) => return Ok(Some(place)),
+            Ok(false) => {}
+            Err(_) => lacks = Some(place),
         }
     }
-    None
+    match lacks {
+        Some(journal) => Err(NoFront { journal }),
+        None => Ok(None),
+    }
 }
 
 /// Begins the next epoch of the object at a place by this front. False: none could begin, and nothing changes.

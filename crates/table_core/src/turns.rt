@@ -29,7 +29,7 @@ use client_core::ask::{Ask, Sight, ask_of, cancel_of, inside_of};
 use client_core::client::OpenObject;
 use guest_core::answer::SubmitFault;
 use inside_core::look::write_look;
-use keep_loop::{BadLine, GivenBack, LineEnd, Note, Post, Served, Visible};
+use keep_loop::{BadLine, GivenBack, LineEnd, NoFront, Note, Post, Served, Visible};
 use live_core::hosted::Hosted;
 use session_text::line::{LineRefusal, ReplyLine};
 use std::alloc::AllocError;
@@ -702,11 +702,16 @@ impl Served for Table {
         self.custody.tell_ticks(journal, &self.objects, words)
     }
 
-    fn due(&self, front: &mut Vec<u8>) -> Result<Option<usize>, AllocError> {
+    fn due(&self, front: &mut Vec<u8>) -> Result<Option<usize>, NoFront> {
         match next_front(&self.objects, front) {
-            None => Ok(None),
-            Some(at) => Ok(self.tells_held(at, front)),
+            Ok(Some(at)) => self.tells_held(at, front),
+            Ok(None) => Ok(None),
+            Err(lack) => Err(lack),
         }
+    }
+
+    fn delay(&mut self, journal: usize) {
+        put_off_at(&mut self.objects, journal);
     }
 
     fn changed(&mut self, journal: usize, front: &[u8], went: bool) -> Result<(), AllocError> {

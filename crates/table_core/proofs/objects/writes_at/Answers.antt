@@ -1,9 +1,9 @@
 use Rattle.table_core.proofs.Placing.{at_place}
 use Rattle.table_core.proofs.objects.writes_at.Goals as goal
 
-pub returns-in-Some : goal.returns-in-Some
-returns-in-Some c = λ yes. record {
+pub returns-in_ok-is_written-in-Some : goal.returns-in_ok-is_written-in-Some
+returns-in_ok-is_written-in-Some c = λ yes. record {
   object = c.in-Some.object.now;
   there = at_place c.args.objects.now c.args.place c.in-Some.object.now c.in-Some.ensures.lookup.3.0 c.in-Some.ensures.lookup.1;
-  stands = c.writes_next.ensures yes;
+  stands = c.in_ok-is_written-in-Some.ensures yes;
 }
