@@ -45,13 +45,13 @@ fn is_written(
     Ok(false)
 }
 
-// Whether a line is the one with these words that tells of calls by the clock, and this CRC before the last step.
-fn is_told(expected: &mut Vec<u8>, line: &[u8], words: &[u8], crc: u32) -> Result<bool, AllocError>
-    ensures { IfOk result (λ is. Tests is (line.now ≡ tick_line words.now (bit_xor crc 4294967295))) }
+// Whether a text is the line with these words that tells of calls by the clock, and this CRC before the last step.
+fn is_told(expected: &mut Vec<u8>, text: &[u8], words: &[u8], crc: u32) -> Result<bool, AllocError>
+    ensures { IfOk result (λ is. Tests is (text.now ≡ tick_line words.now (bit_xor crc 4294967295))) }
 {
     expected.clear();
     push_tick(expected, words, crc)?;
-    if line == expected.as_slice() {
+    if text == expected.as_slice() {
         return Ok(true);
     }
     Ok(false)

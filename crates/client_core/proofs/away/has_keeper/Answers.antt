@@ -8,7 +8,7 @@ returns-clause-yes c = λ e. let found = c.any_keeps.ensures.yes e in (
   found.0,
   found.1,
   subst (λ gs. slice_get gs found.0 ≡ Some found.1) c.guests.ensures found.2,
-  subst (λ n. KeepsPlace c.args.holds.now n c.args.second found.1) c.least_away.ensures found.3
+  subst (λ n. KeepsPlace c.args.holds.now n c.args.second found.1) c.least_away.ensures found.3,
 )
 
 pub returns-clause-no : goal.returns-clause-no
