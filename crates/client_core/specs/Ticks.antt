@@ -1,5 +1,5 @@
 -- Calls that are made again and again.
-use Rattle.std.specs.Prelude.{◌≡◌, ℕ, ◌≤◌, ◌<◌, ◌-◌, min, ◌==◌, if◌then◌else◌, Bool, true, false, List, [], ◌∷◌, ◌++◌, codes, decimal, Option, Some, None, All, slice_get, slice_set, take}
+use Rattle.std.specs.Prelude.{◌≡◌, ℕ, ◌≤◌, ◌<◌, ◌+◌, ◌-◌, min, ◌==◌, if◌then◌else◌, Bool, true, false, List, [], ◌∷◌, ◌++◌, codes, decimal, Option, Some, None, All, slice_get, slice_set, take}
 use Rattle.decl_core.specs.ObjectForm.{ObjectForm}
 use Rattle.word_core.specs.Text.{operation_name}
 use Rattle.decl_core.specs.HoldForm.{EveryForm}
@@ -10,10 +10,10 @@ use Rattle.client_core.specs.GoneClients.{later}
 abbrev pub first_tick : EveryForm → Ticking
 first_tick e = record { seconds = e.seconds; op = e.op; session = 0; at = 0; begun = 0; last = 0 }
 
--- Behind a start in second `now` since 1970 it is due in so many seconds less those that have gone since its last call: at once
--- where it was not called yet, and never later than so many seconds behind the start
+-- Behind a start in second `now` since 1970 it is due so many seconds behind its last call, in seconds since the start: at
+-- once where it was not called yet, and never later than so many seconds behind the start
 abbrev pub due_behind : ℕ → ℕ → ℕ → ℕ
-due_behind seconds now last = if last == 0 then 0 else seconds - (now - last)
+due_behind seconds now last = if last == 0 then 0 else (last + seconds) - now
 
 abbrev pub resumes_at : ℕ → ℕ → Ticking → Ticking
 resumes_at now last t =
