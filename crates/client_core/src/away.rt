@@ -85,6 +85,16 @@ fn any_keeps(guests: &[Guest], holds: &Holds, least: u64, second: u64) -> bool
     false
 }
 
+// Whether a client that might be forgotten for a new name holds something.
+fn has_keeper(guests: &Guests, holds: &Holds, second: u64) -> bool
+    ensures yes { result ≡ true → (place : ℕ) × (g : AGuest) × (slice_get guests.now.guests place ≡ Some g)
+        × KeepsPlace holds.now guests.now.least second g }
+    ensures no { result ≡ false → (place : ℕ) (g : AGuest) → slice_get guests.now.guests place ≡ Some g →
+        KeepsPlace holds.now guests.now.least second g → ⊥ }
+{
+    any_keeps(guests.guests(), holds, guests.least_away(), second)
+}
+
 // Whether a client of a new name may not come: there are 4,096 names, and one that might be forgotten holds something.
 pub(crate) fn is_crowded_by(guests: &Guests, holds: &Holds, name: &Name, second: u64) -> bool
     ensures yes { result ≡ true → IsCrowded holds.now guests.now name.now second }
@@ -93,7 +103,7 @@ pub(crate) fn is_crowded_by(guests: &Guests, holds: &Holds, name: &Name, second:
     if guests.knows(name) || guests.guests().len() < MOST_NAMES as usize {
         return false;
     }
-    any_keeps(guests.guests(), holds, guests.least_away(), second)
+    has_keeper(guests, holds, second)
 }
 
 // When a call is due in this second for one that is gone.

@@ -375,7 +375,8 @@ impl Holding {
     pub fn tell_ticks(&self, object: &Object, words: &mut Vec<u8>) -> Result<(), AllocError>
         ensures { OnOk result (words.new.items ≡ told_ticks (object_of object.now) self.now.ticking) }
     {
-        tell_ticks(words, object, &self.ticking)
+        tell_ticks(words, object, &self.ticking)?;
+        Ok(())
     }
 
     /// The call at a place that is made again and again was not made in this second: the one before it still waited.

@@ -223,7 +223,8 @@ fn push_one(words: &mut Vec<u8>, object: &Object, row: &Ticking) -> Result<(), A
     if row.last == 0 {
         return Ok(());
     }
-    push_made(words, object, row)
+    push_made(words, object, row)?;
+    Ok(())
 }
 
 // Adds the words of these that were made.

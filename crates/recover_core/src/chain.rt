@@ -240,6 +240,14 @@ fn are_known(guests: &Guests, clients: &[NamedClient], kept: &[KeptCall], has_al
     kept_left.is_empty()
 }
 
+// Whether the kept calls of all clients that were known have room. The error is that memory was refused.
+fn all_have_room(alloc: Global, guests: &Guests) -> Result<bool, AllocError>
+    ensures { IfOk result (λ yes. yes ≡ stays guests.now.guests 0) }
+{
+    let yes = have_room(alloc, guests.guests())?;
+    Ok(yes)
+}
+
 /// Whether an epoch that begins with this front may follow one that came to this: it is the next one; its values are
 /// those; its past leaves what the paths have counted; no number that was told is told again, and none is left out but
 /// such as calls can have had of which no line tells; and its clients were known, with the same sessions and keys. Of the
@@ -277,7 +285,7 @@ pub fn follows(
     ) {
         return Ok(Some(ChainFault::Numbers));
     }
-    let has_all = have_room(alloc, before.guests.guests())?;
+    let has_all = all_have_room(alloc, &before.guests)?;
     if !are_known(&before.guests, &front.clients, &front.kept, has_all) {
         return Ok(Some(ChainFault::Clients));
     }

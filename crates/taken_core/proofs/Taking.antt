@@ -267,6 +267,10 @@ tick_crc : (done : List (List ℕ)) (words : List ℕ) (crc : ℕ) → crc ≡ c
 tick_crc done words crc is =
     ap (λ (n : ℕ). bit_xor (crc_more n words) 0xFFFFFFFF) is ∙ ap (λ (n : ℕ). bit_xor n 0xFFFFFFFF) (sym (crc_append crc_start (since done) words))
 
+-- the line is the one with this CRC, before the last step
+pub tick_told : {E : Type 0} (r : Result Bool E) (line words : List ℕ) (m n : ℕ) → m ≡ n → IfOk r (λ is. Tests is (line ≡ tick_line words (bit_xor m 0xFFFFFFFF))) → IfOk r (λ is. Tests is (line ≡ tick_line words (bit_xor n 0xFFFFFFFF)))
+tick_told r line words m n same told = subst (λ (k : ℕ). IfOk r (λ is. Tests is (line ≡ tick_line words (bit_xor k 0xFFFFFFFF)))) same told
+
 pub tick_tests : {E : Type 0} (r : Result Bool E) (line words : List ℕ) (old : Checked) → words ≡ take (length line - 9) line → old.has_front ≡ true →
     IfOk r (λ is. Tests is (line ≡ tick_line words (bit_xor (crc_more old.crc words) 0xFFFFFFFF))) → IfOk r (λ is. (done : List (List ℕ)) → Follows done old → Tests is (IsTickRight done line))
 tick_tests (Ok true) line words old words_is set is = λ done f. record {

@@ -7,6 +7,7 @@ ghost use Rattle.keep_loop.specs.Crc.{crc_more};
 ghost use Rattle.keep_loop.specs.Taken.{check_line, tick_line, cut, is_check, IsRight, IsFrontRight, IsRoundRight, IsTickRight};
 ghost use Rattle.taken_core.specs.TakeFile.{Tests, Follows, Takes, AreTaken, IsFirstWrong, SaysStored, counted};
 
+use crate::ticks::words_in;
 use keep_loop::check_lines::{
     FRONT_WORD, STORED_WORD, begins_with, is_check, push_check, push_tick, size_in,
 };
@@ -39,6 +40,18 @@ fn is_written(
     expected.clear();
     push_check(expected, word, size, crc)?;
     if line == expected.as_slice() {
+        return Ok(true);
+    }
+    Ok(false)
+}
+
+// Whether a text is the line with these words that tells of calls by the clock, and this CRC before the last step.
+fn is_told(expected: &mut Vec<u8>, text: &[u8], words: &[u8], crc: u32) -> Result<bool, AllocError>
+    ensures { IfOk result (λ is. Tests is (text.now ≡ tick_line words.now (bit_xor crc 4294967295))) }
+{
+    expected.clear();
+    push_tick(expected, words, crc)?;
+    if text == expected.as_slice() {
         return Ok(true);
     }
     Ok(false)
@@ -119,13 +132,7 @@ impl Checked {
     ) -> Result<bool, AllocError>
         ensures { IfOk result (λ is. Tests is (line.now ≡ tick_line words.now (bit_xor (crc_more self.now.crc words.now) 4294967295))) }
     {
-        expected.clear();
-        push_tick(expected, words, self.table.more(self.crc, words))?;
-        let own = expected.as_slice();
-        if line == own {
-            return Ok(true);
-        }
-        Ok(false)
+        is_told(expected, line, words, self.table.more(self.crc, words))
     }
 
     // Whether a line that tells of calls by the clock is right behind others.
@@ -138,7 +145,7 @@ impl Checked {
         if line.len() < 9 {
             return Ok(false);
         }
-        self.is_tick_spelled(expected, line, &line[..line.len() - 9])
+        self.is_tick_spelled(expected, line, words_in(line))
     }
 
     // Whether a check line is right behind lines of so many bytes.

@@ -10,13 +10,14 @@ use keep_loop::cut::cut_first;
 use keep_loop::journal::recovered_len;
 
 // The words of a line: it without its CRC and its line feed.
-fn words_in(line: &[u8]) -> &[u8]
+pub(crate) fn words_in(line: &[u8]) -> &[u8]
     ensures { result.now ≡ tick_words line.now }
 {
     if line.len() < 9 {
         return &[];
     }
-    &line[..line.len() - 9]
+    let (words, _) = line.split_at(line.len() - 9);
+    words
 }
 
 // The words behind a line: its own, where it tells of calls by the clock.

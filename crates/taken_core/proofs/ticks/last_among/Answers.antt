@@ -9,7 +9,7 @@ loop-line-init c = record { same = behind_none (cut (whole c.args.text.now)) }
 
 pub loop-line-preserved : goal.loop-line-preserved
 loop-line-preserved c = record {
-  same = ap (λ w. told_behind w (cut (whole c.in-Some.more.now))) c.words_behind.ensures ∙ sym (line_more c.loop-line.words.now c.loop-line.rest.now c.in-Some.line.now c.in-Some.more.now c.in-Some.ensures)
+  same = ap (λ w. told_behind w (cut (whole c.in-Some.more.now))) c.words_behind-words.ensures ∙ sym (line_more c.loop-line.words.now c.loop-line.rest.now c.in-Some.line.now c.in-Some.more.now c.in-Some.ensures)
       ∙ c.loop-line.invariant.same;
 }
 
