@@ -17,15 +17,7 @@ from gate.tried import TOP, Wrong, check, holds, there, until
 from tools import status
 
 TOOL = TOP / "tools" / "status"
-SOURCE = """object slots;
-  path 3:(grab; free) end;
-  path 1:([grab], [free, seen]) end;
-  entry procedure grab; begin end;
-  entry procedure free; begin end;
-  entry function seen : integer; begin seen := 1 end;
-  hold grab until free;
-end;
-object buffer;
+BUFFER = """object buffer;
   path 2:(put; get) end;
   path 1:(put, get) end;
   var items : queue of text;
@@ -33,6 +25,16 @@ object buffer;
   entry function get : text; begin get := first(items); take(items) end;
 end;
 """
+SLOTS = """object slots;
+  path 3:(grab; free) end;
+  path 1:([grab], [free, seen]) end;
+  entry procedure grab; begin end;
+  entry procedure free; begin end;
+  entry function seen : integer; begin seen := 1 end;
+  hold grab until free;
+end;
+"""
+SOURCE = SLOTS + BUFFER
 # What the page has to show of the clients of `clients`: rows of its tables, texts of its pictures, and lines. A number of
 # seconds or of a call is N; sessions without a name, and that of one who is gone, are told where they are known.
 ROWS = (

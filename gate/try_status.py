@@ -362,14 +362,7 @@ SOURCE = """object cell;
   entry function get : integer; begin get := v[0] end;
   entry procedure need(x : integer); begin if v[0] < x then refuse('less') else v[0] := v[0] - x end;
 end;
-object buffer;
-  path 2:(put; get) end;
-  path 1:(put, get) end;
-  var items : queue of text;
-  entry procedure put(item : text); begin append(items, item) end;
-  entry function get : text; begin get := first(items); take(items) end;
-end;
-"""
+""" + shown.BUFFER
 MOMENT = re.compile(r"\d{4}-\d\d-\d\dT\d\d:\d\d:\d\d\.\d{3}Z")
 
 
@@ -708,7 +701,7 @@ def inside_of(page: Page | Here, **wanted: Iterable[str]) -> Shown:
 
 def file_is_changed(server: Server, page: Page, rows: list[str]) -> None:
     """A file that was changed is read again, and what is no object of it, or of the server, is told."""
-    server.file.write_text(shown.SOURCE.partition("object buffer")[0].replace("seen", "noted"))
+    server.file.write_text(shown.SLOTS.replace("seen", "noted"))
     inside_of(page, texts=["FILE has no object of this name.", "path 1:([grab], [free, noted]) end"], rows=rows)
     server.file.write_text(shown.SOURCE + "object other; end;")
     inside_of(page, texts=["The server does not open it: no NoObject there are slots, buffer", "It has no path."], rows=rows)
